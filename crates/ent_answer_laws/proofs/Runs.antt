@@ -15,7 +15,8 @@ use Rattle.ent_semantics.specs.Database.{Database, Environment}
 use Rattle.ent_semantics.specs.Effect.{Effect}
 use Rattle.ent_semantics.specs.Entangled.{Valuation, is_grounding}
 use Rattle.ent_semantics.specs.Joint.{IsGrounded}
-use Rattle.ent_semantics.specs.Serial.{Operation, Run, ReadView, after, answered_first, is_entangled, run, seen, seen_after}
+use Rattle.ent_semantics.specs.Serial.{Operation, Run, ReadView, after, answered_first, is_entangled, run, seen}
+use Rattle.ent_semantics.specs.Serial.{seen_after}
 use Rattle.ent_semantics.specs.Serial.{read_views}
 use Rattle.ent_semantics.specs.Statement.{statement_meaning}
 use Rattle.ent_closed.specs.declared.entangled.Entangled.{Entangled}
@@ -65,10 +66,12 @@ module _ (laws : Laws) (declared : List Create) (none : declarations_fault [] de
     pub forms_at : Behind n own plain.statements
 
   -- what holds of a run from there on
-  pub record RunsOn (n : ℕ) (operations : List Operation) (database : Database) (environment : Environment) : Type 0 where
+  pub record RunsOn (n : ℕ) (operations : List Operation) (database : Database) (environment : Environment) : Type
+      0 where
     pub sees : (read_view : ReadView) → In read_view (read_views declared tx (suc n) operations database environment)
         → IsReadViewTold tx script plain read_view
-    pub leaves : (over : Run) → run declared operations database environment ≡ Some over → IsStored declared over.database
+    pub leaves : (over : Run) → run declared operations database environment ≡ Some over
+        → IsStored declared over.database
     pub tells : (over : Run) → run declared operations database environment ≡ Some over
         → AllByRecursion CanBeCounted over.answers → AreAnswersTo (trees_of operations) over.answers
 
@@ -180,7 +183,8 @@ module _ (laws : Laws) (declared : List Create) (none : declarations_fault [] de
 
     -- what holds where the statement comes to this
     pub record RunsFrom (meaning : Result (Effect Database) Failure) : Type 0 where
-      pub sees : (read_view : ReadView) → In read_view (now ++ seen_after meaning seen_later) → IsReadViewTold tx script plain read_view
+      pub sees : (read_view : ReadView) → In read_view (now ++ seen_after meaning seen_later)
+          → IsReadViewTold tx script plain read_view
       pub leaves : (over : Run) → after meaning (run declared more) ≡ Some over → IsStored declared over.database
       pub tells : (over : Run) → after meaning (run declared more) ≡ Some over
           → AllByRecursion CanBeCounted over.answers → AreAnswersTo (trees_of (operation ∷ more)) over.answers
@@ -192,7 +196,8 @@ module _ (laws : Laws) (declared : List Create) (none : declarations_fault [] de
         → AllGrounded (seen_later effect.database effect.environment)
         → RunsOn (suc n) more effect.database effect.environment) → RunsFrom meaning
     runs_from (Ok effect) is rest onward =
-        let answers = can_answer n bound behind form operation.valuation database stored environment held operation.statement at
+        let answers = can_answer n bound behind form operation.valuation database stored environment held
+        operation.statement at
         takes grounded in
         let there = steps_on declared laws none bound behind operation.statement form at.resolved at.read at.fits
         operation.valuation answers database stored environment held effect is in
@@ -239,7 +244,8 @@ module _ (laws : Laws) (declared : List Create) (none : declarations_fault [] de
     forms_at = next_behind n form own plain.statements left.forms_at;
   }
 
-  pub runs_on : (n : ℕ) (bound : Bound) (operations : List Operation) (own : List (Statement Known)) → IsLeft n bound operations own
+  pub runs_on : (n : ℕ) (bound : Bound) (operations : List Operation) (own : List (Statement Known))
+      → IsLeft n bound operations own
       → (database : Database) → IsStored declared database → (environment : Environment)
       → HoldsValuesOf bound environment → AllGrounded (read_views declared tx (suc n) operations database environment)
       → RunsOn n operations database environment
@@ -266,6 +272,7 @@ module _ (laws : Laws) (declared : List Create) (none : declarations_fault [] de
       let from = runs_from n bound behind form operation more at left.none_taken.0 database stored environment held
       (λ read_view within. grounded read_view (in_first here later read_view within)) meaning refl
       (λ read_view within. grounded read_view (in_second here later read_view within))
-      (λ effect there rest. runs_on (suc n) behind more own (next_left n bound operation more form own left) effect.database
+      (λ effect there rest. runs_on (suc n) behind more own (next_left n bound operation more form own left)
+      effect.database
       there.stored effect.environment there.held rest) in
       record { sees = from.sees; leaves = from.leaves; tells = from.tells }

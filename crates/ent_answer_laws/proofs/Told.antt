@@ -37,7 +37,8 @@ use Rattle.ent_answer_laws.proofs.Walking.{IsReadViewTold}
 pub member_told : (history : History) (turn : Turn) (plain : Plain) (read_view : ReadView)
     → numbered history.scripts turn.tx ≡ Some turn.script
     → script_in (schemas_of history.opening.tables) turn.script ≡ Ok plain
-    → IsReadViewTold turn.tx turn.script plain read_view → IsMemberTold history (told_member history.scripts (member_of read_view))
+    → IsReadViewTold turn.tx turn.script plain read_view
+    → IsMemberTold history (told_member history.scripts (member_of read_view))
 member_told history turn plain read_view own made told =
     let tables = schemas_of history.opening.tables in
     let place = read_view.place in
@@ -50,7 +51,8 @@ member_told history turn plain read_view own made told =
     ≡ Some (written_variables read_view.entangled, told.form.variables) =
     ap (λ (o : Option Script). script_binds tables o place) at
     ∙ ap (λ (o : Option TreeStatement). binds_of o (resolved_at (script_in tables turn.script) place)) told.statement
-    ∙ ap (λ (r : Result Plain FormFault). binds_of (Some (trees.Entangled read_view.entangled)) (resolved_at r place)) made
+    ∙ ap (λ (r : Result Plain FormFault). binds_of (Some (trees.Entangled read_view.entangled)) (resolved_at r place))
+    made
     ∙ ap (λ (o : Option (Statement Known)). binds_of (Some (trees.Entangled read_view.entangled)) o) told.resolved in
     record {
       paired = ap (λ (names : List Name). length names) variables ∙ sym told.answered.many;

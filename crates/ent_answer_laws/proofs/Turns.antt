@@ -13,7 +13,8 @@ use Rattle.ent_print.specs.Spelling.{end_word, line_spelling, script_spelling, s
 use Rattle.ent_text.specs.declared.symbol.Symbol.TheVariants as symbols
 use Rattle.ent_semantics.specs.Database.{Database, nothing_bound}
 use Rattle.ent_semantics.specs.Joint.{IsGrounded}
-use Rattle.ent_semantics.specs.Serial.{Operation, Run, Runs, ReadView, Turn, operations_of, ended, ran_first, run, script_run}
+use Rattle.ent_semantics.specs.Serial.{Operation, Run, Runs, ReadView, Turn, operations_of, ended, ran_first, run}
+use Rattle.ent_semantics.specs.Serial.{script_run}
 use Rattle.ent_semantics.specs.Serial.{script_read_views, scripts_run, scripts_read_views, seen_from, read_views}
 use Rattle.ent_form.specs.AllFaults.{fault_of, head_of}
 use Rattle.ent_form.specs.Catalogue.{schemas_of}
@@ -163,7 +164,8 @@ module _ (laws : Laws) (declared : List Create) (none : declarations_fault [] de
           ((onward parts.0 parts.1).tells over parts.2 counted)
 
       sees_so : (o : Option (List Operation)) → operations_in turn ≡ o → (read_view : ReadView)
-          → In read_view (script_read_views declared turn database) → IsReadViewTold turn.tx turn.script found.0 read_view
+          → In read_view (script_read_views declared turn database)
+          → IsReadViewTold turn.tx turn.script found.0 read_view
       sees_so (Some operations) is read_view at =
           (onward operations is).sees read_view
           (subst (λ (all : List ReadView). In read_view all) (turn_read_views declared turn database operations is) at)
@@ -188,7 +190,8 @@ module _ (laws : Laws) (declared : List Create) (none : declarations_fault [] de
       × IsReadViewTold turn.tx turn.script plain read_view
 
   pub record TurnsRun (turns : List Turn) (database : Database) : Type 0 where
-    pub sees : (read_view : ReadView) → In read_view (scripts_read_views declared turns database) → IsTurnReadView turns read_view
+    pub sees : (read_view : ReadView) → In read_view (scripts_read_views declared turns database)
+        → IsTurnReadView turns read_view
     pub leaves : (over : Runs) → scripts_run declared turns database ≡ Some over → IsStored declared over.database
     pub tells : (over : Runs) → scripts_run declared turns database ≡ Some over
         → AllByRecursion (AllByRecursion CanBeCounted) over.answers → AreTurnsAnswered turns over.answers

@@ -52,7 +52,8 @@ operation_put statement valuation statements None operations so none e = cc (e)
 
 pub operations_so : (statements : List TreeStatement) (oracle : List Valuation) (operations : List Operation)
     → operations_of statements oracle ≡ Some operations → AreOperationsOf statements operations
-operations_so [] [] operations e = subst (λ (all : List Operation). AreOperationsOf [] all) (one_list [] operations e) (refl, tt)
+operations_so [] [] operations e = subst (λ (all : List Operation). AreOperationsOf [] all) (one_list [] operations e)
+    (refl, tt)
 operations_so [] (valuation ∷ oracle) operations e = cc (e)
 operations_so (statement ∷ more) oracle operations e =
     by (is_entangled statement) refl oracle e (λ oracle others there. operations_so more oracle others there)

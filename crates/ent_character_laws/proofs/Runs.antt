@@ -12,7 +12,8 @@ use Rattle.ent_semantics.specs.Database.{Database, Environment}
 use Rattle.ent_semantics.specs.Effect.{Effect}
 use Rattle.ent_semantics.specs.Entangled.{Valuation}
 use Rattle.ent_semantics.specs.Joint.{IsGrounded}
-use Rattle.ent_semantics.specs.Serial.{Operation, Run, ReadView, after, answered_first, is_entangled, run, seen, seen_after}
+use Rattle.ent_semantics.specs.Serial.{Operation, Run, ReadView, after, answered_first, is_entangled, run, seen}
+use Rattle.ent_semantics.specs.Serial.{seen_after}
 use Rattle.ent_semantics.specs.Serial.{read_views}
 use Rattle.ent_semantics.specs.Statement.{statement_meaning}
 use Rattle.ent_form.specs.Catalogue.{schemas_of}
@@ -142,12 +143,14 @@ module _ (P : Value → Type 0) (numbers : (number : ℤ) → P (Int number)) (d
       let meaning = statement_meaning declared operation.statement operation.valuation database environment in
       let here = seen tx place operation database environment in
       let later = seen_after meaning (read_views declared tx (suc place) more) in
-      let has = valuation_has tx place database environment holds binds operation.statement operation.valuation ready.0 none.0
+      let has = valuation_has tx place database environment holds binds operation.statement operation.valuation ready.0
+      none.0
       (λ read_view at. grounded read_view (in_first here later read_view at)) in
       let from = keeps_from tx place here more meaning
       (seen_has tx place database environment operation.statement operation.valuation has)
       (λ effect e.
-      statement_leaves P numbers declared operation.statement operation.valuation database environment effect ready.0.0 has holds
+      statement_leaves P numbers declared operation.statement operation.valuation database environment effect ready.0.0
+      has holds
       binds e)
       (λ read_view at. grounded read_view (in_second here later read_view at))
       (λ effect there rest. run_keeps tx (suc place) more none.1 ready.1 effect.database there.tables effect.environment

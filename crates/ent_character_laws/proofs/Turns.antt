@@ -158,10 +158,12 @@ module _ (P : Value → Type 0) where
     pub runs_keep : RunsKeep P
     runs_keep declared turns database runs can holds grounded e =
         (all_keep declared turns database can holds
-        (λ read_view at. grounded read_view (in_contains (scripts_read_views declared turns database) read_view at))).leaves runs e
+        (λ read_view at. grounded read_view
+        (in_contains (scripts_read_views declared turns database) read_view at))).leaves runs e
 
     pub read_views_keep : ReadViewsKeep P
     read_views_keep declared turns database read_view can holds grounded there =
         (all_keep declared turns database can holds
-        (λ read_view at. grounded read_view (in_contains (scripts_read_views declared turns database) read_view at))).sees read_view
+        (λ read_view at. grounded read_view
+        (in_contains (scripts_read_views declared turns database) read_view at))).sees read_view
         (contains_in (scripts_read_views declared turns database) read_view there)

@@ -144,7 +144,8 @@ is_content_by own number offers offer =
 
 -- where an offer is of a joint answer just where its statement is a member
 module _ (run : List ReadView) (own : Offer → ℕ) (number : ℕ) (members : List Member)
-    (same : (read_view : ReadView) → stands_among read_view.tx read_view.place members ≡ (own (offer_of read_view) == number)) where
+    (same : (read_view : ReadView)
+    → stands_among read_view.tx read_view.place members ≡ (own (offer_of read_view) == number)) where
   abbrev stands : ReadView → Bool
   stands read_view = stands_among read_view.tx read_view.place members
 

@@ -17,7 +17,8 @@ use Rattle.ent_semantics.specs.declared.answer.Answer.{Answer}
 use Rattle.ent_semantics.specs.declared.answer.Failure.{Failure}
 use Rattle.ent_semantics.specs.Database.{Database, Environment, nothing_bound}
 use Rattle.ent_semantics.specs.Effect.{Effect}
-use Rattle.ent_semantics.specs.Serial.{Operation, Run, ReadView, after, answered_first, is_entangled, run, seen, seen_after}
+use Rattle.ent_semantics.specs.Serial.{Operation, Run, ReadView, after, answered_first, is_entangled, run, seen}
+use Rattle.ent_semantics.specs.Serial.{seen_after}
 use Rattle.ent_semantics.specs.Serial.{read_views}
 use Rattle.ent_closed.specs.Closing.{closed}
 use Rattle.ent_closed.specs.Form.{Tables, closed_worth, form_meaning}
@@ -81,7 +82,8 @@ module _ (database : Database) (environment : Environment) where
 
 module _ (creates : List Create) (members : List Placed) (tx : ℕ) where
   abbrev pub run_left : List Operation → Database → Environment → Option Database
-  run_left operations database environment = option_map (λ (of : Run). of.database) (run creates operations database environment)
+  run_left operations database environment =
+      option_map (λ (of : Run). of.database) (run creates operations database environment)
 
   module _ (operations : List Operation) (answers : List Answer) (database : Database) (offers : List Offer) where
     -- from here on it is found, left and offered what is from the first statement on
@@ -276,7 +278,8 @@ module _ (creates : List Create) (members : List Placed) (tx : ℕ) (statements 
               (database_of creates (rows_in behind)) environment')
               (sym (offered ∙ ap (λ (xs : List Offer). made ++ xs) (alike.offers none)))
               (along_on creates members tx (told_operations members tx 1 statements) answers database offers place tree
-              (told_operations members tx (suc place) more) others now (database_of creates (rows_in behind)) environment
+              (told_operations members tx (suc place) more) others now (database_of creates (rows_in behind))
+              environment
               environment' made (alike.found ∙ none) (alike.left none (rows_in behind) environment' leaves) m.along);
         }
 
@@ -287,7 +290,8 @@ module _ (creates : List Create) (members : List Placed) (tx : ℕ) (statements 
     midway_off [] finding is m = absurd m.resolved
     midway_off (tree ∷ more) finding is m =
         along_off creates members tx (told_operations members tx 1 statements) answers database offers place tree
-        (told_operations members tx (suc place) more) others (database_of creates (rows_in tables)) environment made finding
+        (told_operations members tx (suc place) more) others (database_of creates (rows_in tables)) environment made
+        finding
         ((alike_here tree more m).found ∙ is) m.along
 
     -- ---- what is asked of the statement
@@ -345,11 +349,14 @@ module _ (creates : List Create) (members : List Placed) (tx : ℕ) (statements 
     stand = stand;
     seated = seated;
     along = record {
-      found = ap (λ (d : Database). first_of (operations_findings creates members tx 1 (told_operations members tx 1 statements)
+      found = ap (λ (d : Database). first_of
+          (operations_findings creates members tx 1 (told_operations members tx 1 statements)
           answers d nothing_bound)) same;
-      left = ap (λ (d : Database). run_left creates members tx (told_operations members tx 1 statements) d nothing_bound)
+      left = ap (λ (d : Database). run_left creates members tx (told_operations members tx 1 statements) d
+          nothing_bound)
           same;
-      offered = ap (λ (d : Database). offers ++ map offer_of (read_views creates tx 1 (told_operations members tx 1 statements) d
+      offered = ap (λ (d : Database). offers
+          ++ map offer_of (read_views creates tx 1 (told_operations members tx 1 statements) d
           nothing_bound)) same;
     };
   }
@@ -368,7 +375,8 @@ module _ (creates : List Create) (members : List Placed) (tx : ℕ) (statements 
     abbrev end_along : Ended []
     end_along = at_end rest m.resolved m.along
 
-    pub ended_found : first_of (operations_findings creates members tx 1 (told_operations members tx 1 statements) answers
+    pub ended_found : first_of
+        (operations_findings creates members tx 1 (told_operations members tx 1 statements) answers
         database nothing_bound) ≡ None
     ended_found = end_along.found
 

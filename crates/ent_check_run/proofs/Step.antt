@@ -99,7 +99,8 @@ module _ (laws : Laws) (creates : List Create) (distinct : HaveDistinctColumns c
       same_found : answer_unless creates members tx place
           (is_answered (statement_meaning creates tree own (database_of creates tables) environment) answers)
           ≡ answer_unless creates members tx place
-          (is_told (answer_in (form_meaning closed_worth statement (grounding_in its_seat statement) tables environment))
+          (is_told (answer_in (form_meaning closed_worth statement (grounding_in its_seat statement) tables
+          environment))
           (slice_get answers 0))
       same_found =
           ap (answer_unless creates members tx place)
@@ -113,7 +114,8 @@ module _ (laws : Laws) (creates : List Create) (distinct : HaveDistinctColumns c
           environment'
           → Leaves (form_meaning closed_worth statement own tables environment) later environment'
       own_leaves later environment' leaves =
-          subst (λ (v : Valuation). Leaves (form_meaning closed_worth statement v tables environment) later environment')
+          subst (λ (v : Valuation). Leaves (form_meaning closed_worth statement v tables environment) later
+          environment')
           (sym same) leaves
 
       same_left : (later : Tables) (environment' : Environment)
@@ -145,7 +147,8 @@ module _ (laws : Laws) (creates : List Create) (distinct : HaveDistinctColumns c
 
     -- where nothing is found before its answer
     module _ (right : Answers tree own) (same : own ≡ grounding_in its_seat statement) (inside : AnswersInKind form own)
-        (grounds : first_of (tree_findings creates members tx place tree answers (database_of creates tables) environment)
+        (grounds : first_of (tree_findings creates members tx place tree answers (database_of creates tables)
+        environment)
         ≡ first_of (answer_unless creates members tx place
         (is_answered (statement_meaning creates tree own (database_of creates tables) environment) answers)))
         (closed_grounds : seat_findings its_seat statement tables ≡ [])

@@ -19,7 +19,8 @@ use Rattle.ent_semantics.specs.Serial.{Run, ReadView, seen_from, read_views}
 use Rattle.ent_history.specs.declared.history.Told.{Told}
 use Rattle.ent_rules.specs.Account.{Account, accounts_from}
 use Rattle.ent_rules.specs.Placed.{Placed}
-use Rattle.ent_rules.specs.Replay.{account_operations, account_run, operations_findings, found_from, replay_findings, told_end}
+use Rattle.ent_rules.specs.Replay.{account_operations, account_run, operations_findings, found_from, replay_findings}
+use Rattle.ent_rules.specs.Replay.{told_end}
 use Rattle.ent_rules.specs.Replay.{told_read_views}
 use Rattle.ent_rules.specs.Verdict.{first_of}
 use Rattle.ent_rules.specs.declared.finding.Finding.{Finding}
@@ -73,7 +74,8 @@ module _ (creates : List Create) (members : List Placed) where
   findings_joined [] more database = refl
   findings_joined (account ∷ first) more database =
       let left = account_run creates members account database in
-      let own = operations_findings creates members account.tx 1 (account_operations creates members account) account.answers
+      let own = operations_findings creates members account.tx 1 (account_operations creates members account)
+      account.answers
       database nothing_bound in
       (λ i. own ++ found_from left (λ d. findings_joined first more d i))
       ∙ ap (λ (xs : List Finding). own ++ xs) (found_split left (findings first) (findings more) (end first))
@@ -126,7 +128,8 @@ module _ (creates : List Create) (members : List Placed) where
       left = account_run creates members account before
 
       own : List Finding
-      own = operations_findings creates members account.tx 1 (account_operations creates members account) account.answers before
+      own = operations_findings creates members account.tx 1 (account_operations creates members account)
+          account.answers before
           nothing_bound
 
       read_view : List ReadView

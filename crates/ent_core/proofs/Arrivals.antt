@@ -58,13 +58,19 @@ asks_last (first ∷ more) own all asks = (all.0, asks_last more own all.1 asks)
 
 -- one script more, and who waits for a run with it
 pub kept_submitted : (schemas : List TableSchema) (opening : Opening) (submitted submitted' : List Submitted)
-    (transaction_table transaction_table' : TransactionTable) (running : Bool) (run : Run) (stored : Stored) (posted : List Posted) (own : Submitted)
+    (transaction_table transaction_table' : TransactionTable) (running : Bool) (run : Run) (stored : Stored)
+    (posted : List Posted) (own : Submitted)
     (last : Dormant) → IsKept schemas opening submitted transaction_table running run stored posted → AsksForRun own
     → submitted' ≡ submitted ++ own ∷ []
-    → transaction_table' ≡ record transaction_table { dormant = transaction_table.dormant ++ last ∷ []; known = transaction_table.known + 1 }
+    → transaction_table' ≡ record transaction_table {
+      dormant = transaction_table.dormant
+          ++ last ∷ [];
+      known = transaction_table.known + 1;
+    }
     → last.tx ≡ length submitted + 1 → IsPoolOf submitted' run.active posted
     → IsKept schemas opening submitted' transaction_table' running run stored posted
-kept_submitted schemas opening submitted submitted' transaction_table transaction_table' running run stored posted own last kept asks more is
+kept_submitted schemas opening submitted submitted' transaction_table transaction_table' running run stored posted own
+    last kept asks more is
     next pooled =
     let dormant = transaction_table.dormant in
     let now : transaction_table'.dormant ≡ dormant ++ last ∷ [] = ap (λ (r : TransactionTable). r.dormant) is in

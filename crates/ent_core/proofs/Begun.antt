@@ -234,13 +234,16 @@ module _ (s : State) (tx : ℕ) where
 -- ---- what the store keeps
 
 -- somebody is a member, so that a run is on
-pub kept_with : (schemas : List TableSchema) (opening : Opening) (submitted : List Submitted) (transaction_table transaction_table' : TransactionTable)
+pub kept_with : (schemas : List TableSchema) (opening : Opening) (submitted : List Submitted)
+    (transaction_table transaction_table' : TransactionTable)
     (running : Bool) (run run' : Run) (stored stored' : Stored) (posted posted' : List Posted) (tx : ℕ)
     → IsKept schemas opening submitted transaction_table running run stored posted
     → IsSome (first_of (filter (is_tx tx) run.active)) → transaction_table'.dormant ≡ transaction_table.dormant
-    → transaction_table'.known ≡ transaction_table.known → stored'.kinds ≡ stored.kinds → IsPoolOf submitted run'.active posted'
+    → transaction_table'.known ≡ transaction_table.known → stored'.kinds ≡ stored.kinds
+    → IsPoolOf submitted run'.active posted'
     → IsKept schemas opening submitted transaction_table' running run' stored' posted'
-kept_with schemas opening submitted transaction_table transaction_table' running run run' stored stored' posted posted' tx kept some
+kept_with schemas opening submitted transaction_table transaction_table' running run run' stored stored' posted posted'
+    tx kept some
     dormant known
     kinds pooled =
     record {
@@ -267,23 +270,27 @@ kept_with schemas opening submitted transaction_table transaction_table' running
         nobody (subst P (kept.idle_active off) some)
 
 -- the same where the run alone changes
-pub kept_changed : (schemas : List TableSchema) (opening : Opening) (submitted : List Submitted) (transaction_table : TransactionTable)
+pub kept_changed : (schemas : List TableSchema) (opening : Opening) (submitted : List Submitted)
+    (transaction_table : TransactionTable)
     (running : Bool) (run run' : Run) (stored : Stored) (posted posted' : List Posted) (tx : ℕ)
     → IsKept schemas opening submitted transaction_table running run stored posted
     → IsSome (first_of (filter (is_tx tx) run.active)) → IsPoolOf submitted run'.active posted'
     → IsKept schemas opening submitted transaction_table running run' stored posted'
 kept_changed schemas opening submitted transaction_table running run run' stored posted posted' tx kept some pooled =
-    kept_with schemas opening submitted transaction_table transaction_table running run run' stored stored posted posted' tx kept some refl
+    kept_with schemas opening submitted transaction_table transaction_table running run run' stored stored posted
+    posted' tx kept some refl
     refl
     refl pooled
 
 -- members become others
-pub kept_answered : (schemas : List TableSchema) (opening : Opening) (submitted : List Submitted) (transaction_table : TransactionTable)
+pub kept_answered : (schemas : List TableSchema) (opening : Opening) (submitted : List Submitted)
+    (transaction_table : TransactionTable)
     (running : Bool) (run run' : Run) (stored : Stored) (posted posted' : List Posted) (f g : Member → Member)
     → IsKept schemas opening submitted transaction_table running run stored posted → run'.prepared ≡ map f run.prepared
     → run'.active ≡ map g run.active → IsPoolOf submitted run'.active posted'
     → IsKept schemas opening submitted transaction_table running run' stored posted'
-kept_answered schemas opening submitted transaction_table running run run' stored posted posted' f g kept prepared active pooled =
+kept_answered schemas opening submitted transaction_table running run run' stored posted posted' f g kept prepared
+    active pooled =
     record {
       declared = kept.declared;
       formed = kept.formed;

@@ -29,13 +29,16 @@ catalogued (Some fault) schemas tables e = absurd cc
 abbrev pub nobody : TransactionTable
 nobody = record { dormant = []; fates = []; known = 0 }
 
-pub kept_opened_store : (opening : Opening) (schemas : List TableSchema) (submitted : List Submitted) (transaction_table : TransactionTable)
+pub kept_opened_store : (opening : Opening) (schemas : List TableSchema) (submitted : List Submitted)
+    (transaction_table : TransactionTable)
     (run : Run) (stored : Stored) (posted : List Posted)
-    → unless (opening_fault opening) (schemas_of opening.tables) ≡ Ok schemas → submitted ≡ [] → transaction_table ≡ nobody
+    → unless (opening_fault opening) (schemas_of opening.tables) ≡ Ok schemas → submitted ≡ []
+    → transaction_table ≡ nobody
     → run.prepared ≡ [] → run.active ≡ [] → stored.kinds ≡ kinds_declared opening.tables
     → posted ≡ [] → IsKept schemas opening submitted transaction_table false run stored posted
 unfolding IsDistinct
-kept_opened_store opening schemas submitted transaction_table run stored posted e none empty no_prepared no_active kinds no_posts =
+kept_opened_store opening schemas submitted transaction_table run stored posted e none empty no_prepared no_active kinds
+    no_posts =
     let h = catalogued (opening_fault opening) (schemas_of opening.tables) schemas e in
     let first : IsKept schemas opening [] nobody false run stored posted =
     record {

@@ -49,11 +49,14 @@ all_dropped P (suc n) [] all = tt
 all_dropped P (suc n) (own ∷ more) all = all_dropped P n more all.1
 
 pub kept_started : (schemas : List TableSchema) (opening : Opening) (submitted : List Submitted)
-    (transaction_table transaction_table' : TransactionTable) (running : Bool) (run run' : Run) (stored : Stored) (posted posted' : List Posted) (n : ℕ)
+    (transaction_table transaction_table' : TransactionTable) (running : Bool) (run run' : Run) (stored : Stored)
+    (posted posted' : List Posted) (n : ℕ)
     → IsKept schemas opening submitted transaction_table running run stored posted
     → transaction_table' ≡ record transaction_table { dormant = drop n transaction_table.dormant }
-    → IsPoolOf submitted run'.active posted' → IsKept schemas opening submitted transaction_table' true run' stored posted'
-kept_started schemas opening submitted transaction_table transaction_table' running run run' stored posted posted' n kept now pooled =
+    → IsPoolOf submitted run'.active posted'
+    → IsKept schemas opening submitted transaction_table' true run' stored posted'
+kept_started schemas opening submitted transaction_table transaction_table' running run run' stored posted posted' n
+    kept now pooled =
     let dormant = transaction_table.dormant in
     let left : transaction_table'.dormant ≡ drop n dormant = ap (λ (r : TransactionTable). r.dormant) now in
     let A : List Dormant → Type 0 = λ all. AllByRecursion (λ (one : Dormant). one.tx ≤ length submitted) all in

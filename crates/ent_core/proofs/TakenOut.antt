@@ -91,7 +91,8 @@ pub as_run_attempts : (run_attempts : List RunAttempt) → run_attempts ≡ map 
 as_run_attempts [] = refl
 as_run_attempts (run_attempt ∷ run_attempts) = ap (λ ls. run_attempt ∷ ls) (as_run_attempts run_attempts)
 
-as_arrived : (most : ℕ) (run_attempts : List RunAttempt) → AllByRecursion (λ (run_attempt : RunAttempt). IsNumbered most run_attempt.tx)
+as_arrived : (most : ℕ) (run_attempts : List RunAttempt)
+    → AllByRecursion (λ (run_attempt : RunAttempt). IsNumbered most run_attempt.tx)
     run_attempts
     → AllByRecursion (λ (m : Member). m.tx ≤ most) (map as_member run_attempts)
 as_arrived most [] all = tt
@@ -100,7 +101,8 @@ as_arrived most (run_attempt ∷ run_attempts) all = (all.0.1, as_arrived most r
 abbrev behind : List Submitted → Cause → List RunAttempt → List Dormant
 behind submitted cause run_attempts = filter_map (dormant_by submitted cause) (map as_member run_attempts)
 
-distinct_waiting : (submitted : List Submitted) (cause : Cause) (dormant : List Dormant) (run_attempts : List RunAttempt)
+distinct_waiting : (submitted : List Submitted) (cause : Cause) (dormant : List Dormant)
+    (run_attempts : List RunAttempt)
     → IsDistinct nat_eq (waiting dormant ++ numbers_in run_attempts)
     → IsDistinct nat_eq (waiting (dormant ++ behind submitted cause run_attempts))
 distinct_waiting submitted cause dormant run_attempts distinct =
@@ -111,24 +113,29 @@ distinct_waiting submitted cause dormant run_attempts distinct =
     (waiting (behind submitted cause run_attempts)) =
     ap (times n) (map-append (λ (own : Dormant). own.tx) dormant (behind submitted cause run_attempts))
     ∙ times_joined n (waiting dormant) (waiting (behind submitted cause run_attempts)) in
-    let fewer : times n (waiting (behind submitted cause run_attempts)) ≤ times n (map tx_of (map as_member run_attempts)) =
+    let fewer : times n (waiting (behind submitted cause run_attempts)) ≤ times n
+    (map tx_of (map as_member run_attempts)) =
     times_waiting n submitted cause (map as_member run_attempts) in
-    let same : times n (map tx_of (map as_member run_attempts)) ≡ times n (numbers_in run_attempts) = ap (times n) (as_numbers
+    let same : times n (map tx_of (map as_member run_attempts)) ≡ times n (numbers_in run_attempts) =
+    ap (times n) (as_numbers
     run_attempts) in
     omega (arith, low, before, after, fewer, same))
 
-pub kept_taken : (schemas : List TableSchema) (opening : Opening) (submitted : List Submitted) (transaction_table transaction_table' : TransactionTable)
+pub kept_taken : (schemas : List TableSchema) (opening : Opening) (submitted : List Submitted)
+    (transaction_table transaction_table' : TransactionTable)
     (running : Bool) (run run' : Run) (stored stored' : Stored) (posted posted' : List Posted) (run_attempts : List
     RunAttempt) (cause : Cause)
     (p : Member → Bool) → IsKept schemas opening submitted transaction_table running run stored posted
     → AllByRecursion (λ (run_attempt : RunAttempt). IsNumbered (length submitted) run_attempt.tx) run_attempts
     → IsDistinct nat_eq (map (λ own. own.tx) transaction_table.dormant ++ numbers_in run_attempts)
-    → transaction_table'.dormant ≡ transaction_table.dormant ++ filter_map (dormant_by submitted cause) (map as_member run_attempts)
+    → transaction_table'.dormant ≡ transaction_table.dormant ++ filter_map (dormant_by submitted cause)
+    (map as_member run_attempts)
     → transaction_table'.known ≡ transaction_table.known
     → run'.prepared ≡ filter p run.prepared → run'.active ≡ filter p run.active
     → stored'.kinds ≡ stored.kinds → IsPoolOf submitted run'.active posted'
     → IsKept schemas opening submitted transaction_table' running run' stored' posted'
-kept_taken schemas opening submitted transaction_table transaction_table' running run run' stored stored' posted posted' run_attempts cause p kept
+kept_taken schemas opening submitted transaction_table transaction_table' running run run' stored stored' posted posted'
+    run_attempts cause p kept
     arrived distinct dormant known prepared active kinds pooled =
     let A : List Dormant → Type 0 = λ all. AllByRecursion (λ (own : Dormant). own.tx ≤ length submitted) all in
     let D : List Dormant → Type 0 = λ all. IsDistinct nat_eq (waiting all) in
@@ -139,11 +146,13 @@ kept_taken schemas opening submitted transaction_table transaction_table' runnin
       asks = kept.asks;
       known = known ∙ kept.known;
       arrived = subst A (sym dormant)
-          (all_joined (λ (own : Dormant). own.tx ≤ length submitted) transaction_table.dormant (filter_map (dormant_by submitted
+          (all_joined (λ (own : Dormant). own.tx ≤ length submitted) transaction_table.dormant
+          (filter_map (dormant_by submitted
           cause) (map as_member run_attempts))
           kept.arrived (arrived_waiting (length submitted) submitted cause (map as_member run_attempts) (as_arrived
           (length submitted) run_attempts arrived)));
-      distinct = subst D (sym dormant) (distinct_waiting submitted cause transaction_table.dormant run_attempts distinct);
+      distinct = subst D (sym dormant)
+          (distinct_waiting submitted cause transaction_table.dormant run_attempts distinct);
       idle_prepared = λ off. prepared ∙ ap (filter p) (kept.idle_prepared off);
       idle_active = λ off. active ∙ ap (filter p) (kept.idle_active off);
       posted = pooled;
@@ -151,7 +160,8 @@ kept_taken schemas opening submitted transaction_table transaction_table' runnin
 
 -- ---- the state that is left
 
-pub numbers_leaving : (numbers : List ℕ) (run_attempts : List RunAttempt) (ms : List Member) → numbers ≡ numbers_in run_attempts
+pub numbers_leaving : (numbers : List ℕ) (run_attempts : List RunAttempt) (ms : List Member)
+    → numbers ≡ numbers_in run_attempts
     → run_attempts ≡ map run_attempt_of ms → numbers ≡ map tx_of ms
 numbers_leaving numbers run_attempts ms is of_members = is ∙ ap numbers_in of_members ∙ run_attempt_numbers ms
 
@@ -234,7 +244,8 @@ pub part_numbered : (submitted : List Submitted) (m : Member) → MayTakePart su
 part_numbered submitted m part = (above submitted m.tx part.own part.is_own, below submitted m.tx part.own part.is_own)
 
 leaving_arrived : (submitted : List Submitted) (ms : List Member) → AllByRecursion (MayTakePart submitted) ms
-    → AllByRecursion (λ (run_attempt : RunAttempt). IsNumbered (length submitted) run_attempt.tx) (map run_attempt_of ms)
+    → AllByRecursion (λ (run_attempt : RunAttempt). IsNumbered (length submitted) run_attempt.tx)
+    (map run_attempt_of ms)
 leaving_arrived submitted [] all = tt
 leaving_arrived submitted (m ∷ ms) all = (part_numbered submitted m all.0, leaving_arrived submitted ms all.1)
 
@@ -375,7 +386,8 @@ no_active_left s cause =
     nothing_behind (m ∷ ms) = ap (λ os. m ∷ os) (nothing_behind ms)
 
 -- the store is kept when nobody is left, and no run is on
-pub kept_ended : (schemas : List TableSchema) (opening : Opening) (submitted : List Submitted) (transaction_table : TransactionTable)
+pub kept_ended : (schemas : List TableSchema) (opening : Opening) (submitted : List Submitted)
+    (transaction_table : TransactionTable)
     (running : Bool) (run : Run) (stored : Stored) (posted : List Posted)
     → IsKept schemas opening submitted transaction_table running run stored posted
     → run.prepared ≡ [] → run.active ≡ [] → IsKept schemas opening submitted transaction_table false run stored posted

@@ -9,7 +9,8 @@ use Rattle.ent_protocol.specs.Member.{active_member, is_lent, is_tx, next_of}
 use Rattle.ent_protocol.specs.State.{State, Dormant, Member, first_of}
 use Rattle.ent_protocol_laws.specs.Standing.{StandOnce}
 use Rattle.ent_waits.specs.Free.{IsIdle}
-use Rattle.ent_core.proofs.OnePlace.{active_has_no_fate, active_is_not_dormant, active_is_not_prepared, fated_not_dormant}
+use Rattle.ent_core.proofs.OnePlace.{active_has_no_fate, active_is_not_dormant, active_is_not_prepared}
+use Rattle.ent_core.proofs.OnePlace.{fated_not_dormant}
 use Rattle.ent_core.proofs.OnePlace.{prepared_has_no_fate, prepared_is_not_dormant}
 
 pub nobody : {A : Type 0} (xs : List A) → None ≡ first_of xs → xs ≡ []

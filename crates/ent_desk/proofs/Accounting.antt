@@ -1,6 +1,8 @@
 -- What is found of the core among the sessions, one after the other.
-use Rattle.std.proofs.Common.{◌≡◌, inl, inr, ℕ, zero, suc, ◌+◌, ◌<◌, ◌≤◌, List, [], ◌∷◌, ◌++◌, length, drop, get_or, map, refl, ap}
-use Rattle.std.proofs.Common.{sym, subst, ◌∙◌, arith, add-one, drop-cons, drop_of_length-le, Option, Some, None, slice_get}
+use Rattle.std.proofs.Common.{◌≡◌, inl, inr, ℕ, zero, suc, ◌+◌, ◌<◌, ◌≤◌, List, [], ◌∷◌, ◌++◌, length, drop, get_or}
+use Rattle.std.proofs.Common.{map, refl, ap}
+use Rattle.std.proofs.Common.{sym, subst, ◌∙◌, arith, add-one, drop-cons, drop_of_length-le, Option, Some, None}
+use Rattle.std.proofs.Common.{slice_get}
 use Rattle.std.specs.Prelude.{Contains, slice_index_or}
 use Rattle.std.specs.List.{AllByRecursion, flat_map}
 use Rattle.ent_tree.specs.declared.script.Script.{Script}
@@ -80,7 +82,8 @@ tickets_end all scripts i past =
     subst (λ (l : List Script). AllByRecursion (Contains all) (tickets_from (i + 1) l))
     (sym (drop_of_length-le scripts past)) tt
 
-pub receipts_more : (core : State) (all : List Receipt) (journal : List Entry) (i number : ℕ) (d : Entry) (Goal : Type 0)
+pub receipts_more : (core : State) (all : List Receipt) (journal : List Entry) (i number : ℕ) (d : Entry)
+    (Goal : Type 0)
     → i < length journal → number ≡ i + 1 → HasReceipt core all number (get_or journal i d)
     → (HaveReceipts core all (i + 1) (drop i journal) → Goal)
     → HaveReceipts core all (i + 1 + 1) (drop (i + 1) journal) → Goal

@@ -104,7 +104,8 @@ module _ (core : State) (all : List Receipt) where
             (entries_wanted 1 core.journal h) (IsPermutation-map entry_of mine all same);
         runs = all_by (HasItsRuns fates) all (λ r at.
             by_all (HasItsRuns fates) mine r (have_runs 1 core.journal h)
-            (in_contains r mine (Contains-permutation all mine r (IsPermutation-sym mine all same) (contains_in r all at))));
+            (in_contains r mine (Contains-permutation all mine r (IsPermutation-sym mine all same)
+            (contains_in r all at))));
       }
 
 -- ---- a closed book

@@ -221,7 +221,8 @@ submitted_seen (given.Full script) n e = cc
 submitted_seen (given.Faulty script fault) n e = cc
 
 not_form : (old new : State) (script : Script) (reply : Given) (form : Result (List (Statement Known)) FormFault)
-    → ((tx : ℕ) → reply ≡ given.Submitted tx → ⊥) → SubmitsForm old script form (reply_seen reply) new → Adds 0 0 old new
+    → ((tx : ℕ) → reply ≡ given.Submitted tx → ⊥) → SubmitsForm old script form (reply_seen reply) new
+    → Adds 0 0 old new
 not_form old new script reply (Ok form) other h =
     absurd (other (suc (length old.submitted)) (submitted_seen reply (suc (length old.submitted)) h.0))
 not_form old new script reply (Err fault) other h = same old old new h.1 refl refl

@@ -5,7 +5,8 @@ use Rattle.std.specs.List.{filter}
 use Rattle.std.proofs.lemmas.Bool.{eqb-true}
 use Rattle.ent_semantics.specs.declared.book.Fate.{Fate}
 use Rattle.ent_semantics.specs.declared.book.Fated.{Fated}
-use Rattle.ent_protocol.specs.Lookup.{Standing, Dormant, Finished, Ready, Out, Posted, Prepared, active_standing, standing}
+use Rattle.ent_protocol.specs.Lookup.{Standing, Dormant, Finished, Ready, Out, Posted, Prepared, active_standing}
+use Rattle.ent_protocol.specs.Lookup.{standing}
 use Rattle.ent_protocol.specs.Lookup.{turn_of}
 use Rattle.ent_protocol.specs.Member.{is_lent, is_tx, next_of}
 use Rattle.ent_protocol.specs.State.{State, Member, by_number, first_of, inserted}
@@ -40,7 +41,8 @@ no_fate s [] prepared active = no_fate_prepared s prepared active
 no_fate s (own ∷ more) prepared active = refl
 
 among : (fates : List Fated) (tx : ℕ) (fate : Fate) (rest : List Standing) → fate_in (first_of rest) ≡ None
-    → fate_in (first_of (map (λ (own : Fated). Finished own.fate) (filter (λ own. own.tx == tx) fates) ++ rest)) ≡ Some fate
+    → fate_in (first_of (map (λ (own : Fated). Finished own.fate) (filter (λ own. own.tx == tx) fates) ++ rest)) ≡ Some
+    fate
     → In (fated tx fate) fates
 among [] tx fate rest none told = let wrong : Some fate ≡ None = sym told ∙ none in cc
 among (own ∷ more) tx fate rest none told = by (own.tx == tx) refl told (among more tx fate rest none)
@@ -69,7 +71,8 @@ in_inserted_here own (first ∷ more) = by (nat_lt own.tx first.tx) (in_inserted
     by true later = inl refl
     by false later = inr later
 
-in_inserted : (x own : Fated) (fates : List Fated) → In x fates → In x (inserted (λ (other : Fated). other.tx) own fates)
+in_inserted : (x own : Fated) (fates : List Fated) → In x fates
+    → In x (inserted (λ (other : Fated). other.tx) own fates)
 in_inserted x own [] h = absurd h
 in_inserted x own (first ∷ more) h = by (nat_lt own.tx first.tx) h (in_inserted x own more)
   where

@@ -1,6 +1,8 @@
 -- A desk is opened: the tickets of its scripts, and the sessions.
-use Rattle.std.proofs.Common.{◌≡◌, ℕ, zero, suc, ◌+◌, ◌-◌, ◌≤◌, ◌<◌, Bool, true, false, List, [], ◌∷◌, ◌++◌, length, map}
-use Rattle.std.proofs.Common.{add-one, get_or, length-take, take, replicate, refl, ap, sym, subst, ◌∙◌, arith, Result, Ok, Err, nat_le}
+use Rattle.std.proofs.Common.{◌≡◌, ℕ, zero, suc, ◌+◌, ◌-◌, ◌≤◌, ◌<◌, Bool, true, false, List, [], ◌∷◌, ◌++◌, length}
+use Rattle.std.proofs.Common.{map}
+use Rattle.std.proofs.Common.{add-one, get_or, length-take, take, replicate, refl, ap, sym, subst, ◌∙◌, arith, Result}
+use Rattle.std.proofs.Common.{Ok, Err, nat_le}
 use Rattle.std.proofs.Math.Seq.{take-suc}
 use Rattle.std.proofs.lemmas.List.{length-map}
 use Rattle.ent_tree.specs.declared.limits.TheConstants.{MOST_SCRIPTS}

@@ -43,7 +43,9 @@ module _ (s : State) (friends : List Friend) (asked : pool s ≡ map posted frie
   first_at_least n h [] is =
       absurd (none_there _ ((is.class is.first).1 (is.in_remainder, (zero, refl))))
   first_at_least n h (a ∷ others) is =
-      let x = image_of posted friends a (subst (λ xs. Contains xs a) asked (in_contains (pool s) a (is_present (pool s) (a ∷ others) is a (inl refl)))) in
+      let x = image_of posted friends a
+      (subst (λ xs. Contains xs a) asked
+      (in_contains (pool s) a (is_present (pool s) (a ∷ others) is a (inl refl)))) in
       subst (λ tx. n ≤ tx) (sym (ap (λ (a : Posted). a.tx) x.2)) (at_most n x.0.tx (each_passes _ friends x.0 h x.1))
 
   module _ (among : ℕ → Bool) (first : Friend) (more : List Friend)

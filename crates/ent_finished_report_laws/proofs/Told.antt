@@ -147,7 +147,8 @@ module _ (laws : Laws) (book : Book Database) (legal : IsLegal book) (reported :
       let seen = legal.no_widow member (in_contains (all_members book.joint_answers) member
       (to_flat (λ (j : JointAnswer). j.members) book.joint_answers joint member jt mt)) in
       subst (λ (m : Member). IsRowOfCharacters m.grounding) (sym seen.2)
-      (laws.read_views book.opening.tables legal.turns first seen.0 can_keep first_holds (all_grounded book legal) seen.1)
+      (laws.read_views book.opening.tables legal.turns first seen.0 can_keep first_holds (all_grounded book legal)
+      seen.1)
 
   abbrev IsMemberHeld : ToldMember → Type 0
   IsMemberHeld told = IsRowOfCharacters told.member.grounding

@@ -57,7 +57,8 @@ use Rattle.ent_form.specs.EntangledFaults.{entangled_faults}
 use Rattle.ent_form.proofs.Heads.{one_answer, found_of, there_of, demand_of, view_in, value_head, value_known}
 use Rattle.ent_form.proofs.Heads.{values_agree}
 use Rattle.ent_form.proofs.Heads.{wanted_head, operand_known, view_seen, select_head}
-use Rattle.ent_form.proofs.FaultSteps.{head_then, head_last, head_unless, head_there, head_demand, head_new, head_demanded}
+use Rattle.ent_form.proofs.FaultSteps.{head_then, head_last, head_unless, head_there, head_demand, head_new}
+use Rattle.ent_form.proofs.FaultSteps.{head_demanded}
 
 -- ---- the kinds of a sub-select's items
 

@@ -66,7 +66,8 @@ use Rattle.ent_form.specs.AllFaults.{expression_faults, expression_kind, columns
 use Rattle.ent_form.specs.AllFaults.{items_faults, select_faults, values_faults, insert_faults, delete_faults}
 use Rattle.ent_form.specs.AllFaults.{assignment_faults, assignments_faults, update_faults, set_faults}
 use Rattle.ent_form.proofs.FaultSteps.{head_before, head_refused, head_kept, head_first, head_where_there, head_then}
-use Rattle.ent_form.proofs.FaultSteps.{head_last, head_unless, head_at, head_there, head_demand, head_new, head_demanded}
+use Rattle.ent_form.proofs.FaultSteps.{head_last, head_unless, head_at, head_there, head_demand, head_new}
+use Rattle.ent_form.proofs.FaultSteps.{head_demanded}
 
 -- ---- openings
 

@@ -65,7 +65,8 @@ pub terms_noted : (all : List Term) (earlier plain : List Name) → Alike earlie
 terms_noted [] earlier plain same name =
     both (same name) (same_by (λ names. Contains names name) (sym (append-nil plain)))
 terms_noted (term ∷ more) earlier plain same name =
-    both (terms_noted more (noted earlier term) (plain ++ term_variables term) (term_noted earlier plain term same) name)
+    both (terms_noted more (noted earlier term) (plain ++ term_variables term) (term_noted earlier plain term same)
+    name)
     (same_by (λ names. Contains names name)
     (append_assoc plain (term_variables term) (flat_map term_variables more)))
 

@@ -1,5 +1,6 @@
 -- Classes of tokens that are apart have no token in common.
-use Rattle.std.proofs.Common.{◌≡◌, ℕ, Bool, true, false, not, ◌&&◌, List, [], ◌∷◌, ◌++◌, Some, refl, sym, ap, ◌∙◌, rules, inl, inr, ◌⊎◌}
+use Rattle.std.proofs.Common.{◌≡◌, ℕ, Bool, true, false, not, ◌&&◌, List, [], ◌∷◌, ◌++◌, Some, refl, sym, ap, ◌∙◌}
+use Rattle.std.proofs.Common.{rules, inl, inr, ◌⊎◌}
 use denote.Enum.Bare.{same_true, true_same}
 use Rattle.ent_lists.specs.Elements.{or_cases, and_both, or_first, or_second}
 use Rattle.ent_text.specs.contracts.keyword.Keyword.{the_type as keyword_type}
@@ -8,7 +9,8 @@ use Rattle.ent_text.specs.declared.token.TokenKind.{TokenKind}
 use Rattle.ent_text.specs.declared.token.TokenKind.TheVariants as kinds
 use Rattle.ent_text.specs.declared.keyword.Keyword.{Keyword}
 use Rattle.ent_text.specs.declared.symbol.Symbol.{Symbol}
-use Rattle.ent_grammar.specs.Class.{Class, word, sign, name, variable, number, positive, one, text, Given, given, if_so, is, among, kind_of, same_word, same_sign, alike, unlike, apart}
+use Rattle.ent_grammar.specs.Class.{Class, word, sign, name, variable, number, positive, one, text, Given, given, if_so}
+use Rattle.ent_grammar.specs.Class.{is, among, kind_of, same_word, same_sign, alike, unlike, apart}
 
 pub by_either : {P Q R : Type 0} → P ⊎ Q → (P → R) → (Q → R) → R
 by_either (inl p) f g = f p
@@ -64,19 +66,22 @@ pub among_tail : (c : Class) (cs : List Class) (k : TokenKind) → among cs k �
 among_tail c [] k e = absurd cc
 among_tail c (d ∷ cs) k e = or_second (is c k) (among (d ∷ cs) k) e
 
-pub among_part : (c : Class) (cs : List Class) (k : TokenKind) → among (c ∷ cs) k ≡ true → (is c k ≡ true) ⊎ (among cs k ≡ true)
+pub among_part : (c : Class) (cs : List Class) (k : TokenKind) → among (c ∷ cs) k ≡ true
+    → (is c k ≡ true) ⊎ (among cs k ≡ true)
 among_part c [] k e = inl e
 among_part c (d ∷ cs) k e = or_cases (is c k) (among (d ∷ cs) k) e
 
 pub among_left : (cs ds : List Class) (k : TokenKind) → among cs k ≡ true → among (cs ++ ds) k ≡ true
 among_left [] ds k e = absurd cc
-among_left (c ∷ cs) ds k e = by_either (among_part c cs k e) (λ h. among_head c (cs ++ ds) k h) (λ h. among_tail c (cs ++ ds) k (among_left cs ds k h))
+among_left (c ∷ cs) ds k e = by_either (among_part c cs k e) (λ h. among_head c (cs ++ ds) k h)
+    (λ h. among_tail c (cs ++ ds) k (among_left cs ds k h))
 
 pub among_right : (cs ds : List Class) (k : TokenKind) → among ds k ≡ true → among (cs ++ ds) k ≡ true
 among_right [] ds k e = e
 among_right (c ∷ cs) ds k e = among_tail c (cs ++ ds) k (among_right cs ds k e)
 
-pub among_either : (cs ds : List Class) (k : TokenKind) → among (cs ++ ds) k ≡ true → (among cs k ≡ true) ⊎ (among ds k ≡ true)
+pub among_either : (cs ds : List Class) (k : TokenKind) → among (cs ++ ds) k ≡ true
+    → (among cs k ≡ true) ⊎ (among ds k ≡ true)
 among_either [] ds k e = inr e
 among_either (c ∷ cs) ds k e =
     by_either (among_part c (cs ++ ds) k e) (λ h. inl (among_head c cs k h))
@@ -89,7 +94,8 @@ alike_not false c e h = absurd cc
 unlike_so : (c : Class) (ds : List Class) (k : TokenKind) → unlike c ds ≡ true → is c k ≡ true → among ds k ≡ true → ⊥
 unlike_so c [] k e h g = absurd cc
 unlike_so c (d ∷ ds) k e h g =
-    by_either (among_part d ds k g) (λ j. alike_not (alike (kind_of c) (kind_of d)) (unlike c ds) e (both_alike c d k h j))
+    by_either (among_part d ds k g)
+    (λ j. alike_not (alike (kind_of c) (kind_of d)) (unlike c ds) e (both_alike c d k h j))
     (λ j. unlike_so c ds k (and_both (not (alike (kind_of c) (kind_of d))) (unlike c ds) e).1 h j)
 
 pub never_both : (cs ds : List Class) (k : TokenKind) → apart cs ds ≡ true → among cs k ≡ true → among ds k ≡ true → ⊥

@@ -14,9 +14,12 @@ pub firm : {A : Type 0} (g : Grammar A) (follow : List Class) → IsPredictive g
 firm (give x) follow h = end_firm x
 firm (token c) follow h = token_firm c
 firm (up_to most) follow h = limited_firm most h
-firm (chain g next) follow h = firm_then (reads g) (λ e x. reads (next x.0) e x.1) (firm g _ (h (sample g)).0) (λ x. firm (next x) follow (h x).1)
+firm (chain g next) follow h = firm_then (reads g) (λ e x. reads (next x.0) e x.1) (firm g _ (h (sample g)).0)
+    (λ x. firm (next x) follow (h x).1)
 firm (pick g h) follow k = pick_firm (among (firsts g)) (reads g) (reads h) (firm g follow k.2) (firm h follow k.3)
 firm (many limit item) follow h =
-    many_firm (among (firsts item)) (reads item) (firm item _ h.3) (opening item _ h.3) (λ t e. no_divider (firsts item) t h.2 e) limit
+    many_firm (among (firsts item)) (reads item) (firm item _ h.3) (opening item _ h.3)
+    (λ t e. no_divider (firsts item) t h.2 e) limit
 firm (more limit divider item) follow h =
-    more_firm divider (among (firsts item)) (reads item) (firm item _ h.3) (opening item _ h.3) (λ t e. no_divider (firsts item) t h.2 e) limit
+    more_firm divider (among (firsts item)) (reads item) (firm item _ h.3) (opening item _ h.3)
+    (λ t e. no_divider (firsts item) t h.2 e) limit

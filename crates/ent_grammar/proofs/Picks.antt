@@ -1,5 +1,6 @@
 -- Tokens, and which of two things is read.
-use Rattle.std.proofs.Common.{◌≡◌, ℕ, Bool, true, false, cond, List, [], ◌∷◌, ◌++◌, take, Option, Some, None, Ok, Err, refl, sym, ap, ◌∙◌, inl, inr, ◌⊎◌, subst}
+use Rattle.std.proofs.Common.{◌≡◌, ℕ, Bool, true, false, cond, List, [], ◌∷◌, ◌++◌, take, Option, Some, None, Ok, Err}
+use Rattle.std.proofs.Common.{refl, sym, ap, ◌∙◌, inl, inr, ◌⊎◌, subst}
 use Rattle.std.specs.Prelude.{nat_le}
 use Rattle.ent_text.specs.declared.token.Token.{Token}
 use Rattle.ent_text.specs.declared.token.TokenKind.{TokenKind}
@@ -7,7 +8,8 @@ use Rattle.ent_grammar.specs.declared.fault.GrammarFault.TheVariants.{Unexpected
 use Rattle.ent_grammar.specs.Read.{Read, place_of, begins}
 use Rattle.ent_grammar.specs.declared.divider.Divider.{Divider}
 use Rattle.ent_grammar.specs.declared.divider.Divider.TheVariants.{Comma, And}
-use Rattle.ent_grammar.specs.Class.{Class, word, sign, name, variable, number, positive, one, text, Given, given, kind_of, dividers, class_of, is, among}
+use Rattle.ent_grammar.specs.Class.{Class, word, sign, name, variable, number, positive, one, text, Given, given}
+use Rattle.ent_grammar.specs.Class.{kind_of, dividers, class_of, is, among}
 use Rattle.ent_grammar.specs.Phrase.{nothing, Single}
 use Rattle.ent_grammar.specs.Grammar.{taken_from, taken_at, limited_from, limited_at}
 use Rattle.ent_grammar.specs.Foresight.{sample_of}
@@ -19,14 +21,43 @@ use Rattle.ent_grammar.proofs.Tongue.{Tongue, Halted, Says_so, Firm, front_same}
 -- ---- no token
 
 pub end_firm : {A : Type 0} (x : A) → Firm (λ kept y ts. (y ≡ x) × nothing ts) (λ e ts. Ok (x, ts))
-end_firm x = record { value = x; sample = []; in_tongue = λ kept. (refl, refl); says = λ e ts. record { front = []; whole = refl; again = λ e others same. refl; spelled = λ kept. (refl, refl) } }
+end_firm x = record {
+  value = x;
+  sample = [];
+  in_tongue = λ kept. (refl, refl);
+  says = λ e ts.
+      record { front = []; whole = refl; again = λ e others same. refl; spelled = λ kept. (refl, refl) };
+}
 
 -- ---- one token
 
 -- a reader that refuses what stands at the front
-unexpected_so : {A : Type 0} (tongue : Tongue A) (read : ℕ → List Token → Read A) (value : A) (sample : List Token) → ((kept : Bool) → tongue kept value sample) → (e : ℕ) (ts : List Token)
-    → ((end : ℕ) (others : List Token) → take 1 others ≡ take 1 ts → read end others ≡ Err (Unexpected (place_of end others))) → Halted tongue read e ts (Unexpected (place_of e ts))
-unexpected_so tongue read value sample is e ts again = record { before = []; back = ts; more = false; whole = refl; stands = refl; again = again; onward = sample; goes_on = tt; long = value; spelled = is false; short = []; dropped = []; parted = refl; divides = inl refl; finish = sample; brief = value; kept = is true }
+unexpected_so : {A : Type 0} (tongue : Tongue A) (read : ℕ → List Token → Read A) (value : A) (sample : List Token)
+    → ((kept : Bool) → tongue kept value sample) → (e : ℕ) (ts : List Token)
+    → ((end : ℕ) (others : List Token) → take 1 others ≡ take 1 ts
+    → read end others ≡ Err (Unexpected (place_of end others)))
+    → Halted tongue read e ts (Unexpected (place_of e ts))
+unexpected_so tongue read value sample is e ts again =
+    record {
+      before = [];
+      back = ts;
+      more = false;
+      whole = refl;
+      stands = refl;
+      again = again;
+      onward = sample;
+      goes_on = tt;
+      long = value;
+      spelled = is false;
+      short = [];
+      dropped = [];
+      parted = refl;
+      divides =
+          inl refl;
+      finish = sample;
+      brief = value;
+      kept = is true;
+    }
 
 pub sample_token : Class → Token
 sample_token c = record { kind = kind_of c; start = 0; end = 0 }
@@ -45,24 +76,44 @@ pub sample_single : (c : Class) → Single c (sample_of c) (sample_token c ∷ [
 unfolding sample_token
 sample_single c = record { token = sample_token c; whole = refl; is_given = sample_given c }
 
-taken_again : (c : Class) (t : Token) (ts : List Token) → given c t.kind t.start ≡ None → (e : ℕ) (others : List Token) → take 1 others ≡ take 1 (t ∷ ts) → taken_at c e others ≡ Err (Unexpected (place_of e others))
+taken_again : (c : Class) (t : Token) (ts : List Token) → given c t.kind t.start ≡ None → (e : ℕ) (others : List Token)
+    → take 1 others ≡ take 1 (t ∷ ts) → taken_at c e others ≡ Err (Unexpected (place_of e others))
 taken_again c t ts is e [] same = absurd cc
 taken_again c t ts is e (u ∷ us) same =
-    let k : u ≡ t = cc in subst (λ (v : Token). taken_at c e (v ∷ us) ≡ Err (Unexpected v.start)) (sym k) (ap (λ (o : Option (Given c)). taken_from o t.start us) is)
+    let k : u ≡ t = cc in subst (λ (v : Token). taken_at c e (v ∷ us) ≡ Err (Unexpected v.start)) (sym k)
+    (ap (λ (o : Option (Given c)). taken_from o t.start us) is)
 
-none_again : (c : Class) (e : ℕ) (others : List Token) → take 1 others ≡ take 1 [] → taken_at c e others ≡ Err (Unexpected (place_of e others))
+none_again : (c : Class) (e : ℕ) (others : List Token) → take 1 others ≡ take 1 []
+    → taken_at c e others ≡ Err (Unexpected (place_of e others))
 none_again c e [] same = refl
 none_again c e (u ∷ us) same = absurd cc
 
-token_says : (c : Class) (e : ℕ) (t : Token) (ts : List Token) (r : Option (Given c)) → given c t.kind t.start ≡ r → Says_so (λ kept y us. Single c y us) (taken_at c) e (t ∷ ts) (taken_from r t.start ts)
-token_says c e t ts (Some x) is = record { front = t ∷ []; whole = refl; again = λ e others same. ap (λ (o : Option (Given c)). taken_from o t.start others) is; spelled = λ kept. record { token = t; whole = refl; is_given = is } }
-token_says c e t ts None is = unexpected_so (λ kept y us. Single c y us) (taken_at c) (sample_of c) (sample_token c ∷ []) (λ kept. sample_single c) e (t ∷ ts) (taken_again c t ts is)
+token_says : (c : Class) (e : ℕ) (t : Token) (ts : List Token) (r : Option (Given c)) → given c t.kind t.start ≡ r
+    → Says_so (λ kept y us. Single c y us) (taken_at c) e (t ∷ ts) (taken_from r t.start ts)
+token_says c e t ts (Some x) is =
+    record {
+      front = t ∷ [];
+      whole = refl;
+      again = λ e others same.
+          ap (λ (o : Option (Given c)). taken_from o t.start others) is;
+      spelled =
+          λ kept. record { token = t; whole = refl; is_given = is };
+    }
+token_says c e t ts None is = unexpected_so (λ kept y us. Single c y us) (taken_at c) (sample_of c)
+    (sample_token c ∷ []) (λ kept. sample_single c) e (t ∷ ts) (taken_again c t ts is)
 
 pub token_firm : (c : Class) → Firm (λ kept y ts. Single c y ts) (taken_at c)
-token_firm c = record { value = sample_of c; sample = sample_token c ∷ []; in_tongue = λ kept. sample_single c; says = says }
+token_firm c = record {
+  value = sample_of c;
+  sample = sample_token c ∷ [];
+  in_tongue = λ kept. sample_single c;
+  says =
+      says;
+}
   where
     says : (e : ℕ) (ts : List Token) → Says_so (λ kept y us. Single c y us) (taken_at c) e ts (taken_at c e ts)
-    says e [] = unexpected_so (λ kept y us. Single c y us) (taken_at c) (sample_of c) (sample_token c ∷ []) (λ kept. sample_single c) e [] (none_again c)
+    says e [] = unexpected_so (λ kept y us. Single c y us) (taken_at c) (sample_of c) (sample_token c ∷ [])
+        (λ kept. sample_single c) e [] (none_again c)
     says e (t ∷ ts) = token_says c e t ts (given c t.kind t.start) refl
 
 -- ---- no divider
@@ -72,12 +123,14 @@ divider_among Comma k e = among_head (class_of Comma) (class_of And ∷ []) k e
 divider_among And k e = among_tail (class_of Comma) (class_of And ∷ []) k e
 
 -- a token of classes that are no dividers
-pub no_divider : (cs : List Class) (t : Token) → apart cs dividers ≡ true → among cs t.kind ≡ true → AtMostADivider (t ∷ []) → ⊥
+pub no_divider : (cs : List Class) (t : Token) → apart cs dividers ≡ true → among cs t.kind ≡ true
+    → AtMostADivider (t ∷ []) → ⊥
 no_divider cs t away mine (inl e) = absurd cc
 no_divider cs t away mine (inr h) =
     let k = h.2 in
     let same : k.token ≡ t = let w = k.whole in cc in
-    let here : is (class_of h.0) t.kind ≡ true = subst (λ (u : Token). is (class_of h.0) u.kind ≡ true) same (given_is (class_of h.0) k.token.kind k.token.start h.1 k.is_given) in
+    let here : is (class_of h.0) t.kind ≡ true = subst (λ (u : Token). is (class_of h.0) u.kind ≡ true) same
+    (given_is (class_of h.0) k.token.kind k.token.start h.1 k.is_given) in
     never_both cs dividers t.kind away mine (divider_among h.0 t.kind here)
 
 -- ---- a number up to a limit
@@ -89,23 +142,31 @@ module _ (most : ℕ) (some : nat_le 1 most ≡ true) where
   limited_sample : (kept : Bool) → Limited most kept (1, 0) (sample_token positive ∷ [])
   limited_sample kept = (sample_single positive, λ e. some)
 
-  limited_none : (e : ℕ) (others : List Token) → take 1 others ≡ take 1 [] → limited_at most e others ≡ Err (Unexpected (place_of e others))
+  limited_none : (e : ℕ) (others : List Token) → take 1 others ≡ take 1 []
+      → limited_at most e others ≡ Err (Unexpected (place_of e others))
   limited_none e [] same = refl
   limited_none e (u ∷ us) same = absurd cc
 
-  limited_again : (t : Token) (ts : List Token) → given positive t.kind t.start ≡ None → (e : ℕ) (others : List Token) → take 1 others ≡ take 1 (t ∷ ts) → limited_at most e others ≡ Err (Unexpected (place_of e others))
+  limited_again : (t : Token) (ts : List Token) → given positive t.kind t.start ≡ None → (e : ℕ) (others : List Token)
+      → take 1 others ≡ take 1 (t ∷ ts) → limited_at most e others ≡ Err (Unexpected (place_of e others))
   limited_again t ts is e [] same = absurd cc
   limited_again t ts is e (u ∷ us) same =
-      let k : u ≡ t = cc in subst (λ (v : Token). limited_at most e (v ∷ us) ≡ Err (Unexpected v.start)) (sym k) (ap (λ (o : Option (ℕ × ℕ)). limited_from o most t.start us) is)
+      let k : u ≡ t = cc in subst (λ (v : Token). limited_at most e (v ∷ us) ≡ Err (Unexpected v.start)) (sym k)
+      (ap (λ (o : Option (ℕ × ℕ)). limited_from o most t.start us) is)
 
-  much_again : (t : Token) (ts : List Token) (x : ℕ × ℕ) → given positive t.kind t.start ≡ Some x → nat_le x.0 most ≡ false → (e : ℕ) (others : List Token) → take 1 others ≡ take 1 (t ∷ ts) → limited_at most e others ≡ Err (TooMany (place_of e others))
+  much_again : (t : Token) (ts : List Token) (x : ℕ × ℕ) → given positive t.kind t.start ≡ Some x
+      → nat_le x.0 most ≡ false → (e : ℕ) (others : List Token) → take 1 others ≡ take 1 (t ∷ ts)
+      → limited_at most e others ≡ Err (TooMany (place_of e others))
   much_again t ts x is big e [] same = absurd cc
   much_again t ts x is big e (u ∷ us) same =
       let k : u ≡ t = cc in
-      let at : limited_at most e (t ∷ us) ≡ Err (TooMany t.start) = ap (λ (o : Option (ℕ × ℕ)). limited_from o most t.start us) is ∙ (rw big refl) in
+      let at : limited_at most e (t ∷ us) ≡ Err (TooMany t.start) =
+      ap (λ (o : Option (ℕ × ℕ)). limited_from o most t.start us) is ∙ (rw big refl) in
       subst (λ (v : Token). limited_at most e (v ∷ us) ≡ Err (TooMany v.start)) (sym k) at
 
-  much_says : (e : ℕ) (t : Token) (ts : List Token) (x : ℕ × ℕ) (b : Bool) → given positive t.kind t.start ≡ Some x → nat_le x.0 most ≡ b → Says_so (Limited most) (limited_at most) e (t ∷ ts) (cond b (Ok (x, ts)) (Err (TooMany t.start)))
+  much_says : (e : ℕ) (t : Token) (ts : List Token) (x : ℕ × ℕ) (b : Bool) → given positive t.kind t.start ≡ Some x
+      → nat_le x.0 most ≡ b → Says_so (Limited most) (limited_at most) e (t ∷ ts)
+      (cond b (Ok (x, ts)) (Err (TooMany t.start)))
   much_says e t ts x true is fits = record {
     front = t ∷ [];
     whole = refl;
@@ -132,28 +193,41 @@ module _ (most : ℕ) (some : nat_le 1 most ≡ true) where
     kept = limited_sample true;
   }
 
-  number_says : (e : ℕ) (t : Token) (ts : List Token) (r : Option (ℕ × ℕ)) → given positive t.kind t.start ≡ r → Says_so (Limited most) (limited_at most) e (t ∷ ts) (limited_from r most t.start ts)
+  number_says : (e : ℕ) (t : Token) (ts : List Token) (r : Option (ℕ × ℕ)) → given positive t.kind t.start ≡ r
+      → Says_so (Limited most) (limited_at most) e (t ∷ ts) (limited_from r most t.start ts)
   number_says e t ts (Some x) is = much_says e t ts x (nat_le x.0 most) is refl
-  number_says e t ts None is = unexpected_so (Limited most) (limited_at most) (1, 0) (sample_token positive ∷ []) limited_sample e (t ∷ ts) (limited_again t ts is)
+  number_says e t ts None is = unexpected_so (Limited most) (limited_at most) (1, 0) (sample_token positive ∷ [])
+      limited_sample e (t ∷ ts) (limited_again t ts is)
 
   says_limited : (e : ℕ) (ts : List Token) → Says_so (Limited most) (limited_at most) e ts (limited_at most e ts)
-  says_limited e [] = unexpected_so (Limited most) (limited_at most) (1, 0) (sample_token positive ∷ []) limited_sample e [] limited_none
+  says_limited e [] = unexpected_so (Limited most) (limited_at most) (1, 0) (sample_token positive ∷ []) limited_sample
+      e [] limited_none
   says_limited e (t ∷ ts) = number_says e t ts (given positive t.kind t.start) refl
 
   pub limited_firm : Firm (Limited most) (limited_at most)
-  limited_firm = record { value = (1, 0); sample = sample_token positive ∷ []; in_tongue = limited_sample; says = says_limited }
+  limited_firm = record {
+    value = (1, 0);
+    sample = sample_token positive ∷ [];
+    in_tongue = limited_sample;
+    says =
+        says_limited;
+  }
 
 -- ---- one of two
 
-pub begins_alike : (test : TokenKind → Bool) (ts us : List Token) → take 1 ts ≡ take 1 us → begins test ts ≡ begins test us
+pub begins_alike : (test : TokenKind → Bool) (ts us : List Token) → take 1 ts ≡ take 1 us
+    → begins test ts ≡ begins test us
 begins_alike test [] [] e = refl
 begins_alike test [] (u ∷ us) e = absurd cc
 begins_alike test (t ∷ ts) [] e = absurd cc
 begins_alike test (t ∷ ts) (u ∷ us) e = let k : t ≡ u = cc in ap (λ (v : Token). test v.kind) k
 
 -- what one reader says, another says that reads the same here
-pub tested : {A : Type 0} (mine all : Tongue A) (test : TokenKind → Bool) (b : Bool) (read whole : ℕ → List Token → Read A) → ((kept : Bool) (y : A) (ts : List Token) → mine kept y ts → all kept y ts)
-    → ((e : ℕ) (ts : List Token) → begins test ts ≡ b → whole e ts ≡ read e ts) → (e : ℕ) (ts : List Token) → begins test ts ≡ b → (r : Read A) → Says_so mine read e ts r → Says_so all whole e ts r
+pub tested : {A : Type 0} (mine all : Tongue A) (test : TokenKind → Bool) (b : Bool)
+    (read whole : ℕ → List Token → Read A)
+    → ((kept : Bool) (y : A) (ts : List Token) → mine kept y ts → all kept y ts)
+    → ((e : ℕ) (ts : List Token) → begins test ts ≡ b → whole e ts ≡ read e ts) → (e : ℕ) (ts : List Token)
+    → begins test ts ≡ b → (r : Read A) → Says_so mine read e ts r → Says_so all whole e ts r
 tested mine all test b read whole into same e ts is (Ok x) h = record {
   front = h.front;
   whole = h.whole;
@@ -185,17 +259,27 @@ tested mine all test b read whole into same e ts is (Err f) h = record {
 }
 
 -- two readers, and what each of them reads is of one tongue
-pub pick_says : {A : Type 0} (first_tongue other_tongue all : Tongue A) (test : TokenKind → Bool) (read next : ℕ → List Token → Read A) → ((kept : Bool) (y : A) (ts : List Token) → first_tongue kept y ts → all kept y ts)
-    → ((kept : Bool) (y : A) (ts : List Token) → other_tongue kept y ts → all kept y ts) → Firm first_tongue read → Firm other_tongue next → (e : ℕ) (ts : List Token) (b : Bool) → begins test ts ≡ b
+pub pick_says : {A : Type 0} (first_tongue other_tongue all : Tongue A) (test : TokenKind → Bool)
+    (read next : ℕ → List Token → Read A)
+    → ((kept : Bool) (y : A) (ts : List Token) → first_tongue kept y ts → all kept y ts)
+    → ((kept : Bool) (y : A) (ts : List Token) → other_tongue kept y ts → all kept y ts) → Firm first_tongue read
+    → Firm other_tongue next → (e : ℕ) (ts : List Token) (b : Bool) → begins test ts ≡ b
     → Says_so all (λ e us. cond (begins test us) (read e us) (next e us)) e ts (cond b (read e ts) (next e ts))
-pick_says first_tongue other_tongue all test read next into onto first second e ts true is = tested first_tongue all test true read (λ e us. cond (begins test us) (read e us) (next e us)) into (λ e us k. rw k refl) e ts is (read e ts) (first.says e ts)
-pick_says first_tongue other_tongue all test read next into onto first second e ts false is = tested other_tongue all test false next (λ e us. cond (begins test us) (read e us) (next e us)) onto (λ e us k. rw k refl) e ts is (next e ts) (second.says e ts)
+pick_says first_tongue other_tongue all test read next into onto first second e ts true is =
+    tested first_tongue all test true read (λ e us. cond (begins test us) (read e us) (next e us)) into
+    (λ e us k. rw k refl) e ts is (read e ts) (first.says e ts)
+pick_says first_tongue other_tongue all test read next into onto first second e ts false is =
+    tested other_tongue all test false next (λ e us. cond (begins test us) (read e us) (next e us)) onto
+    (λ e us k. rw k refl) e ts is (next e ts) (second.says e ts)
 
-pub pick_firm : {A : Type 0} {first_tongue other_tongue : Tongue A} (test : TokenKind → Bool) (read next : ℕ → List Token → Read A) → Firm first_tongue read → Firm other_tongue next
-    → Firm (λ kept y ts. first_tongue kept y ts ⊎ other_tongue kept y ts) (λ e ts. cond (begins test ts) (read e ts) (next e ts))
+pub pick_firm : {A : Type 0} {first_tongue other_tongue : Tongue A} (test : TokenKind → Bool)
+    (read next : ℕ → List Token → Read A) → Firm first_tongue read → Firm other_tongue next
+    → Firm (λ kept y ts. first_tongue kept y ts ⊎ other_tongue kept y ts)
+    (λ e ts. cond (begins test ts) (read e ts) (next e ts))
 pick_firm {A} {first_tongue} {other_tongue} test read next first second = record {
   value = first.value;
   sample = first.sample;
   in_tongue = λ kept. inl (first.in_tongue kept);
-  says = λ e ts. pick_says first_tongue other_tongue (λ kept y us. first_tongue kept y us ⊎ other_tongue kept y us) test read next (λ kept y us h. inl h) (λ kept y us h. inr h) first second e ts (begins test ts) refl;
+  says = λ e ts. pick_says first_tongue other_tongue (λ kept y us. first_tongue kept y us ⊎ other_tongue kept y us) test
+      read next (λ kept y us h. inl h) (λ kept y us h. inr h) first second e ts (begins test ts) refl;
 }

@@ -40,7 +40,8 @@ all_taken f (x ∷ xs) = ap (λ more. f x ∷ more) (all_taken f xs)
 record Begins (all : List Submitted) (history : History) : Type 0 where
   own : Submitted
   submitted : numbered all history.member.tx ≡ Some own
-  beginning : map (λ operation. operation.statement) history.operations ≡ take (length history.operations) own.script.statements
+  beginning : map (λ operation. operation.statement) history.operations ≡ take (length history.operations)
+      own.script.statements
 
 of_whole : (all : List Submitted) (history : History) → IsWhole all history → Begins all history
 of_whole all history whole =
@@ -73,7 +74,8 @@ module _ (laws : Laws) (creates : List Create) (apart : HaveDistinctColumns crea
     replayed history first last begins stands replays =
         let own = begins.own in
         let out = resolved own (numbered_in all history.member.tx own begins.submitted) in
-        let left = run_kept laws creates apart own.script.statements history.operations begins.beginning none_bound [] out.0
+        let left = run_kept laws creates apart own.script.statements history.operations begins.beginning none_bound []
+        out.0
         out.1 first nothing_bound stands no_kinds history.member.tx 1
         (record { database = last; environment = environment_of history.member; answers = history.member.answers })
         replays.runs replays.grounded in (

@@ -17,7 +17,8 @@ use Rattle.ent_semantics.specs.Database.{Database, Environment}
 use Rattle.ent_semantics.specs.Effect.{Effect}
 use Rattle.ent_semantics.specs.Entangled.{Valuation, written_variables, is_grounding}
 use Rattle.ent_semantics.specs.Joint.{IsGrounded}
-use Rattle.ent_semantics.specs.Serial.{Operation, Run, after, answered_first, is_entangled, run, seen, seen_after, read_views}
+use Rattle.ent_semantics.specs.Serial.{Operation, Run, after, answered_first, is_entangled, run, seen, seen_after}
+use Rattle.ent_semantics.specs.Serial.{read_views}
 use Rattle.ent_semantics.specs.Statement.{statement_meaning}
 use Rattle.ent_closed.specs.Closing.{closed, closed_entangled}
 use Rattle.ent_closed.specs.Form.{Tables, form_meaning, is_form_grounding, known_worth}
@@ -219,7 +220,8 @@ module _ (laws : Laws) (creates : List Create) (apart : HaveDistinctColumns crea
   same_first : {A : Type 0} (x y : A) (xs ys : List A) → x ∷ xs ≡ y ∷ ys → (x ≡ y) × (xs ≡ ys)
   same_first x y xs ys e = (cc, cc)
 
-  pub run_kept : (all : List TreeStatement) (operations : List Operation) → map (λ operation. operation.statement) operations
+  pub run_kept : (all : List TreeStatement) (operations : List Operation)
+      → map (λ operation. operation.statement) operations
       ≡ take (length operations) all
       → (bound : Bound) (made out : List (Statement Known)) → statements_from schemas bound made all ≡ Ok out
       → (database : Database) (environment : Environment) → Stands database → HasKinds bound environment
@@ -229,19 +231,23 @@ module _ (laws : Laws) (creates : List Create) (apart : HaveDistinctColumns crea
   run_kept all [] begin bound made out e database environment stands have tx place last ran grounded =
       let same = one_run (record { database = database; environment = environment; answers = [] }) last ran in
       subst (IsLeft bound all 0) same (stands, (bound, refl, have))
-  run_kept [] (operation ∷ operations) begin bound made out e database environment stands have tx place last ran grounded = cc
-  run_kept (statement ∷ all) (operation ∷ operations) begin bound made out e database environment stands have tx place last ran
+  run_kept [] (operation ∷ operations) begin bound made out e database environment stands have tx place last ran
+      grounded = cc
+  run_kept (statement ∷ all) (operation ∷ operations) begin bound made out e database environment stands have tx place
+      last ran
       grounded =
       let both = same_first operation.statement statement _ _ begin in
       let w = bound_given (statement_in schemas bound statement) _ out e in
       let own : statement_in schemas bound operation.statement ≡ Ok w.0 =
       subst (λ tree. statement_in schemas bound tree ≡ Ok w.0) (sym both.0) w.1 in
       let parts = of_both (IsGrounded creates) (seen tx place operation database environment) _ grounded in
-      let answers = answered operation.statement bound w.0.1 w.0.0 operation.valuation database environment tx place own stands
+      let answers = answered operation.statement bound w.0.1 w.0.0 operation.valuation database environment tx place own
+      stands
       have parts.0 in
       by w.0 own w.1 answers
       (λ effect stood have_now r is grounded_now.
-      run_kept all operations both.1 w.0.1 (made ++ w.0.0 ∷ []) out w.2 effect.database effect.environment stood have_now tx
+      run_kept all operations both.1 w.0.1 (made ++ w.0.0 ∷ []) out w.2 effect.database effect.environment stood
+      have_now tx
       (suc place) r is grounded_now)
       (statement_meaning creates operation.statement operation.valuation database environment) refl ran parts.1
     where
@@ -260,7 +266,8 @@ module _ (laws : Laws) (creates : List Create) (apart : HaveDistinctColumns crea
           → IsLeft bound (statement ∷ all) (suc (length operations)) last
       by w own there answers again (Err failure) is ran grounded = cc
       by w own there answers again (Ok effect) is ran grounded =
-          let kept = effect_kept operation.statement bound w.1 w.0 operation.valuation database environment effect own stands
+          let kept = effect_kept operation.statement bound w.1 w.0 operation.valuation database environment effect own
+          stands
           have answers is in
           let r = run_given effect.answer (run creates operations effect.database effect.environment) last ran in
           let rest = again effect kept.0 kept.1 r.0 r.1 grounded in
@@ -269,7 +276,8 @@ module _ (laws : Laws) (creates : List Create) (apart : HaveDistinctColumns crea
             (
               rest.1.0,
               ap (λ (form : Result (Statement Known × Bound) FormFault).
-                  form >>= λ (form : Statement Known × Bound). bound_behind schemas form.1 all (length operations)) there
+                  form >>= λ (form : Statement Known × Bound). bound_behind schemas form.1 all (length operations))
+                  there
                   ∙ rest.1.1,
               rest.1.2,
             ),

@@ -24,6 +24,7 @@ pub left_with : (gone : List Member) (jobs : List Job)
     → filter (λ job. not (goes_with_any (numbers_of gone) job)) jobs ≡ filter (λ job. not (goes_with gone job)) jobs
 left_with gone [] = refl
 left_with gone (job ∷ more) =
-    (λ i. cond (not (goes gone job.work job.tables i)) (job ∷ filter (λ other. not (goes_with_any (numbers_of gone) other)) more)
+    (λ i. cond (not (goes gone job.work job.tables i))
+    (job ∷ filter (λ other. not (goes_with_any (numbers_of gone) other)) more)
     (filter (λ other. not (goes_with_any (numbers_of gone) other)) more))
     ∙ ap (λ (rest : List Job). cond (not (goes_with gone job)) (job ∷ rest) rest) (left_with gone more)

@@ -1,5 +1,7 @@
 -- Rows are read as they are written.
-use Rattle.std.proofs.Common.{◌≡◌, ◌≢◌, ℕ, zero, suc, ◌<◌, ◌≤◌, Bool, true, false, List, [], ◌∷◌, ◌++◌, length, take, drop, get_or, Ok, Err, Result, refl, ap, sym, ◌∙◌, subst, arith, eqb, append_assoc, length-append}
+use Rattle.std.proofs.Common.{◌≡◌, ◌≢◌, ℕ, zero, suc, ◌<◌, ◌≤◌, Bool, true, false, List, [], ◌∷◌, ◌++◌, length, take}
+use Rattle.std.proofs.Common.{drop, get_or, Ok, Err, Result, refl, ap, sym, ◌∙◌, subst, arith, eqb, append_assoc}
+use Rattle.std.proofs.Common.{length-append}
 use Rattle.std.specs.Prelude.{codes}
 use Rattle.std.specs.List.{AllByRecursion}
 use Rattle.std.specs.Cmp.Lexicographic.{pointwise, same_text, nat_list_eq_equiv}
@@ -223,7 +225,8 @@ more_found_by n b bytes rest values false e h rec =
     let one = divided_found (b ∷ bytes) found.0.1 value found.1 in
     let others = rec found.0.1 more.0.1 more.0.0 more.1 in (
       one.0
-          ∙ ap (λ behind. codes ", " ++ (value_text value ++ behind)) (others.0 ∙ ap (λ r. more_text more.0.0 ++ 41 ∷ r) left)
+          ∙ ap (λ behind. codes ", " ++ (value_text value ++ behind))
+          (others.0 ∙ ap (λ r. more_text more.0.0 ++ 41 ∷ r) left)
           ∙ ap (λ r. codes ", " ++ r) (sym (append_assoc (value_text value) (more_text more.0.0) (41 ∷ rest)))
           ∙ ap (λ vs. more_text vs ++ 41 ∷ rest) all,
       subst AreValues all (one.1, others.1),
@@ -291,7 +294,8 @@ more_again (suc n) (value ∷ values) rest are le =
     omega (arith, le, ap length regrouped, length-append (value_text value) behind) in
     ap (more_at (suc n)) regrouped
     ∙ goes n 44 (32 ∷ (value_text value ++ behind)) refl
-    ∙ ap (λ r. r >>= λ value. with_value value.0 (more_at n value.1)) (divided_again value behind are.0 (over_more values rest))
+    ∙ ap (λ r. r >>= λ value. with_value value.0 (more_at n value.1))
+    (divided_again value behind are.0 (over_more values rest))
     ∙ ap (with_value value) (more_again n values rest are.1 short)
 
 row_again_from : (value : Value) (values : List Value) (rest : List ℕ) → AreValues (value ∷ values)

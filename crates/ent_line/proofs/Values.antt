@@ -1,5 +1,6 @@
 -- Values are read as they are written.
-use Rattle.std.proofs.Common.{◌≡◌, ℕ, zero, suc, pos, negsuc, ◌<◌, ◌≤◌, Bool, true, false, leb, List, [], ◌∷◌, ◌++◌, length, cond, Ok, Err, Result, refl, ap, sym, ◌∙◌, subst, arith, eqb, append_assoc}
+use Rattle.std.proofs.Common.{◌≡◌, ℕ, zero, suc, pos, negsuc, ◌<◌, ◌≤◌, Bool, true, false, leb, List, [], ◌∷◌, ◌++◌}
+use Rattle.std.proofs.Common.{length, cond, Ok, Err, Result, refl, ap, sym, ◌∙◌, subst, arith, eqb, append_assoc}
 use Rattle.std.specs.Prelude.{◌&&◌}
 use Rattle.std.specs.List.{list_all}
 use Rattle.std.specs.Char.{is_ascii_digit}
@@ -180,5 +181,6 @@ value_again (Int (pos n)) rest is over =
     let h : n < 18446744073709551616 = omega (arith, is) in
     digits_again n (decimal n) rest refl (decimal_nonempty n h) (digits_of n h)
     ∙ positive_again n rest le over
-value_again (Int (negsuc n)) rest is over = minus (decimal (suc n) ++ rest) ∙ negative_again n rest (omega (arith, is)) over
+value_again (Int (negsuc n)) rest is over =
+    minus (decimal (suc n) ++ rest) ∙ negative_again n rest (omega (arith, is)) over
 value_again (Text content) rest is over = quote ((doubled content ++ 39 ∷ []) ++ rest) ∙ text_again content rest is over

@@ -43,7 +43,8 @@ map_at f (y ∷ xs) (suc i) x d lt is = map_at f xs i x d (omega arith) is
 abbrev pub rows_at_first : Opening → TableSchema → Rows
 rows_at_first opening schema = set.from_list {R = row_cmp} (rows_named opening schema.name)
 
-pub opened : (opening : Opening) (schemas : List TableSchema) → schemas ≡ schemas_of opening.tables → map (rows_at_first opening) schemas ≡ opening_tables opening
+pub opened : (opening : Opening) (schemas : List TableSchema) → schemas ≡ schemas_of opening.tables
+    → map (rows_at_first opening) schemas ≡ opening_tables opening
 opened opening schemas is =
     ap (map (rows_at_first opening)) is
     ∙ map-map (rows_at_first opening) table_schema opening.tables
@@ -53,16 +54,21 @@ pub rows_of_table :
     → slice_get schemas number ≡ Some schema
     → rows ≡ rows_named opening (slice_index_or (names_of schemas) number []) → rows ≡ rows_named opening schema.name
 rows_of_table opening schemas number schema rows there is =
-    is ∙ ap (rows_named opening) (map_at (λ (s : TableSchema). s.name) schemas number schema [] (slice_get_within schemas number schema there) (sym (get_or_from_slice_get schemas number schema schema there)))
+    is ∙ ap (rows_named opening)
+    (map_at (λ (s : TableSchema). s.name) schemas number schema [] (slice_get_within schemas number schema there)
+    (sym (get_or_from_slice_get schemas number schema schema there)))
 
-kinded_at : (f : TableSchema → Rows) (schemas : List TableSchema) (number : ℕ) (schema : TableSchema) → AreKinded schemas (map f schemas) → slice_get schemas number ≡ Some schema → RowsHaveKinds (column_kinds schema) (f schema)
+kinded_at : (f : TableSchema → Rows) (schemas : List TableSchema) (number : ℕ) (schema : TableSchema)
+    → AreKinded schemas (map f schemas) → slice_get schemas number ≡ Some schema
+    → RowsHaveKinds (column_kinds schema) (f schema)
 kinded_at f [] number schema kinded there = absurd cc
 kinded_at f (first ∷ more) zero schema kinded there =
     let same : first ≡ schema = cc in
     subst (λ (s : TableSchema). RowsHaveKinds (column_kinds s) (f s)) same kinded.0
 kinded_at f (first ∷ more) (suc number) schema kinded there = kinded_at f more number schema kinded.1 there
 
-any_at : {A : Type 0} (t : A → Bool) (xs : List A) (k : ℕ) (d : A) → k < length xs → t (get_or xs k d) ≡ true → list_any t xs ≡ true
+any_at : {A : Type 0} (t : A → Bool) (xs : List A) (k : ℕ) (d : A) → k < length xs → t (get_or xs k d) ≡ true
+    → list_any t xs ≡ true
 any_at t [] k d lt is = absurd (omega arith)
 any_at t (x ∷ xs) zero d lt is = ap (λ b. b || list_any t xs) is
 any_at t (x ∷ xs) (suc k) d lt is = ap (λ b. t x || b) (any_at t xs k d (omega arith) is) ∙ either (t x)
@@ -72,9 +78,11 @@ any_at t (x ∷ xs) (suc k) d lt is = ap (λ b. t x || b) (any_at t xs k d (omeg
     either false = refl
 
 pub rows_fit :
-    (opening : Opening) (schemas : List TableSchema) (number : ℕ) (schema : TableSchema) (kinds : List Kind) (rows : List (List Value))
+    (opening : Opening) (schemas : List TableSchema) (number : ℕ) (schema : TableSchema) (kinds : List Kind)
+    (rows : List (List Value))
     → schemas ≡ schemas_of opening.tables
-    → slice_get schemas number ≡ Some schema → kinds ≡ column_kinds schema → rows ≡ rows_named opening (slice_index_or (names_of schemas) number [])
+    → slice_get schemas number ≡ Some schema → kinds ≡ column_kinds schema
+    → rows ≡ rows_named opening (slice_index_or (names_of schemas) number [])
     → AreKinded (schemas_of opening.tables) (opening_tables opening) → All (λ row. kinds_of row ≡ kinds) rows
 rows_fit opening schemas number schema kinds rows declared there kinds_are rows_are law k d lt =
     let kinded : AreKinded schemas (map (rows_at_first opening) schemas) =
@@ -84,7 +92,8 @@ rows_fit opening schemas number schema kinds rows declared there kinds_are rows_
     let row = get_or rows k d in
     let is = rows_of_table opening schemas number schema rows there rows_are in
     let contained : set.contains (set.from_list {R = row_cmp} rows) row ≡ true =
-    contains-from_list rows_total exact_rows rows row ∙ any_at (eq_by_cmp row_cmp row) rows k d lt ((eq_by_cmp_equiv rows_total).refl row) in
+    contains-from_list rows_total exact_rows rows row ∙ any_at (eq_by_cmp row_cmp row) rows k d lt
+    ((eq_by_cmp_equiv rows_total).refl row) in
     have row (ap (λ rs. set.contains (set.from_list {R = row_cmp} rs) row) (sym is) ∙ contained) ∙ sym kinds_are
 
 -- ---- no table is too full
@@ -93,9 +102,11 @@ few_rows : (opening : Opening) (name : Name) → length opening.rows ≤ MOST_RO
     → set.len (set.from_list {R = row_cmp} (rows_named opening name)) ≤ MOST_ROWS
 few_rows opening name le =
     let named = filter (λ (row : OpeningRow). same_name row.table.name name) opening.rows in
-    let a : set.len (set.from_list {R = row_cmp} (rows_named opening name)) ≤ length (map row_of named) = len-from_list rows_total exact_rows (map row_of named) in
+    let a : set.len (set.from_list {R = row_cmp} (rows_named opening name)) ≤ length (map row_of named) =
+    len-from_list rows_total exact_rows (map row_of named) in
     let b : length (map row_of named) ≡ length named = length-map named row_of in
-    let c : length named ≤ length opening.rows = shorter (λ (row : OpeningRow). same_name row.table.name name) opening.rows in
+    let c : length named ≤ length opening.rows =
+    shorter (λ (row : OpeningRow). same_name row.table.name name) opening.rows in
     omega arith
 
 never_full : {X : Type 0} (rows : RowSet) (x : X) (fault : TableFull) → set.len rows ≤ MOST_ROWS
@@ -110,7 +121,9 @@ pub fits_always : {X : Type 0} (opening : Opening) (name : Name) (rows : List (L
     → length opening.rows ≤ MOST_ROWS → rows ≡ rows_named opening name
     → bounded (set.from_list rows) x ≡ Err fault → ⊥
 fits_always {X} opening name rows x fault le is h =
-    never_full (set.from_list rows) x fault (subst (λ (rs : List (List Value)). set.len (set.from_list {R = row_cmp} rs) ≤ MOST_ROWS) (sym is) (few_rows opening name le)) h
+    never_full (set.from_list rows) x fault
+    (subst (λ (rs : List (List Value)). set.len (set.from_list {R = row_cmp} rs) ≤ MOST_ROWS) (sym is)
+    (few_rows opening name le)) h
 
 -- what a full table tells
 pub full_is : {Y : Type 0} (refusal : Refusal TableFull) (full : TableFull) (meant : Result Y TableFull)

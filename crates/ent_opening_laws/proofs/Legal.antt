@@ -22,7 +22,8 @@ still_good first second same run members good = record {
   distinct = good.distinct;
   of_run = good.of_run;
   grounded = λ read_view at.
-      sym (same_grounding first second same read_view.database read_view.environment read_view.entangled read_view.valuation)
+      sym (same_grounding first second same read_view.database read_view.environment read_view.entangled
+      read_view.valuation)
       ∙ good.grounded read_view at;
   met = good.met;
 }
@@ -36,7 +37,8 @@ module _ (book : Book Database) (opening : Opening) (alike : AreAlike book.openi
       ≡ scripts_run opening.tables turns (opening_database opening)
   run_is turns = λ i. same_runs book.opening.tables opening.tables same_names turns (alike.rows i) i
 
-  read_views_are : (turns : List Turn) → book_read_views book turns ≡ book_read_views (record book { opening = opening }) turns
+  read_views_are : (turns : List Turn)
+      → book_read_views book turns ≡ book_read_views (record book { opening = opening }) turns
   read_views_are turns = λ i. same_read_views book.opening.tables opening.tables same_names turns (alike.rows i) i
 
   pub still_legal : IsLegal book → IsLegal (record book { opening = opening })
@@ -66,6 +68,7 @@ module _ (book : Book Database) (opening : Opening) (alike : AreAlike book.openi
     good = λ joint at.
         still_good book.opening.tables opening.tables same_names
         (book_read_views (record book { opening = opening }) legal.turns) joint.members
-        (subst (λ (read_views : List ReadView). IsGood book.opening.tables read_views joint.members) (read_views_are legal.turns)
+        (subst (λ (read_views : List ReadView). IsGood book.opening.tables read_views joint.members)
+        (read_views_are legal.turns)
         (legal.good joint at));
   }

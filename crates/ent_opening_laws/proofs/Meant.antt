@@ -19,7 +19,8 @@ use Rattle.ent_semantics.specs.Database.{Database, Environment, Name, columns_of
 use Rattle.ent_semantics.specs.Effect.{deletion, replacement, shown}
 use Rattle.ent_semantics.specs.Entangled.{Valuation, condition_holds, is_grounding, term_worth, written_variables}
 use Rattle.ent_semantics.specs.Selection.{item_row, meets, select_rows, selection, source_rows}
-use Rattle.ent_semantics.specs.Serial.{Operation, Turn, after, operations_of, ended, ran_first, run, script_run, script_read_views}
+use Rattle.ent_semantics.specs.Serial.{Operation, Turn, after, operations_of, ended, ran_first, run, script_run}
+use Rattle.ent_semantics.specs.Serial.{script_read_views}
 use Rattle.ent_semantics.specs.Serial.{scripts_run, scripts_read_views, seen, seen_after, seen_from, read_views}
 use Rattle.ent_semantics.specs.Statement.{statement_meaning}
 use Rattle.ent_semantics.specs.Term.{operand_value, source_columns, source_name, table_columns}
@@ -91,7 +92,8 @@ module _ (first second : List Create) (same : (name : Name) → columns_of first
       → script_run first script oracle database ≡ script_run second script oracle database
   same_script_run script oracle database =
       λ i. ended script.end
-      (option_and_then (λ operations. same_run operations database nothing_bound i) (operations_of script.statements oracle))
+      (option_and_then (λ operations. same_run operations database nothing_bound i)
+      (operations_of script.statements oracle))
 
   pub same_runs : (turns : List Turn) (database : Database)
       → scripts_run first turns database ≡ scripts_run second turns database
@@ -103,7 +105,8 @@ module _ (first second : List Create) (same : (name : Name) → columns_of first
   -- ---- what entangled statements see
 
   same_seen : (tx place : ℕ) (operations : List Operation) (database : Database) (environment : Environment)
-      → read_views first tx place operations database environment ≡ read_views second tx place operations database environment
+      → read_views first tx place operations database environment ≡ read_views second tx place operations database
+      environment
   same_seen tx place [] database environment = refl
   same_seen tx place (operation ∷ more) database environment =
       λ i. seen tx place operation database environment

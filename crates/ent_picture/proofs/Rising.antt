@@ -1,5 +1,6 @@
 -- Numbers that rise.
-use Rattle.std.proofs.Common.{◌≡◌, ℕ, ◌+◌, ◌<◌, ◌≤◌, List, [], ◌∷◌, ◌++◌, length, get_or, inl, inr, sym, subst, eqb, arith, length-append}
+use Rattle.std.proofs.Common.{◌≡◌, ℕ, ◌+◌, ◌<◌, ◌≤◌, List, [], ◌∷◌, ◌++◌, length, get_or, inl, inr, sym, subst, eqb}
+use Rattle.std.proofs.Common.{arith, length-append}
 use Rattle.std.specs.List.{Contains, dedup}
 use Rattle.std.specs.List.Retain.{DiffersFromLast, IsFiltered}
 use Rattle.std.specs.List.Sorted.{IsPermutation, IsSorted, IsStrictlyIncreasing}
@@ -49,7 +50,8 @@ same_members xs sorted ys order kept tx =
     let is : ys ≡ dedup eqb sorted = dedup_is eqb sorted ys kept in (
       (λ h. Contains-permutation sorted xs tx (IsPermutation-sym xs sorted order)
           (Contains-from_dedup eqb sorted tx (subst (λ (l : List ℕ). Contains l tx) is h))),
-      (λ h. subst (λ (l : List ℕ). Contains l tx) (sym is) (Contains-dedup_nat sorted tx (Contains-permutation xs sorted tx order h))),
+      (λ h. subst (λ (l : List ℕ). Contains l tx) (sym is)
+          (Contains-dedup_nat sorted tx (Contains-permutation xs sorted tx order h))),
     )
 
 pub same_as_named : (found given named : List ℕ) → given ≡ named → ((tx : ℕ) → Contains found tx ↔ Contains given tx)

@@ -85,7 +85,8 @@ posted_is s m = by m.posted refl (next_of s m) refl
 
 -- the same, where number, attempt, place and what is bound are the same
 as_posted : (s : State) (one other : Member) → one.tx ≡ other.tx → one.attempt ≡ other.attempt
-    → one.place ≡ other.place → one.bound ≡ other.bound → one.posted ≡ other.posted → posted_by s one ≡ posted_by s other
+    → one.place ≡ other.place → one.bound ≡ other.bound → one.posted ≡ other.posted
+    → posted_by s one ≡ posted_by s other
 as_posted s one other tx attempt place bound posted =
     posted_is s one
     ∙ (λ i. asked_as (posted i) (tx i) (attempt i) (place i) (next i))
@@ -93,7 +94,8 @@ as_posted s one other tx attempt place bound posted =
   where
     next : next_of s one ≡ next_of s other
     next =
-        (λ i. next_in (numbered s.submitted (tx i)) one) ∙ next_same (numbered s.submitted other.tx) one other place bound
+        (λ i. next_in (numbered s.submitted (tx i)) one) ∙ next_same (numbered s.submitted other.tx) one other place
+        bound
 
 -- states with the same scripts and the same members have one pool
 pub pool_same : (s t : State) → s.submitted ≡ t.submitted → s.active ≡ t.active → pool s ≡ pool t
@@ -220,7 +222,8 @@ pub submitted_more : (s : State) (script : Script) (form : List (Statement Known
 submitted_more s script form within =
     flat_same (posted_by new) (posted_by s) s.active (λ m at.
     posted_is new m
-    ∙ (λ i. asked_as m.posted m.tx m.attempt m.place (next m (of_all (λ (m : Member). m.tx ≤ length s.submitted) s.active m within at) i))
+    ∙ (λ i. asked_as m.posted m.tx m.attempt m.place
+    (next m (of_all (λ (m : Member). m.tx ≤ length s.submitted) s.active m within at) i))
     ∙ sym (posted_is s m))
   where
     new : State

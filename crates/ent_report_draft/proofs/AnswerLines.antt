@@ -346,7 +346,8 @@ pub answer_has : (old : Draft) (text : List ℕ) (statement : Statement)
 answer_has old text statement due few next stands = record {
   text_is = stands.text_is;
   place = omega (arith, few);
-  sort = subst (λ s. IsOfSort s stands.answer) (same_Some stands.statement statement (sym stands.due ∙ due)) stands.sort;
+  sort = subst (λ s. IsOfSort s stands.answer) (same_Some stands.statement statement (sym stands.due ∙ due))
+      stands.sort;
   shape = stands.shape;
   so_many = stands.so_many;
 }

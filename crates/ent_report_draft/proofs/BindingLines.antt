@@ -163,7 +163,8 @@ any_member_found line tx place all h =
           ∙ ap (λ r. decimal m ++ r)
           (listed.text_is ∙ ap (λ r. all_text those ++ r) (no_bytes found.0.1 test.0) ∙ append-nil (all_text those)
           ∙ sym (bindings_are those))))
-          ∙ sym (append_assoc (decimal n) (codes "." ++ decimal m) (bindings_text (variables_of those) (values_of those))),
+          ∙ sym (append_assoc (decimal n) (codes "." ++ decimal m)
+          (bindings_text (variables_of those) (values_of those))),
       one.1,
       two.1,
       listed.are,
@@ -176,7 +177,8 @@ any_member_again tx place all small little are =
     let rest = all_text all in
     ap (λ r. any_member_at ((decimal tx ++ (codes "." ++ decimal place)) ++ r)) (bindings_are all)
     ∙ ap any_member_at (append_assoc (decimal tx) (codes "." ++ decimal place) rest)
-    ∙ bind_with (number_at (decimal tx ++ (codes "." ++ (decimal place ++ rest)))) (tx, codes "." ++ (decimal place ++ rest))
+    ∙ bind_with (number_at (decimal tx ++ (codes "." ++ (decimal place ++ rest))))
+    (tx, codes "." ++ (decimal place ++ rest))
     (λ tx. behind (codes ".") tx.1 >>= λ rest. number_at rest >>= λ place. all_bound_at place.1 >>= λ found.
     whole_line tx.0 place.0 found)
     (number_again 9223372036854775807 tx (codes "." ++ (decimal place ++ rest)) (omega arith) small refl)

@@ -1,5 +1,6 @@
 -- Lists from their end.
-use Rattle.std.proofs.Common.{◌≡◌, suc, Bool, true, ◌+◌, ◌-◌, List, [], ◌∷◌, ◌++◌, length, Some, None, Option, refl, sym, ap, subst, ◌∙◌, arith}
+use Rattle.std.proofs.Common.{◌≡◌, suc, Bool, true, ◌+◌, ◌-◌, List, [], ◌∷◌, ◌++◌, length, Some, None, Option, refl}
+use Rattle.std.proofs.Common.{sym, ap, subst, ◌∙◌, arith}
 use Rattle.std.specs.Prelude.{slice_get}
 use Rattle.std.proofs.lemmas.Option.{same_Some}
 use Rattle.std.specs.Cmp.Lexicographic.{slice_cmp}

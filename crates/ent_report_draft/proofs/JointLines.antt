@@ -25,7 +25,8 @@ joint_has old text few next stands = (
 )
 
 pub joint_stands : (old : Draft) (text : List ℕ) (number : ℕ) (places : List (ℕ × ℕ)) → TablesAreNext old
-    → old.told.tables ≡ [] → IsJointLine text (number, places) → number ≡ next_joint old → (joint_answers : List ToldJoint)
+    → old.told.tables ≡ [] → IsJointLine text (number, places) → number ≡ next_joint old
+    → (joint_answers : List ToldJoint)
     → joint_answers ≡ old.told.joint_answers ++ record { members = [] } ∷ []
     → (due : Due) → due ≡ members_due places
     → JointStands old (line text) (record { told = record old.told { joint_answers = joint_answers }; due = due })

@@ -1,5 +1,6 @@
 -- The lines of members.
-use Rattle.std.proofs.Common.{◌≡◌, ℕ, List, [], ◌∷◌, length, Option, Some, None, Result, Ok, Err, refl, ap, sym, ◌∙◌, subst, arith}
+use Rattle.std.proofs.Common.{◌≡◌, ℕ, List, [], ◌∷◌, length, Option, Some, None, Result, Ok, Err, refl, ap, sym, ◌∙◌}
+use Rattle.std.proofs.Common.{subst, arith}
 use Rattle.std.specs.List.{AllByRecursion}
 use Rattle.std.proofs.lemmas.Option.{same_Some}
 use Rattle.ent_value.specs.Value.{kinds_of}
@@ -26,8 +27,10 @@ use Rattle.ent_book.specs.Report.{line}
 use Rattle.ent_history.specs.declared.history.History.{History}
 use Rattle.ent_history.specs.declared.history.ToldJoint.{ToldJoint}
 use Rattle.ent_history.specs.declared.history.ToldMember.{ToldMember}
-use Rattle.ent_history_form.specs.Draft.{AnswerRows, Draft, Due, Ended, Free, Heading, Members, OpeningRows, TableRows, members_due, on_last}
-use Rattle.ent_history_form.specs.Joints.{Binds, MemberStands, PlacesRise, binds_of, member_binds, member_told, resolved_at, script_binds, with_member}
+use Rattle.ent_history_form.specs.Draft.{AnswerRows, Draft, Due, Ended, Free, Heading, Members, OpeningRows, TableRows}
+use Rattle.ent_history_form.specs.Draft.{members_due, on_last}
+use Rattle.ent_history_form.specs.Joints.{Binds, MemberStands, PlacesRise, binds_of, member_binds, member_told}
+use Rattle.ent_history_form.specs.Joints.{resolved_at, script_binds, with_member}
 use Rattle.ent_history_form.specs.Parts.{IsName, IsValue}
 use Rattle.ent_report_lines.specs.Bindings.{member_line}
 use Rattle.ent_report_draft.specs.Bindings.{IsAnyMember, IsKnownMember, bound_of, values_of, variables_of}
@@ -185,7 +188,8 @@ any_refused place text Memory numbers reads = tt
 any_refused place text (Fault fault) numbers reads =
     λ told is. let has = any_has place.0 place.1 text told numbers is in reads (place.0, place.1, has.0) has.1
 
-pub known_found : (binds : Binds) (names : List Name) → names ≡ binds.0 → (place : ℕ × ℕ) (text : List ℕ) (tx own : ℕ) (values : List Value)
+pub known_found : (binds : Binds) (names : List Name) → names ≡ binds.0
+    → (place : ℕ × ℕ) (text : List ℕ) (tx own : ℕ) (values : List Value)
     → (told : ToldMember) → IsKnownMember names text (tx, own, values) → tx ≡ place.0 → own ≡ place.1
     → kinds_of values ≡ binds.1 → told ≡ member_told place.0 place.1 binds.0 values
     → IsMemberLine (Some binds) place.0 place.1 text told
@@ -204,7 +208,8 @@ pub record KnownAt (binds : Binds) (place : ℕ × ℕ) (tx own : ℕ) (values :
   pub kinds : kinds_of values ≡ binds.1
 
 -- what stands there is at this place, and of these kinds
-pub known_at : (binds : Binds) (names : List Name) → names ≡ binds.0 → (place : ℕ × ℕ) (text : List ℕ) (tx own : ℕ) (values : List Value) (told : ToldMember)
+pub known_at : (binds : Binds) (names : List Name) → names ≡ binds.0
+    → (place : ℕ × ℕ) (text : List ℕ) (tx own : ℕ) (values : List Value) (told : ToldMember)
     → AreNumbers place → OnlyKnown names text (tx, own, values)
     → IsMemberLine (Some binds) place.0 place.1 text told → KnownAt binds place tx own values
 known_at binds names same place text tx own values told numbers only is =
@@ -216,7 +221,8 @@ known_at binds names same place text tx own values told numbers only is =
       kinds = ap kinds_of (sym (ap (λ (z : ℕ × ℕ × List Value). z.2) e)) ∙ is.right.1;
     }
 
-pub known_refused : (binds : Binds) (names : List Name) → names ≡ binds.0 → (place : ℕ × ℕ) (text : List ℕ) (refusal : Refusal LineFault) → AreNumbers place
+pub known_refused : (binds : Binds) (names : List Name) → names ≡ binds.0
+    → (place : ℕ × ℕ) (text : List ℕ) (refusal : Refusal LineFault) → AreNumbers place
     → Reads (IsKnownMember names text) (refusing refusal)
     → Finds (IsMemberLine (Some binds) place.0 place.1 text) (refusing refusal)
 known_refused binds names same place text Memory numbers reads = tt
@@ -337,7 +343,8 @@ member_has old text tx place more is next stands =
     let txs : stands.tx ≡ tx = cc in
     let places : stands.place ≡ place = cc in
     subst (λ (x : ℕ). (told : ToldMember) × IsMemberLine (member_binds old.told x place) x place text told) txs
-    (subst (λ (y : ℕ). (told : ToldMember) × IsMemberLine (member_binds old.told stands.tx y) stands.tx y text told) places (
+    (subst (λ (y : ℕ). (told : ToldMember) × IsMemberLine (member_binds old.told stands.tx y) stands.tx y text told)
+    places (
       member_told stands.tx stands.place stands.variables stands.values,
       record {
         variables = stands.variables;

@@ -1,5 +1,6 @@
 -- The opening as it grows.
-use Rattle.std.proofs.Common.{◌≡◌, ℕ, ◌-◌, ◌<◌, ◌≤◌, Bool, true, false, List, [], ◌∷◌, ◌++◌, map, length, Some, None, Option, refl, sym, ap, subst, ◌∙◌, inl, inr, arith}
+use Rattle.std.proofs.Common.{◌≡◌, ℕ, ◌-◌, ◌<◌, ◌≤◌, Bool, true, false, List, [], ◌∷◌, ◌++◌, map, length, Some, None}
+use Rattle.std.proofs.Common.{Option, refl, sym, ap, subst, ◌∙◌, inl, inr, arith}
 use Rattle.std.specs.List.{filter, AllByRecursion}
 use Rattle.std.specs.Cmp.Lexicographic.{slice_cmp, same_text, nat_list_eq_equiv}
 use Rattle.std.specs.Ordering.{nat_cmp, ordering_reverse}
@@ -42,7 +43,8 @@ apart : (name other : Name) → slice_cmp nat_cmp name other ≡ Less → same_n
 apart name other h = by (same_name name other) refl
   where
     by : (test : Bool) → same_name name other ≡ test → test ≡ false
-    by true e = absurd (not_below other (subst (λ n. slice_cmp nat_cmp n other ≡ Less) (same_text name other (sym e)) h))
+    by true e = absurd (not_below other
+        (subst (λ n. slice_cmp nat_cmp n other ≡ Less) (same_text name other (sym e)) h))
     by false e = refl
 
 below_next : (name last next : Name) → IsUpTo name last → slice_cmp nat_cmp last next ≡ Less
@@ -91,7 +93,8 @@ under_with opening create row =
     let name = create.name.name in
     let own : OpeningRow → Bool = λ (row : OpeningRow). same_name row.table.name name in
     let one : filter own (opening_row name row ∷ []) ≡ opening_row name row ∷ [] = rw (itself name) refl in
-    ap (map row_of) (filter-append own opening.rows (opening_row name row ∷ []) ∙ ap (λ rs. filter own opening.rows ++ rs) one)
+    ap (map row_of) (filter-append own opening.rows (opening_row name row ∷ [])
+    ∙ ap (λ rs. filter own opening.rows ++ rs) one)
     ∙ map-append row_of (filter own opening.rows) (opening_row name row ∷ [])
     ∙ ap (λ r. map row_of (filter own opening.rows) ++ r ∷ []) (values_again name row)
 
@@ -114,9 +117,11 @@ pub opened : (tables : List Create) (rows : List OpeningRow) (last_row : Option 
     → IsInOrder tables rows last_row → NamesAscend tables create → IsInOrder (tables ++ create ∷ []) rows None
 opened tables rows last_row create order ascends =
     let below = rows_below tables rows last_row create order ascends in record {
-      reached = λ own h. subst (λ (c : Create). AllByRecursion (λ (row : OpeningRow). IsUpTo row.table.name c.name.name) rows)
+      reached = λ own h. subst
+          (λ (c : Create). AllByRecursion (λ (row : OpeningRow). IsUpTo row.table.name c.name.name) rows)
           (is_last own h) (all_up_to create.name.name rows below);
-      own = λ own h. subst (λ (c : Create). last_of (rows_named (record { tables = tables ++ create ∷ []; rows = rows }) c.name.name) ≡ None)
+      own = λ own h. subst (λ (c : Create). last_of
+          (rows_named (record { tables = tables ++ create ∷ []; rows = rows }) c.name.name) ≡ None)
           (is_last own h) (ap (λ rs. last_of (map row_of rs)) (none_under create.name.name rows below));
       none = λ h. let e : Some create ≡ None = sym (last_of-push tables create) ∙ h in cc;
     }
@@ -130,9 +135,14 @@ pub grown : (tables : List Create) (rows : List OpeningRow) (last_row : Option (
     (row : List Value) → last_of tables ≡ Some create → IsInOrder tables rows last_row
     → IsInOrder tables (rows ++ opening_row create.name.name row ∷ []) (Some row)
 grown tables rows last_row create row there order = record {
-  reached = λ own h. subst (λ (c : Create). AllByRecursion (λ (row : OpeningRow). IsUpTo row.table.name c.name.name) (rows ++ opening_row create.name.name row ∷ []))
-      (is_last own h) (all_behind create.name.name rows (opening_row create.name.name row) (inr refl) (order.reached create there));
-  own = λ own h. subst (λ (c : Create). last_of (rows_named (record { tables = tables; rows = rows ++ opening_row create.name.name row ∷ [] }) c.name.name) ≡ Some row)
+  reached = λ own h. subst
+      (λ (c : Create). AllByRecursion (λ (row : OpeningRow). IsUpTo row.table.name c.name.name)
+      (rows ++ opening_row create.name.name row ∷ []))
+      (is_last own h) (all_behind create.name.name rows (opening_row create.name.name row) (inr refl)
+      (order.reached create there));
+  own = λ own h. subst (λ (c : Create). last_of
+      (rows_named (record { tables = tables; rows = rows ++ opening_row create.name.name row ∷ [] }) c.name.name) ≡ Some
+      row)
       (is_last own h) (ap last_of (under_with (record { tables = tables; rows = rows }) create row)
       ∙ last_of-push (rows_named (record { tables = tables; rows = rows }) create.name.name) row);
   none = λ h. let e : Some create ≡ None = sym there ∙ h in cc;
@@ -164,21 +174,30 @@ pub is_below : (tables : List Create) (rows : List OpeningRow) (last_row : Optio
 is_below tables rows last_row create row order there takes =
     let same : takes.create ≡ create = same_Some takes.create create (sym takes.last ∙ there) in
     let e : last_of (rows_named (record { tables = tables; rows = rows }) takes.create.name.name) ≡ last_row =
-    ap (λ (c : Create). last_of (rows_named (record { tables = tables; rows = rows }) c.name.name)) same ∙ order.own create there in
+    ap (λ (c : Create). last_of (rows_named (record { tables = tables; rows = rows }) c.name.name)) same
+    ∙ order.own create there in
     subst (λ o. EndsBelow o row) e
     (ends_below_if (rows_named (record { tables = tables; rows = rows }) takes.create.name.name) row takes.ascends)
 
 pub is_of_kinds : (opening : Opening) (create : Create) (row : List Value) → last_of opening.tables ≡ Some create
     → OpeningTakes opening row → kinds_of row ≡ map (λ column. column.kind) create.columns
 is_of_kinds opening create row there takes =
-    takes.kinds ∙ ap (λ (c : Create). map (λ column. column.kind) c.columns) (same_Some takes.create create (sym takes.last ∙ there))
+    takes.kinds ∙ ap (λ (c : Create). map (λ column. column.kind) c.columns)
+    (same_Some takes.create create (sym takes.last ∙ there))
 
 -- a row is no longer than the columns
 pub no_longer : (opening : Opening) (create : Create) (row : List Value) → last_of opening.tables ≡ Some create
     → OpeningTakes opening row → length create.columns ≤ MOST_PARTS → length row ≤ MOST_PARTS
 no_longer opening create row there can few =
     let kinds = is_of_kinds opening create row there can in
-    omega (arith, few, ap length kinds, length-map row kind_of, length-map create.columns (λ (column : Column). column.kind))
+    omega (
+      arith,
+      few,
+      ap length kinds,
+      length-map row kind_of,
+      length-map create.columns
+          (λ (column : Column). column.kind),
+    )
 
 -- ---- kinds
 
@@ -191,7 +210,8 @@ pub kinds_at : (row : List Value) (columns : List Column) (i : ℕ) (value : Val
 kinds_at row columns i value column within even is_value is_column same =
     let kind : Column → Kind = λ column. column.kind in
     let left : slice_get (kinds_of row) i ≡ Some (kind_of value) =
-    slice_get-map kind_of row i ∙ ap (option_map kind_of) (slice_get_read row (length row) i value refl within is_value) in
+    slice_get-map kind_of row i
+    ∙ ap (option_map kind_of) (slice_get_read row (length row) i value refl within is_value) in
     let right : slice_get (map kind columns) i ≡ Some (kind column) =
     slice_get-map kind columns i
     ∙ ap (option_map kind) (slice_get_read columns (length row) i column even within is_column) in

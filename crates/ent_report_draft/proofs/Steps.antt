@@ -12,7 +12,8 @@ use Rattle.ent_report_draft.specs.Reading.{Reads}
 abbrev pub refusing : {A : Type 0} → Refusal LineFault → Result A (Refusal LineFault)
 refusing refusal = Err refusal
 
-pub refused : {A : Type 0} (B : Type 0) (is : A → Type 0) (stands : Draft → Type 0) (old : Draft) (refusal : Refusal LineFault)
+pub refused : {A : Type 0} (B : Type 0) (is : A → Type 0) (stands : Draft → Type 0) (old : Draft)
+    (refusal : Refusal LineFault)
     → Reads is (refusing {A = A} refusal) → ((next : Draft) → stands next → (x : A) × is x)
     → Judges stands old (refusing {A = B} refusal) old
 refused B is stands old Memory reads has = tt

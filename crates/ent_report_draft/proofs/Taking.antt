@@ -15,8 +15,10 @@ use Rattle.ent_value.specs.declared.refusal.Refusal.TheVariants.{Memory, Fault}
 use Rattle.ent_line.specs.declared.fault.LineFault.{LineFault}
 use Rattle.ent_report_draft.specs.Judging.{Cannot, Judges, TellsWhether, Unless}
 use Rattle.ent_report_draft.specs.Members.{MemberHasWords}
-use Rattle.ent_report_draft.specs.Taking.{NoLine, NothingAbove, NothingBelow, TakesAbove, TakesBelow, TakesFree, TakesLine}
-use Rattle.ent_report_draft.proofs.Which.{answer_row_only, heading_only, member_only, nothing_more, opening_row_only, table_row_only, wants}
+use Rattle.ent_report_draft.specs.Taking.{NoLine, NothingAbove, NothingBelow, TakesAbove, TakesBelow, TakesFree}
+use Rattle.ent_report_draft.specs.Taking.{TakesLine}
+use Rattle.ent_report_draft.proofs.Which.{answer_row_only, heading_only, member_only, nothing_more, opening_row_only}
+use Rattle.ent_report_draft.proofs.Which.{table_row_only, wants}
 
 -- no member is due
 no_words : (draft : Draft) → ((tx place : ℕ) (more : List (ℕ × ℕ)) → draft.due ≡ Members tx place more → ⊥)

@@ -26,7 +26,8 @@ use Rattle.ent_rules.specs.Joint.{left_out, left_out_findings, members_findings}
 use Rattle.ent_rules.specs.Journal.{journal_from, number_finding, unless}
 use Rattle.ent_rules.specs.Placed.{Placed, members_from, placed, placed_from}
 use Rattle.ent_rules.specs.Post.{post_findings}
-use Rattle.ent_rules.specs.Replay.{account_operations, account_run, operations_findings, found_after, found_from, ground_finding}
+use Rattle.ent_rules.specs.Replay.{account_operations, account_run, operations_findings, found_after, found_from}
+use Rattle.ent_rules.specs.Replay.{ground_finding}
 use Rattle.ent_rules.specs.Replay.{is_answered, later, replay_findings, ungrounded}
 use Rattle.ent_rules.specs.Table.{end_findings, tables_findings}
 use Rattle.ent_rules.specs.Verdict.{first_of}
@@ -84,7 +85,8 @@ module _ (most : ℕ) where
   left_out_among : (members : List Member) (all : List Account) → AreAmong (left_out_findings members all)
   left_out_among members all = flat (left_out members) all (λ account. unless_among _ _ _ tt)
 
-  posts_among : (run : List ReadView) (number : ℕ) (joints : List JointAnswer) → AreAmong (post_findings run number joints)
+  posts_among : (run : List ReadView) (number : ℕ) (joints : List JointAnswer)
+      → AreAmong (post_findings run number joints)
   posts_among run number [] = tt
   posts_among run number (joint ∷ more) = both _ _ (unless_among _ _ _ tt) (posts_among run (suc number) more)
 
@@ -142,7 +144,8 @@ module _ (most : ℕ) where
     replay_among [] database = tt
     replay_among (account ∷ more) database =
         both _ _
-        (operations_among account.tx 1 (account_operations declared members account) account.answers database nothing_bound)
+        (operations_among account.tx 1 (account_operations declared members account) account.answers database
+        nothing_bound)
         (from_among (account_run declared members account database) _ (λ database. replay_among more database))
 
 -- ---- the numbers of members

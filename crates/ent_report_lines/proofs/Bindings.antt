@@ -1,5 +1,6 @@
 -- The line of a member of a joint answer is read as it is written.
-use Rattle.std.proofs.Common.{◌≡◌, ℕ, eqb, List, [], ◌∷◌, ◌++◌, length, Ok, Err, Result, refl, ap, sym, ◌∙◌, subst, arith, append_assoc}
+use Rattle.std.proofs.Common.{◌≡◌, ℕ, eqb, List, [], ◌∷◌, ◌++◌, length, Ok, Err, Result, refl, ap, sym, ◌∙◌, subst}
+use Rattle.std.proofs.Common.{arith, append_assoc}
 use Rattle.std.specs.Prelude.{codes}
 use Rattle.std.specs.List.{AllByRecursion}
 use Rattle.std.specs.Char.{is_ascii_digit}
@@ -30,7 +31,8 @@ with_values_more values value (Ok more) = ap ok (sym (append_assoc values (value
 with_values_more values value (Err fault) = refl
 
 bindings_step : (name : Name) (names : List Name) (bytes : List ℕ)
-    → bindings_at (name ∷ names) bytes ≡ (binding_at name bytes >>= λ found. with_first found.0 (bindings_at names found.1))
+    → bindings_at (name ∷ names)
+    bytes ≡ (binding_at name bytes >>= λ found. with_first found.0 (bindings_at names found.1))
 unfolding bindings_at
 bindings_step name names bytes = refl
 
@@ -188,7 +190,8 @@ module _ (parts : Parts)
   member_again tx place names values small little are paired =
       let rest = bindings_text names values in
       ap (member_at names) (append_assoc (decimal tx) (codes "." ++ decimal place) rest)
-      ∙ bind_with (number_at (decimal tx ++ (codes "." ++ (decimal place ++ rest)))) (tx, codes "." ++ (decimal place ++ rest))
+      ∙ bind_with (number_at (decimal tx ++ (codes "." ++ (decimal place ++ rest))))
+      (tx, codes "." ++ (decimal place ++ rest))
       (λ tx. behind (codes ".") tx.1 >>= λ rest. number_at rest >>= λ place. bindings_at names place.1 >>= λ values.
       ok (tx.0, place.0, values))
       (parts.number_again 9223372036854775807 tx (codes "." ++ (decimal place ++ rest)) (omega arith) small refl)

@@ -1,5 +1,6 @@
 -- Lines that say how many are read as they are written.
-use Rattle.std.proofs.Common.{◌≡◌, ℕ, ◌≤◌, Bool, true, false, eqb, List, [], ◌∷◌, ◌++◌, length, Ok, Err, Result, refl, ap, sym, ◌∙◌, subst, arith, cond}
+use Rattle.std.proofs.Common.{◌≡◌, ℕ, ◌≤◌, Bool, true, false, eqb, List, [], ◌∷◌, ◌++◌, length, Ok, Err, Result, refl}
+use Rattle.std.proofs.Common.{ap, sym, ◌∙◌, subst, arith, cond}
 use Rattle.std.specs.Prelude.{codes}
 use Rattle.std.specs.Char.{is_ascii_digit}
 use Rattle.std.specs.Fmt.{decimal}
@@ -126,7 +127,8 @@ module _ (parts : Parts)
             ∙ ap (λ r. decimal n ++ r)
             (parts.behind_found (codes " set ") first.0.1 word.0 word.1
             ∙ ap (λ r. codes " set " ++ r)
-            (is.0 ∙ ap (λ r. value_text found.0.0 ++ r) (no_bytes found.0.1 end.0) ∙ append-nil (value_text found.0.0))),
+            (is.0 ∙ ap (λ r. value_text found.0.0 ++ r) (no_bytes found.0.1 end.0)
+            ∙ append-nil (value_text found.0.0))),
         one.1,
         is.1,
       )

@@ -1,5 +1,6 @@
 -- The line of a transaction is read as it is written.
-use Rattle.std.proofs.Common.{◌≡◌, ℕ, Bool, true, false, cond, eqb, leb, List, [], ◌++◌, length, Ok, Err, Result, refl, ap, sym, ◌∙◌, subst, arith}
+use Rattle.std.proofs.Common.{◌≡◌, ℕ, Bool, true, false, cond, eqb, leb, List, [], ◌++◌, length, Ok, Err, Result, refl}
+use Rattle.std.proofs.Common.{ap, sym, ◌∙◌, subst, arith}
 use Rattle.std.specs.Prelude.{codes, slice_index}
 use Rattle.std.specs.Fmt.{decimal}
 use Rattle.std.proofs.lemmas.Bool.{leb-true, le-leb}
@@ -143,7 +144,8 @@ module _ (parts : Parts) where
   fate_found : (bytes : List ℕ) (fate : Fate) → fate_at bytes ≡ Ok fate → FateStands bytes fate
   unfolding fate_at
   fate_found bytes fate h =
-      fate_by bytes fate (eqb (slice_index bytes 0) 99) (eqb (slice_index bytes 0) 103) (eqb (slice_index bytes 0) 114) h
+      fate_by bytes fate (eqb (slice_index bytes 0) 99) (eqb (slice_index bytes 0) 103) (eqb (slice_index bytes 0) 114)
+      h
 
   pub transaction_found : (line : List ℕ) (tx : ℕ) (fate : Fate) → transaction_at line ≡ Ok (tx, fate)
       → (line ≡ transaction_text tx fate) × IsNumber tx × IsFate fate

@@ -103,7 +103,8 @@ heads_found line place facts h =
           ∙ ap (λ r. decimal n ++ r)
           (behind_found (codes " answer") first.0.1 word.0 word.1
           ∙ ap (λ r. codes " answer" ++ r)
-          (listed.text_is ∙ ap (λ r. facts_text those ++ r) (no_bytes found.0.1 tests.0) ∙ append-nil (facts_text those))),
+          (listed.text_is ∙ ap (λ r. facts_text those ++ r) (no_bytes found.0.1 tests.0)
+          ∙ append-nil (facts_text those))),
       one.1,
       nonempty those tests.1,
       listed.are,

@@ -170,6 +170,7 @@ joint_again number places small some rising =
     ∙ bind_with (number_at (decimal number ++ text)) (number, text)
     (λ number. places_at number.1 >>= λ places. whole_line number.0 places)
     (number_again 9223372036854775807 number text (omega arith) small (no_digit places))
-    ∙ bind_with (places_at text) (places, []) (λ places. whole_line number places) (all_places places (are_places places rising))
+    ∙ bind_with (places_at text) (places, []) (λ places. whole_line number places)
+    (all_places places (are_places places rising))
     ∙ ap (λ (t : Bool). wanted t (number, places))
     (both_and (not (eqb (length places) 0)) (rise places) (is_nonempty places some) (is_rising places rising))

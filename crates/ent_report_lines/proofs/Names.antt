@@ -70,7 +70,8 @@ free word (Some keyword) e none = absurd (none keyword (found_is_keyword word ke
 pub is_name_of : (word : List ℕ) → IsName word → is_name word ≡ true
 is_name_of word is =
     let same : is.0.0 ≡ word = is.0.1.1 in
-    let like = subst (λ bytes. (is_ascii_alphabetic (slice_index bytes 0) ≡ true) × (list_all is_word_byte bytes ≡ true)) same
+    let like = subst (λ bytes. (is_ascii_alphabetic (slice_index bytes 0) ≡ true)
+    × (list_all is_word_byte bytes ≡ true)) same
     (is.0.1.0.0, is.0.1.0.1) in
     both_and (is_word word) (is_none (keyword_of word))
     (both_and (leb (length word) LONGEST_NAME) (is_ascii_alphabetic (slice_index word 0) && list_all is_word_byte word)
@@ -108,7 +109,8 @@ pub name_again : (name : Name) (rest : List ℕ) → IsName name → Stops is_wo
 name_again name rest is stop =
     let e = is_name_of name is in
     let all = word_bytes name e in
-    named (name ++ rest) name rest (taken_is is_word_byte name rest all stop) (after_is is_word_byte name rest all stop) e
+    named (name ++ rest) name rest (taken_is is_word_byte name rest all stop) (after_is is_word_byte name rest all stop)
+    e
 
 -- ---- the test by the tokens of the word
 

@@ -22,7 +22,8 @@ use Rattle.ent_report_lines.proofs.Columns.{columns_found, columns_again, distin
 use Rattle.ent_report_lines.proofs.Names.{name_found, name_again}
 
 abbrev whole_line : List ℕ → List Column → ℕ × List ℕ → Result (Create × ℕ) LineFault
-whole_line name columns count = wanted (eqb (length count.1) 0 && are_distinct columns) (create_of name columns, count.0)
+whole_line name columns count =
+    wanted (eqb (length count.1) 0 && are_distinct columns) (create_of name columns, count.0)
 
 pub opening_found : (line : List ℕ) (create : Create) (count : ℕ) → opening_at line ≡ Ok (create, count)
     → (line ≡ opening_text create count) × IsDeclaration create × IsNumber count

@@ -94,7 +94,8 @@ first_by : (old new : Draft) (text first behind : List ℕ) (rest : Option (List
     → Steps old new text rest
 first_by old new text first behind None is word none steps =
     (nothing_in_front old text first behind is word none steps.0, steps.1)
-first_by old new text first behind (Some rest) is word none steps = takes_in_text old new text first behind rest is steps
+first_by old new text first behind (Some rest) is word none steps =
+    takes_in_text old new text first behind rest is steps
 
 pub steps_by : {E : Type 0} (old between new : Draft) (text first behind : List ℕ)
     (result : Result (Option (Bor (List ℕ))) E) → IsFirstLine text first behind → NextTableIsWord old

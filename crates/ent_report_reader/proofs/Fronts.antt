@@ -1,5 +1,6 @@
 -- Lines in front of a text.
-use Rattle.std.proofs.Common.{◌≡◌, ◌≢◌, ℕ, suc, ◌+◌, ◌<◌, ◌≤◌, not, List, [], ◌∷◌, ◌++◌, length, Option, Some, None, take, drop, refl, ap, sym, ◌∙◌, subst, inl, inr, arith, append_assoc, length-append}
+use Rattle.std.proofs.Common.{◌≡◌, ◌≢◌, ℕ, suc, ◌+◌, ◌<◌, ◌≤◌, not, List, [], ◌∷◌, ◌++◌, length, Option, Some, None}
+use Rattle.std.proofs.Common.{take, drop, refl, ap, sym, ◌∙◌, subst, inl, inr, arith, append_assoc, length-append}
 use Rattle.std.specs.Prelude.{IfNone, IfSome, get_or}
 use Rattle.std.specs.List.{list_all}
 use Rattle.std.specs.Str.{IsCharBoundary, IsUtf8}
@@ -114,7 +115,8 @@ cut_at text front rest at is long = omega (arith, long, ap length is, length-app
 pub front_boundary : (text front rest : List ℕ) (at : ℕ) → text ≡ front ++ rest → at + length rest ≡ length text
     → IsUtf8 rest → IsCharBoundary text at
 front_boundary text front rest at is long whole =
-    subst (IsCharBoundary text) (sym (cut_at text front rest at is long)) (IsCharBoundary-at_seam text front rest is whole)
+    subst (IsCharBoundary text) (sym (cut_at text front rest at is long))
+    (IsCharBoundary-at_seam text front rest is whole)
 
 pub front_cut : (text front rest one other : List ℕ) (most at : ℕ) → at + length rest ≡ length text
     → one ≡ take at text → other ≡ drop at text → AreFrontLines text most front rest → AreFrontLines text most one other

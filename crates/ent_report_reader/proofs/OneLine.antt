@@ -1,5 +1,6 @@
 -- Each thing that stands but a script is one line: no line ends inside it.
-use Rattle.std.proofs.Common.{◌≡◌, ◌⊎◌, inl, inr, ℕ, suc, ◌+◌, ◌&&◌, true, List, [], ◌∷◌, ◌++◌, length, Option, Some, None, refl, ap, sym, ◌∙◌, subst, append_assoc}
+use Rattle.std.proofs.Common.{◌≡◌, ◌⊎◌, inl, inr, ℕ, suc, ◌+◌, ◌&&◌, true, List, [], ◌∷◌, ◌++◌, length, Option, Some}
+use Rattle.std.proofs.Common.{None, refl, ap, sym, ◌∙◌, subst, append_assoc}
 use Rattle.std.specs.Prelude.{codes, negsuc, pos, slice_get}
 use Rattle.std.specs.List.{AllByRecursion, list_all, flat_map}
 use Rattle.std.specs.Fmt.{decimal}
@@ -33,7 +34,8 @@ use Rattle.ent_report_lines.specs.Openings.{opening_text}
 use Rattle.ent_history_form.specs.Parts.{IsName, IsRow, IsValue}
 use Rattle.ent_history_form.specs.Draft.{Draft}
 use Rattle.ent_history_form.specs.Opening.{HeadingStands, IsDeclaration, OpeningRowStands, OpeningStands}
-use Rattle.ent_history_form.specs.Answers.{AnswerRowStands, AnswerStands, IsAnswer, IsFact, TxStands, answer_line_text, answers_so_far}
+use Rattle.ent_history_form.specs.Answers.{AnswerRowStands, AnswerStands, IsAnswer, IsFact, TxStands, answer_line_text}
+use Rattle.ent_history_form.specs.Answers.{answers_so_far}
 use Rattle.ent_history_form.specs.Joints.{Binds, BindsRight, JointStands, MemberStands, member_binds, place_text}
 use Rattle.ent_history_form.specs.Tables.{EndStands, TableRowStands, TableStands}
 use Rattle.ent_history_form.specs.Scripts.{ScriptStands}

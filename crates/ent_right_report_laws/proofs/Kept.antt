@@ -54,7 +54,8 @@ pub script_ran : (declared : List Create) (script : Script) (oracle : List Valua
 script_ran declared script oracle d r e =
     let x = then_some (λ operations. run declared operations d nothing_bound) (operations_of script.statements oracle) r
     (ended_some script.end
-    (option_and_then (λ operations. run declared operations d nothing_bound) (operations_of script.statements oracle)) r e) in
+    (option_and_then (λ operations. run declared operations d nothing_bound) (operations_of script.statements oracle)) r
+    e) in
     record { operations = x.0; are = x.1; runs = x.2 }
 
 -- the first of several scripts ran, and the others behind it
@@ -84,7 +85,8 @@ module _ (keeps : Keeps) (declared : List Create) (name : Name) where
       → Stays st → (effect : Effect Database) → m ≡ Ok effect → effect.database name ≡ d name
   kept_effect st d m kept stays effect is = subst (KeepsOthers st d) is kept name stays
 
-  kept_run : (operations : List Operation) (d : Database) (v : Environment) (r : Run) → run declared operations d v ≡ Some r
+  kept_run : (operations : List Operation) (d : Database) (v : Environment) (r : Run)
+      → run declared operations d v ≡ Some r
       → ((operation : Operation) → In operation operations → Stays operation.statement) → r.database name ≡ d name
   kept_run [] d v r runs stay = ap (λ (x : Run). x.database name) (sym (one runs))
     where
@@ -92,7 +94,8 @@ module _ (keeps : Keeps) (declared : List Create) (name : Name) where
           → record { database = d; environment = v; answers = [] } ≡ r
       one e = cc
   kept_run (operation ∷ more) d v r runs stay =
-      let on = goes_on (statement_meaning declared operation.statement operation.valuation d v) (run declared more) r runs in
+      let on = goes_on (statement_meaning declared operation.statement operation.valuation d v) (run declared more) r
+      runs in
       ap (λ (x : Run). x.database name) on.whole
       ∙ kept_run more on.effect.database on.effect.environment on.rest on.rests (λ x at. stay x (inr at))
       ∙ kept_effect operation.statement d (statement_meaning declared operation.statement operation.valuation d v)

@@ -163,7 +163,8 @@ module _ (laws : Laws) (book : Book Database) (bare : IsBare book) where
     shown = laws.shown declared book.database
         (laws.rows declared legal.turns (opening_database (told_opening book.opening)) left tables_opened turns_run
         first_holds grounded legal.runs.run);
-    told = λ read_view c. laws.read_views (told_by book) legal.turns (opening_database (told_opening book.opening)) read_view
+    told = λ read_view c. laws.read_views (told_by book) legal.turns (opening_database (told_opening book.opening))
+        read_view
         tables_opened turns_run (λ turn at. legal.runs.own_scripts turn at) first_holds grounded c;
   }
 

@@ -5,7 +5,8 @@ use Rattle.ent_tree.specs.declared.declaration.Create.{Create}
 use Rattle.ent_tree.specs.declared.script.Statement.{Statement}
 use Rattle.ent_tree.specs.declared.script.Statement.TheVariants as statements
 use Rattle.ent_semantics.specs.Database.{Database, Environment, nothing_bound}
-use Rattle.ent_semantics.specs.Serial.{Operation, Run, ReadView, Turn, operations_of, numbered, script_run, script_read_views}
+use Rattle.ent_semantics.specs.Serial.{Operation, Run, ReadView, Turn, operations_of, numbered, script_run}
+use Rattle.ent_semantics.specs.Serial.{script_read_views}
 use Rattle.ent_semantics.specs.Serial.{scripts_read_views, seen, seen_after, seen_from, read_views}
 use Rattle.ent_semantics.specs.Statement.{statement_meaning}
 use Rattle.ent_rules.proofs.Operations.{in_after, seen_one}
@@ -74,7 +75,8 @@ module _ (declared : List Create) where
           → (operations : List Operation) × (operations_of turn.script.statements turn.oracle ≡ Some operations)
           × In s (read_views declared turn.tx 1 operations d nothing_bound)
       by (Some operations) e =
-          let same : script_read_views declared turn d ≡ read_views declared turn.tx 1 operations d nothing_bound = rw e refl in
+          let same : script_read_views declared turn d ≡ read_views declared turn.tx 1 operations d nothing_bound =
+          rw e refl in
           (operations, e, subst (In s) same at)
       by None e =
           let same : script_read_views declared turn d ≡ [] = rw e refl in

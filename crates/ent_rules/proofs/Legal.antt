@@ -11,7 +11,8 @@ use Rattle.ent_semantics.specs.declared.book.JointAnswer.{JointAnswer}
 use Rattle.ent_semantics.specs.declared.book.Member.{Member}
 use Rattle.ent_semantics.specs.Book.{IsLegal, RunGivesBook, AreApart, all_members, book_read_views}
 use Rattle.ent_semantics.specs.Database.{Name, Database, opening_database}
-use Rattle.ent_semantics.specs.Joint.{IsGood, IsGrounded, IsOffered, StandsIn, member_of, read_view_heads, read_view_posts}
+use Rattle.ent_semantics.specs.Joint.{IsGood, IsGrounded, IsOffered, StandsIn, member_of, read_view_heads}
+use Rattle.ent_semantics.specs.Joint.{read_view_posts}
 use Rattle.ent_semantics.specs.Serial.{ReadView, Turn, numbered}
 use Rattle.ent_semantics.specs.Uses.{changes}
 use Rattle.ent_history.specs.declared.history.History.{History}
@@ -259,7 +260,8 @@ module _ (history : History) (formed : IsFormed history) (keeps : Keeps) (none :
       none) joint at
 
   met : (joint : JointAnswer) → In joint joints → (s : ReadView)
-      → StandsIn (book_read_views (book history) turns) joint.members s → (post : Fact) → Contains (read_view_posts s) post
+      → StandsIn (book_read_views (book history) turns) joint.members s → (post : Fact)
+      → Contains (read_view_posts s) post
       → IsOffered (book_read_views (book history) turns) joint.members post
   met joint jt s stands post c =
       let own = read_views_of seen joint.members in

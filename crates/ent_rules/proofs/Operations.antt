@@ -13,7 +13,8 @@ use Rattle.ent_semantics.specs.Database.{Database, Environment}
 use Rattle.ent_semantics.specs.Effect.{Effect}
 use Rattle.ent_semantics.specs.Entangled.{Valuation, is_grounding}
 use Rattle.ent_semantics.specs.Joint.{IsGrounded}
-use Rattle.ent_semantics.specs.Serial.{Operation, Run, ReadView, is_entangled, operation_first, operations_of, answered_first}
+use Rattle.ent_semantics.specs.Serial.{Operation, Run, ReadView, is_entangled, operation_first, operations_of}
+use Rattle.ent_semantics.specs.Serial.{answered_first}
 use Rattle.ent_semantics.specs.Serial.{after, run, seen, seen_after, read_views}
 use Rattle.ent_semantics.specs.Statement.{statement_meaning}
 use Rattle.ent_rules.specs.Journal.{unless}
@@ -134,7 +135,8 @@ pub record SplitOperations (st : Statement) (more : List Statement) (operations 
 split_plain : (st : Statement) (more : List Statement) (oracle : List Valuation) (operations : List Operation)
     → operation_first st [] (operations_of more oracle) ≡ Some operations → SplitOperations st more operations
 split_plain st more oracle operations e =
-    let x = mapped_some (λ (ds : List Operation). record { statement = st; valuation = [] } ∷ ds) (operations_of more oracle)
+    let x = mapped_some (λ (ds : List Operation). record { statement = st; valuation = [] } ∷ ds)
+    (operations_of more oracle)
     operations e in
     record { valuation = []; rest = x.0; others = oracle; rests = x.1; whole = x.2; plain = λ p. refl }
 
@@ -153,15 +155,21 @@ split_operations (statements.Entangled entangled) more (valuation ∷ oracle) op
       whole = x.2;
       plain = λ p. cc (p);
     }
-split_operations (statements.Select select) more oracle operations e = split_plain (statements.Select select) more oracle operations e
-split_operations (statements.Insert insert) more oracle operations e = split_plain (statements.Insert insert) more oracle operations e
-split_operations (statements.Delete delete) more oracle operations e = split_plain (statements.Delete delete) more oracle operations e
-split_operations (statements.Update update) more oracle operations e = split_plain (statements.Update update) more oracle operations e
-split_operations (statements.Set setting) more oracle operations e = split_plain (statements.Set setting) more oracle operations e
+split_operations (statements.Select select) more oracle operations e =
+    split_plain (statements.Select select) more oracle operations e
+split_operations (statements.Insert insert) more oracle operations e =
+    split_plain (statements.Insert insert) more oracle operations e
+split_operations (statements.Delete delete) more oracle operations e =
+    split_plain (statements.Delete delete) more oracle operations e
+split_operations (statements.Update update) more oracle operations e =
+    split_plain (statements.Update update) more oracle operations e
+split_operations (statements.Set setting) more oracle operations e =
+    split_plain (statements.Set setting) more oracle operations e
 
 abbrev pub oracle_of : List Operation → List Valuation
 oracle_of [] = []
-oracle_of (operation ∷ more) = cond (is_entangled operation.statement) (operation.valuation ∷ oracle_of more) (oracle_of more)
+oracle_of (operation ∷ more) = cond (is_entangled operation.statement) (operation.valuation ∷ oracle_of more)
+    (oracle_of more)
 
 module _ (declared : List Create) (members : List Placed) where
   abbrev pub Stands : ℕ → ℕ → Type 0
@@ -191,7 +199,8 @@ module _ (declared : List Create) (members : List Placed) where
   again (statements.Set setting) valuation sts more rest = ap (operation_first (statements.Set setting) []) rest
 
   pub operations_told : (tx place : ℕ) (sts : List Statement)
-      → operations_of sts (oracle_of (told_operations members tx place sts)) ≡ Some (told_operations members tx place sts)
+      → operations_of sts (oracle_of (told_operations members tx place sts)) ≡ Some
+      (told_operations members tx place sts)
   operations_told tx place [] = refl
   operations_told tx place (st ∷ sts) =
       again st (grounding_of (member_at members tx place)) sts (told_operations members tx (suc place) sts)
@@ -230,7 +239,8 @@ module _ (declared : List Create) (members : List Placed) where
       (all_grounded ss grounded.1)
 
   -- statements of which nothing is found run, answer what is told, and have groundings
-  pub record IsClean (tx place : ℕ) (operations : List Operation) (answers : List Answer) (d : Database) (v : Environment)
+  pub record IsClean (tx place : ℕ) (operations : List Operation) (answers : List Answer) (d : Database)
+      (v : Environment)
       : Type 0 where
     pub left : Run
     pub runs : run declared operations d v ≡ Some left
@@ -322,7 +332,8 @@ module _ (declared : List Create) (members : List Placed) where
       (v : Environment) (r : Run)
       (on : GoesOn (statement_meaning declared st valuation d v) (run declared more) r)
       → AllByRecursion (IsGrounded declared) (seen tx place (record { statement = st; valuation = valuation }) d v)
-      → operations_findings declared members tx (suc place) more on.rest.answers on.effect.database on.effect.environment
+      → operations_findings declared members tx (suc place) more on.rest.answers on.effect.database
+      on.effect.environment
       ≡ []
       → operations_findings declared members tx place (record { statement = st; valuation = valuation } ∷ more)
       (on.effect.answer ∷ on.rest.answers) d v ≡ []
@@ -341,21 +352,25 @@ module _ (declared : List Create) (members : List Placed) where
       (ap (λ m. is_answered m answers) on.is ∙ answer_itself on.effect.answer))
       (ap (λ m. found_after m (operations_findings declared members tx (suc place) more (later answers))) on.is ∙ rest))
 
-  pub right_operations : (tx place : ℕ) (operations : List Operation) (answers : List Answer) (d : Database) (v : Environment)
+  pub right_operations : (tx place : ℕ) (operations : List Operation) (answers : List Answer) (d : Database)
+      (v : Environment)
       (r : Run) → run declared operations d v ≡ Some r → r.answers ≡ answers
       → AllByRecursion (IsGrounded declared) (read_views declared tx place operations d v)
       → operations_findings declared members tx place operations answers d v ≡ []
   right_operations tx place [] answers d v r runs same grounded = refl
   right_operations tx place (operation ∷ more) answers d v r runs same grounded =
-      let on = goes_on (statement_meaning declared operation.statement operation.valuation d v) (run declared more) r runs in
+      let on = goes_on (statement_meaning declared operation.statement operation.valuation d v) (run declared more) r
+      runs in
       let here = seen tx place operation d v in
       let parts = all_parts here
-      (seen_after (statement_meaning declared operation.statement operation.valuation d v) (read_views declared tx (suc place) more))
+      (seen_after (statement_meaning declared operation.statement operation.valuation d v)
+      (read_views declared tx (suc place) more))
       grounded in
       subst (λ told. operations_findings declared members tx place (operation ∷ more) told d v ≡ [])
       (ap (λ (x : Run). x.answers) (sym on.whole) ∙ same)
       (right_step tx place operation.statement operation.valuation more d v r on parts.0
-      (right_operations tx (suc place) more on.rest.answers on.effect.database on.effect.environment on.rest on.rests refl
+      (right_operations tx (suc place) more on.rest.answers on.effect.database on.effect.environment on.rest on.rests
+      refl
       (subst (λ m. AllByRecursion (IsGrounded declared) (seen_after m (read_views declared tx (suc place) more))) on.is
       parts.1)))
     where
@@ -450,7 +465,8 @@ module _ (declared : List Create) (members : List Placed) where
   abbrev pub AreTold : List ReadView → Type 0
   AreTold ss = (s : ReadView) → In s ss → s.valuation ≡ grounding_of (member_at members s.tx s.place)
 
-  pub operations_are_told : (tx place : ℕ) (sts : List Statement) (oracle : List Valuation) (operations : List Operation)
+  pub operations_are_told : (tx place : ℕ) (sts : List Statement) (oracle : List Valuation)
+      (operations : List Operation)
       (d : Database) (v : Environment) (r : Run) → operations_of sts oracle ≡ Some operations
       → run declared operations d v ≡ Some r → AreTold (read_views declared tx place operations d v)
       → operations ≡ told_operations members tx place sts
@@ -466,12 +482,14 @@ module _ (declared : List Create) (members : List Placed) where
       subst (λ ds. AreTold (read_views declared tx place ds d v)) split.whole told in
       let rest = operations_are_told tx (suc place) sts split.others split.rest on.effect.database on.effect.environment
       on.rest split.rests on.rests (λ s at.
-      now s (in_second (seen tx place operation d v) (seen_after meaning (read_views declared tx (suc place) split.rest)) s
+      now s (in_second (seen tx place operation d v)
+      (seen_after meaning (read_views declared tx (suc place) split.rest)) s
       (subst (λ m. In s (seen_after m (read_views declared tx (suc place) split.rest))) (sym on.is) at))) in
       let value = told_by_cases tx place st split.valuation (is_entangled st) refl split.plain (λ is.
       let s = sees_one tx place st split.valuation d v is in
       sym s.2.value
-      ∙ now s.0 (in_first (seen tx place operation d v) (seen_after meaning (read_views declared tx (suc place) split.rest)) s.0
+      ∙ now s.0 (in_first (seen tx place operation d v)
+      (seen_after meaning (read_views declared tx (suc place) split.rest)) s.0
       s.1)
       ∙ (λ i. grounding_of (member_at members (s.2.own i) (s.2.here i)))) in
       split.whole ∙ (λ i. record { statement = st; valuation = value i } ∷ rest i)

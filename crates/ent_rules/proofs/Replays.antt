@@ -10,14 +10,19 @@ use Rattle.ent_tree.specs.declared.script.Script.{Script}
 use Rattle.ent_tree.specs.declared.script.Statement.{Statement}
 use Rattle.ent_semantics.specs.Database.{Database, nothing_bound}
 use Rattle.ent_semantics.specs.Joint.{IsGrounded}
-use Rattle.ent_semantics.specs.Serial.{Operation, Run, Runs, ReadView, Turn, operations_of, ended, is_entangled, ran_first, run}
-use Rattle.ent_semantics.specs.Serial.{script_run, script_read_views, scripts_run, scripts_read_views, seen_from, read_views}
+use Rattle.ent_semantics.specs.Serial.{Operation, Run, Runs, ReadView, Turn, operations_of, ended, is_entangled}
+use Rattle.ent_semantics.specs.Serial.{ran_first, run}
+use Rattle.ent_semantics.specs.Serial.{script_run, script_read_views, scripts_run, scripts_read_views, seen_from}
+use Rattle.ent_semantics.specs.Serial.{read_views}
 use Rattle.ent_rules.specs.Account.{Account}
 use Rattle.ent_rules.specs.Journal.{commits}
 use Rattle.ent_rules.specs.Placed.{Placed, told_operations}
-use Rattle.ent_rules.specs.Replay.{operations_findings, found_from, account_run, replay_findings, told_read_views, told_end}
-use Rattle.ent_rules.proofs.Operations.{AllStand, AreTold, SeenTold, IsClean, clean_operations, operations_are_told, operations_told}
-use Rattle.ent_rules.proofs.Operations.{mapped_some, oracle_of, right_operations, read_view_told, then_some, told_read_view}
+use Rattle.ent_rules.specs.Replay.{operations_findings, found_from, account_run, replay_findings, told_read_views}
+use Rattle.ent_rules.specs.Replay.{told_end}
+use Rattle.ent_rules.proofs.Operations.{AllStand, AreTold, SeenTold, IsClean, clean_operations, operations_are_told}
+use Rattle.ent_rules.proofs.Operations.{operations_told}
+use Rattle.ent_rules.proofs.Operations.{mapped_some, oracle_of, right_operations, read_view_told, then_some}
+use Rattle.ent_rules.proofs.Operations.{told_read_view}
 use Rattle.ent_lists.specs.Elements.{In, all_joined, in_first, in_second, in_either}
 use Rattle.ent_rules.proofs.Lists.{both_none, none_first, none_second}
 
@@ -79,12 +84,14 @@ module _ (declared : List Create) (members : List Placed) where
   replayed [] d ready none = record { left = d; ends = refl; gives = refl; grounded = tt; same = refl }
   replayed (a ∷ xs) d ready none =
       let own = ready a (inl refl) in
-      let first = operations_findings declared members a.tx 1 (told_operations members a.tx 1 a.script.statements) a.answers d
+      let first = operations_findings declared members a.tx 1 (told_operations members a.tx 1 a.script.statements)
+      a.answers d
       nothing_bound in
       let rest = found_from (account_run declared members a d) (replay_findings declared members xs) in
       let clean : IsClean declared members a.tx 1 (told_operations members a.tx 1 a.script.statements) a.answers d
       nothing_bound =
-      clean_operations declared members a.tx 1 a.script.statements a.answers d nothing_bound (none_first first rest none)
+      clean_operations declared members a.tx 1 a.script.statements a.answers d nothing_bound
+      (none_first first rest none)
       own.counts own.stands in
       let more = replayed xs clean.left.database (λ b bt. ready b (inr bt))
       (ap (λ o. found_from o (replay_findings declared members xs)) (sym clean.runs) ∙ none_second first rest none) in
@@ -113,7 +120,8 @@ module _ (declared : List Create) (members : List Placed) where
 
   -- ---- what is seen
 
-  pub read_view_account : (xs : List Account) (d : Database) (s : ReadView) → In s (told_read_views declared members xs d)
+  pub read_view_account : (xs : List Account) (d : Database) (s : ReadView)
+      → In s (told_read_views declared members xs d)
       → (a : Account) × In a xs × SeenTold declared members a.tx 1 a.script.statements s
   read_view_account [] d s at = absurd at
   read_view_account (a ∷ xs) d s at =
@@ -175,7 +183,8 @@ module _ (declared : List Create) (members : List Placed) where
   all_parts P [] ys all = (tt, all)
   all_parts P (x ∷ xs) ys all = let r = all_parts P xs ys all.1 in ((all.0, r.0), r.1)
 
-  turn_read_views : (t : Turn) (d : Database) (operations : List Operation) → operations_of t.script.statements t.oracle ≡ Some operations
+  turn_read_views : (t : Turn) (d : Database) (operations : List Operation)
+      → operations_of t.script.statements t.oracle ≡ Some operations
       → script_read_views declared t d ≡ read_views declared t.tx 1 operations d nothing_bound
   turn_read_views t d operations e = rw e refl
 
@@ -199,16 +208,19 @@ module _ (declared : List Create) (members : List Placed) where
       (script_run declared t.script t.oracle d) all runs in
       let second = mapped_some (ran_first first.0.answers) (scripts_run declared ts first.0.database) all first.2 in
       let ended = ended_some t.script.end
-      (option_and_then (λ operations. run declared operations d nothing_bound) (operations_of t.script.statements t.oracle)) first.0
+      (option_and_then (λ operations. run declared operations d nothing_bound)
+      (operations_of t.script.statements t.oracle)) first.0
       first.1 in
-      let third = then_some (λ operations. run declared operations d nothing_bound) (operations_of t.script.statements t.oracle)
+      let third = then_some (λ operations. run declared operations d nothing_bound)
+      (operations_of t.script.statements t.oracle)
       first.0 ended.1 in
       let here = turn_read_views t d third.0 third.1 in
       let now : AreTold declared members (read_views declared t.tx 1 third.0 d nothing_bound) =
       λ s at. are s (in_first (script_read_views declared t d)
       (seen_from (script_run declared t.script t.oracle d) (scripts_read_views declared ts)) s
       (subst (In s) (sym here) at)) in
-      let operations = operations_are_told declared members t.tx 1 t.script.statements t.oracle third.0 d nothing_bound first.0
+      let operations = operations_are_told declared members t.tx 1 t.script.statements t.oracle third.0 d nothing_bound
+      first.0
       third.1 third.2 now
       ∙ (λ i. told_operations members (tx i) 1 (script i).statements) in
       let alone : account_run declared members a d ≡ Some first.0 =
@@ -234,7 +246,8 @@ module _ (declared : List Create) (members : List Placed) where
             (read_views declared a.tx 1 (told_operations members a.tx 1 a.script.statements) d nothing_bound)
             (seen_from (account_run declared members a d) (told_read_views declared members xs)) grounded in
             both_none
-            (operations_findings declared members a.tx 1 (told_operations members a.tx 1 a.script.statements) a.answers d
+            (operations_findings declared members a.tx 1 (told_operations members a.tx 1 a.script.statements) a.answers
+            d
             nothing_bound)
             (found_from (account_run declared members a d) (replay_findings declared members xs))
             (right_operations declared members a.tx 1 (told_operations members a.tx 1 a.script.statements) a.answers d

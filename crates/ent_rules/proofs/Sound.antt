@@ -190,7 +190,8 @@ module _ (history : History) (formed : IsFormed history) (legal : IsLegal (book 
           let own = to_filter (λ (x : ReadView). stands_among x.tx x.place joint.members) seen s st
           (among s.tx s.place joint.members (member_of s) (contains_in joint.members (member_of s) o.1.1) refl refl) in
           any_in (same_fact post) (flat_map read_view_heads (read_views_of seen joint.members)) post
-          (to_flat read_view_heads (read_views_of seen joint.members) s post own (contains_in (read_view_heads s) post o.2))
+          (to_flat read_view_heads (read_views_of seen joint.members) s post own
+          (contains_in (read_view_heads s) post o.2))
           (fact_itself post)
 
   none_met : (number : ℕ) (js : List JointAnswer)

@@ -120,15 +120,18 @@ module _ (keeps : Keeps) (declared : List Create) (name : Name) where
       → changes st name ≡ false → (effect : Effect Database) → m ≡ Ok effect → effect.database name ≡ d name
   kept_effect st d m kept none effect is = subst (KeepsOthers st d) is kept name none
 
-  kept_run : (operations : List Operation) (d : Database) (v : Environment) (r : Run) → run declared operations d v ≡ Some r
-      → ((operation : Operation) → In operation operations → changes operation.statement name ≡ false) → r.database name ≡ d name
+  kept_run : (operations : List Operation) (d : Database) (v : Environment) (r : Run)
+      → run declared operations d v ≡ Some r
+      → ((operation : Operation) → In operation operations → changes operation.statement name ≡ false)
+      → r.database name ≡ d name
   kept_run [] d v r runs none = ap (λ (x : Run). x.database name) (sym (one runs))
     where
       one : Some (record { database = d; environment = v; answers = [] }) ≡ Some r
           → record { database = d; environment = v; answers = [] } ≡ r
       one e = cc
   kept_run (operation ∷ more) d v r runs none =
-      let on = goes_on (statement_meaning declared operation.statement operation.valuation d v) (run declared more) r runs in
+      let on = goes_on (statement_meaning declared operation.statement operation.valuation d v) (run declared more) r
+      runs in
       ap (λ (x : Run). x.database name) on.whole
       ∙ kept_run more on.effect.database on.effect.environment on.rest on.rests (λ x at. none x (inr at))
       ∙ kept_effect operation.statement d (statement_meaning declared operation.statement operation.valuation d v)
@@ -138,7 +141,8 @@ module _ (keeps : Keeps) (declared : List Create) (name : Name) where
       → In operation (told_operations members tx place sts) → In operation.statement sts
   told_statement members tx place [] operation at = absurd at
   told_statement members tx place (st ∷ sts) operation (inl same) = inl (ap (λ (x : Operation). x.statement) same)
-  told_statement members tx place (st ∷ sts) operation (inr at) = inr (told_statement members tx (suc place) sts operation at)
+  told_statement members tx place (st ∷ sts) operation (inr at) =
+      inr (told_statement members tx (suc place) sts operation at)
 
   -- a table that no statement changes is left as it was
   pub kept_end : (members : List Placed) (xs : List Account) (d left : Database)

@@ -35,20 +35,27 @@ pub least_of_more : (locks : Uses) (first : Use) (rest : List Use) (pass : List 
     → IsLeastIfAny (λ v. ¬ Contains pass v × InConflictAt locks v (key_of_number first.table) first.mode) a
     → IsLeastIfAny (BlocksUses locks rest pass) b → IsLeastIfAny (BlocksUses locks (first ∷ rest) pass) (lesser a b)
 least_of_more locks first rest pass a b one more =
-    least_same (λ v. (¬ Contains pass v × InConflictAt locks v (key_of_number first.table) first.mode) ⊎ BlocksUses locks rest pass v)
+    least_same (λ v. (¬ Contains pass v × InConflictAt locks v (key_of_number first.table) first.mode)
+    ⊎ BlocksUses locks rest pass v)
     (BlocksUses locks (first ∷ rest) pass) (lesser a b) into cases
     (least_either (λ v. ¬ Contains pass v × InConflictAt locks v (key_of_number first.table) first.mode)
     (BlocksUses locks rest pass) a b one more)
   where
-    into : (v : ℕ) → (¬ Contains pass v × InConflictAt locks v (key_of_number first.table) first.mode) ⊎ BlocksUses locks rest pass v
+    into : (v : ℕ) → (¬ Contains pass v × InConflictAt locks v (key_of_number first.table) first.mode)
+        ⊎ BlocksUses locks rest pass v
         → BlocksUses locks (first ∷ rest) pass v
     into v (inl (apart, conflict)) = (apart, (first, contains_first first rest, conflict))
     into v (inr (apart, (own, there, conflict))) = (apart, (own, contains_later first own rest there, conflict))
 
     cases : (v : ℕ) → BlocksUses locks (first ∷ rest) pass v
-        → (¬ Contains pass v × InConflictAt locks v (key_of_number first.table) first.mode) ⊎ BlocksUses locks rest pass v
+        → (¬ Contains pass v × InConflictAt locks v (key_of_number first.table) first.mode)
+        ⊎ BlocksUses locks rest pass v
     cases v (apart, (own, there, conflict)) = elim (contains_cases first own rest there) [
-      | inl same ↦ inl (apart, subst (λ (u : Use). InConflictAt locks v (key_of_number u.table) u.mode) (sym same) conflict)
+      | inl same ↦ inl (
+        apart,
+        subst (λ (u : Use). InConflictAt locks v (key_of_number u.table) u.mode)
+            (sym same) conflict,
+      )
       | inr later ↦ inr (apart, (own, later, conflict))
     ]
 
@@ -66,7 +73,8 @@ conflict_of asked holder way =
     (own.0, own.1, (other.0.mode, subst (Contains holder.uses) same other.1, turned own.0.mode other.0.mode parts.1))
 
 way_of : (asked : List Use) (holder : Member) (own : Use) (theirs : Mode) → Contains asked own
-    → Contains holder.uses (use_of own.table theirs) → in_conflict theirs own.mode ≡ true → is_conflicting asked holder ≡ true
+    → Contains holder.uses (use_of own.table theirs) → in_conflict theirs own.mode ≡ true
+    → is_conflicting asked holder ≡ true
 way_of asked holder own theirs there held conflict =
     any_of (λ u. list_any (uses_conflict u) holder.uses) asked own there
     (any_of (uses_conflict own) holder.uses (use_of own.table theirs) held
@@ -167,7 +175,8 @@ module _ (locks : Uses) (prepared active : List Member) (run : IsLockedRun locks
           (map tx_of (filter (is_passed (Itself asker.tx)) active)) m.tx
           (into_map tx_of (filter (is_passed (Group asker.group)) prepared) m
           (into_filter (is_passed (Group asker.group)) prepared m h own))))))
-      by_cases (inr h) = Contains-append_right (filter (λ (holder : Member). not (holder.group == asker.group)) prepared)
+      by_cases (inr h) = Contains-append_right
+          (filter (λ (holder : Member). not (holder.group == asker.group)) prepared)
           (filter (λ (holder : Member). not (holder.tx == asker.tx)) active) m
           (into_filter (λ (holder : Member). not (holder.tx == asker.tx)) active m h
           (not_false (m.tx == asker.tx) (λ own. apart
@@ -178,14 +187,16 @@ module _ (locks : Uses) (prepared active : List Member) (run : IsLockedRun locks
 
   -- ---- who blocks
 
-  blocks_conflicting : (asked : List Use) (v : ℕ) → BlocksUses locks asked (passed_numbers asker (run_of prepared active)) v
+  blocks_conflicting : (asked : List Use) (v : ℕ)
+      → BlocksUses locks asked (passed_numbers asker (run_of prepared active)) v
       → Contains (map tx_of (filter (is_conflicting asked) others)) v
   blocks_conflicting asked v (apart, (own, there, (theirs, holds, conflict))) =
       let held = (run.locked v own.table theirs).0 holds in
       let m = held.0 in
       number_in (filter (is_conflicting asked) others) m v
       (into_filter (is_conflicting asked) others m
-      (to_others m held.1 (λ passes. apart (subst (Contains (passed_numbers asker (run_of prepared active))) held.2 passes)))
+      (to_others m held.1 (λ passes. apart
+      (subst (Contains (passed_numbers asker (run_of prepared active))) held.2 passes)))
       (way_of asked m own theirs there held.3 conflict))
       held.2
 
@@ -196,7 +207,8 @@ module _ (locks : Uses) (prepared active : List Member) (run : IsLockedRun locks
       let inside = out_of_filter (is_conflicting asked) others m.0 m.1 in
       let conflict = conflict_of asked m.0 inside.1 in
       let theirs = conflict.2.0 in (
-        λ passes. not_passing m.0 inside.0 (subst (Contains (passed_numbers asker (run_of prepared active))) (sym m.2) passes),
+        λ passes. not_passing m.0 inside.0
+            (subst (Contains (passed_numbers asker (run_of prepared active))) (sym m.2) passes),
         (
           conflict.0,
           conflict.1,
@@ -215,5 +227,6 @@ module _ (locks : Uses) (prepared active : List Member) (run : IsLockedRun locks
       one_least (Contains (map tx_of (filter (is_conflicting asked) others))) result
       (least (map tx_of (filter (is_conflicting asked) others)))
       (least_same (BlocksUses locks asked (passed_numbers asker (run_of prepared active)))
-      (Contains (map tx_of (filter (is_conflicting asked) others))) result (blocks_conflicting asked) (conflicting_blocks asked) is)
+      (Contains (map tx_of (filter (is_conflicting asked) others))) result (blocks_conflicting asked)
+      (conflicting_blocks asked) is)
       (least_of_list (map tx_of (filter (is_conflicting asked) others)))

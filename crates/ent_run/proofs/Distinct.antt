@@ -101,7 +101,8 @@ same_ascending [] [] first second into back = refl
 same_ascending [] (m ∷ ms) first second into back = absurd (contains_none m (back m (contains_first m ms)))
 same_ascending (n ∷ ns) [] first second into back = absurd (contains_none n (into n (contains_first n ns)))
 same_ascending (n ∷ ns) (m ∷ ms) first second into back =
-    let same : n ≡ m = same_first n m ns ms first.0 second.0 (into n (contains_first n ns)) (back m (contains_first m ms)) in
+    let same : n ≡ m = same_first n m ns ms first.0 second.0 (into n (contains_first n ns))
+    (back m (contains_first m ms)) in
     let over : AllByRecursion (λ k. n < k) ms = subst (λ l. AllByRecursion (λ k. l < k) ms) (sym same) second.0 in
     let into_same : (k : ℕ) → Contains (n ∷ ns) k → Contains (n ∷ ms) k =
     λ k there. subst (λ l. Contains (l ∷ ms) k) (sym same) (into k there) in

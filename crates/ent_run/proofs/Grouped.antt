@@ -1,5 +1,6 @@
 -- The groups of members that start, move, join or leave.
-use Rattle.std.proofs.Common.{◌≡◌, ◌⊎◌, inl, inr, ℕ, zero, suc, ◌+◌, ◌<◌, Bool, true, false, not, ◌==◌, if◌then◌else◌, nat_eq, List, []}
+use Rattle.std.proofs.Common.{◌≡◌, ◌⊎◌, inl, inr, ℕ, zero, suc, ◌+◌, ◌<◌, Bool, true, false, not, ◌==◌, if◌then◌else◌}
+use Rattle.std.proofs.Common.{nat_eq, List, []}
 use Rattle.std.proofs.Common.{◌∷◌, ◌++◌, map, length, take, get_or, refl, sym, ap, subst, ◌∙◌, arith, true≢false}
 use Rattle.std.specs.Prelude.{Contains, filter, Option, Some, None}
 use Rattle.std.specs.List.{AllByRecursion, IsDistinct, remove}
@@ -227,7 +228,8 @@ grouped_prepared groups prepared active i member lt at distinct grouped =
         let one : m ≡ member =
         one_member active distinct m member there there_before (same_number m.tx member.tx is) in (
           m,
-          Contains-append_left (prepared ++ member ∷ []) (remove active i) m (Contains-append_right prepared (member ∷ [])
+          Contains-append_left (prepared ++ member ∷ []) (remove active i) m
+              (Contains-append_right prepared (member ∷ [])
               m (subst (Contains (member ∷ [])) (sym one) (contains_first member []))),
           here,
           labelled,
@@ -253,7 +255,8 @@ grouped_prepared groups prepared active i member lt at distinct grouped =
       | inr second ↦ to_last tx group has.0 (is_tx member.tx has.0) refl second has.2 has.3
     ]
 
-    back_there : (m : Member) → Contains ((prepared ++ member ∷ []) ++ remove active i) m → Contains (prepared ++ active) m
+    back_there : (m : Member) → Contains ((prepared ++ member ∷ []) ++ remove active i) m
+        → Contains (prepared ++ active) m
     back_there m there = elim (Contains-append_cases (prepared ++ member ∷ []) (remove active i) m there) [
       | inl first ↦ elim (Contains-append_cases prepared (member ∷ []) m first) [
         | inl a ↦ Contains-append_left prepared active m a
@@ -262,7 +265,8 @@ grouped_prepared groups prepared active i member lt at distinct grouped =
           | inr none ↦ absurd (contains_none m none)
         ]
       ]
-      | inr second ↦ Contains-append_right prepared active m (out_of_filter (λ other. not (is_tx member.tx other)) active
+      | inr second ↦ Contains-append_right prepared active m
+          (out_of_filter (λ other. not (is_tx member.tx other)) active
           m (subst (λ ms. Contains ms m) rest_is second)).0
     ]
 
@@ -304,8 +308,12 @@ module _ (gone : ℕ) (old new : List Membership)
     labels = λ tx group. (
       λ is.
           let before = was tx group is in
-          let has = (grouped.labels tx group).0 before.0 in
-          (has.0, into_filter p members has.0 has.1 (tells has.0 has.1 ∙ ap not (ap (λ g. g == gone) has.3 ∙ before.1)), has.2, has.3),
+          let has = (grouped.labels tx group).0 before.0 in (
+            has.0,
+            into_filter p members has.0 has.1 (tells has.0 has.1 ∙ ap not (ap (λ g. g == gone) has.3 ∙ before.1)),
+            has.2,
+            has.3,
+          ),
       λ has.
           let inside = out_of_filter p members has.0 has.1 in
           stays tx group ((grouped.labels tx group).1 (has.0, inside.0, has.2, has.3))

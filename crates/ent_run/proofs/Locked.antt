@@ -55,7 +55,8 @@ one_of_cons : (x : Member) (xs : List Member) → AllByRecursion (λ k. nat_eq x
     → (x ≡ m) ⊎ Contains xs m → (x ≡ n) ⊎ Contains xs n → m ≡ n
 one_of_cons x xs all rest m n same (inl a) (inl b) = sym a ∙ b
 one_of_cons x xs all rest m n same (inl a) (inr later) = absurd (never_apart x.tx xs n all later (ap tx_of a ∙ same))
-one_of_cons x xs all rest m n same (inr later) (inl b) = absurd (never_apart x.tx xs m all later (ap tx_of b ∙ sym same))
+one_of_cons x xs all rest m n same (inr later) (inl b) =
+    absurd (never_apart x.tx xs m all later (ap tx_of b ∙ sym same))
 one_of_cons x xs all rest m n same (inr first) (inr second) = rest m n first second same
 
 -- members of one number are one
@@ -94,7 +95,8 @@ module _ (change : Member → Member) (asked : List Use) (old : List Member) (me
   changed = map (replaced (change member)) old
 
   put_in : (m : Member) (b : Bool) → (m.tx == (change member).tx) ≡ b → Contains old m
-      → (own : Use) → Contains m.uses own → (n : Member) × (n ≡ replaced (change member) m) × (n.tx ≡ m.tx) × Contains n.uses own
+      → (own : Use) → Contains m.uses own → (n : Member) × (n ≡ replaced (change member) m) × (n.tx ≡ m.tx)
+      × Contains n.uses own
   put_in m true is inside own uses =
       let same : m ≡ member =
       one_member old distinct m member inside there (same_number m.tx (change member).tx is ∙ adds.same) in (
@@ -108,8 +110,13 @@ module _ (change : Member → Member) (asked : List Use) (old : List Member) (me
   pub held_after : (tx : ℕ) (own : Use) → IsHeld old tx own ⊎ ((tx ≡ member.tx) × Contains asked own)
       → IsHeld changed tx own
   held_after tx own (inl (m, inside, is, uses)) =
-      let new = put_in m (m.tx == (change member).tx) refl inside own uses in
-      (new.0, subst (Contains changed) (sym new.1) (into_map (replaced (change member)) old m inside), new.2 ∙ is, new.3)
+      let new = put_in m (m.tx == (change member).tx) refl inside own uses in (
+        new.0,
+        subst (Contains changed) (sym new.1) (into_map (replaced (change member)) old m inside),
+        new.2
+            ∙ is,
+        new.3,
+      )
   held_after tx own (inr (is, uses)) = (
     change member,
     subst (Contains changed)
@@ -156,7 +163,8 @@ run_changed locks next prepared old new change asked tx member run is changes nu
             (elim ((more v table mode).0 holds) [
               | inl before ↦ elim (held_by_one prepared old v (use_of table mode) ((run.locked v table mode).0 before)) [
                 | inl first ↦ inl first
-                | inr second ↦ inr (held_after change asked old member run.run.distinct there adds v (use_of table mode) (inl second))
+                | inr second ↦ inr (held_after change asked old member run.run.distinct there adds v (use_of table mode)
+                    (inl second))
               ]
               | inr now ↦ inr (held_after change asked old member run.run.distinct there adds v (use_of table mode)
                   (inr (now.0 ∙ sym own_tx, now.1)))
@@ -164,18 +172,22 @@ run_changed locks next prepared old new change asked tx member run is changes nu
         λ held. (more v table mode).1
             (elim (held_by_one prepared (map (replaced (change member)) old) v (use_of table mode)
             (subst (λ ms. IsHeld (prepared ++ ms) v (use_of table mode)) same held)) [
-              | inl first ↦ inl ((run.locked v table mode).1 (held_by_either prepared old v (use_of table mode) (inl first)))
-              | inr second ↦ elim (held_before change asked old member run.run.distinct there adds v (use_of table mode) second) [
-                | inl before ↦ inl ((run.locked v table mode).1 (held_by_either prepared old v (use_of table mode) (inr before)))
-                | inr now ↦ inr (now.0 ∙ own_tx, now.1)
-              ]
+              | inl first ↦ inl ((run.locked v table mode).1
+                  (held_by_either prepared old v (use_of table mode) (inl first)))
+              | inr second ↦ elim (held_before change asked old member run.run.distinct there adds v (use_of table mode)
+                  second) [
+                    | inl before ↦ inl ((run.locked v table mode).1
+                        (held_by_either prepared old v (use_of table mode) (inr before)))
+                    | inr now ↦ inr (now.0 ∙ own_tx, now.1)
+                  ]
             ]),
       );
     }
 
 -- nothing is asked for
 pub locks_nothing : (tx : ℕ) (locks : Uses) → Locks tx [] locks locks
-locks_nothing tx locks v table mode = (λ h. inl h, λ h. elim h [ inl before ↦ before | inr now ↦ absurd (contains_none (use_of table mode) now.1) ])
+locks_nothing tx locks v table mode =
+    (λ h. inl h, λ h. elim h [ inl before ↦ before | inr now ↦ absurd (contains_none (use_of table mode) now.1) ])
 
 pub adds_nothing : (change : Member → Member) (member : Member) → (change member).tx ≡ member.tx
     → (change member).uses ≡ member.uses → Adds change [] member
@@ -217,9 +229,11 @@ into_keyed asked table mode there =
     (into_map lock_of asked (use_of table mode) there)
 
 out_of_keyed : (asked : List Use) (table : ℕ) (mode : Mode)
-    → Contains (keyed key_of_number (map lock_of asked)) (key_of_number table, mode) → Contains asked (use_of table mode)
+    → Contains (keyed key_of_number (map lock_of asked)) (key_of_number table, mode)
+    → Contains asked (use_of table mode)
 out_of_keyed asked table mode there =
-    let pair = out_of_map (λ (u : ℕ × Mode). (key_of_number u.0, u.1)) (map lock_of asked) (key_of_number table, mode) there in
+    let pair = out_of_map (λ (u : ℕ × Mode). (key_of_number u.0, u.1)) (map lock_of asked) (key_of_number table, mode)
+    there in
     let own = out_of_map lock_of asked pair.0 pair.1 in
     let same_table : own.0.table ≡ table =
     ap (λ (u : ℕ × Mode). u.0) own.2 ∙ ap (λ (k : List ℕ × Mode). head_of k.0) pair.2 in

@@ -174,7 +174,8 @@ numbers_filtered p xs tx there =
     let m = out_of_map tx_of (filter p xs) tx there in
     subst (Contains (map tx_of xs)) m.2 (into_map tx_of xs m.0 (out_of_filter p xs m.0 m.1).0)
 
-held_filtered : (numbers : List ℕ) (xs : List Member) (tx : ℕ) (own : Use) → IsHeld (filter (is_not_of numbers) xs) tx own
+held_filtered : (numbers : List ℕ) (xs : List Member) (tx : ℕ) (own : Use)
+    → IsHeld (filter (is_not_of numbers) xs) tx own
     → IsHeld xs tx own × ¬ Contains numbers tx
 held_filtered numbers xs tx own (m, there, is, holds) =
     let inside = out_of_filter (is_not_of numbers) xs m there in (
@@ -210,7 +211,8 @@ run_left numbers locks next prepared active drops run = record {
           | inr second ↦ inr (filtered_held numbers active tx (use_of table mode) before.1 second)
         ]),
     λ held. (drops tx (key_of_number table) mode).1
-        (elim (held_by_one (filter (is_not_of numbers) prepared) (filter (is_not_of numbers) active) tx (use_of table mode) held) [
+        (elim (held_by_one (filter (is_not_of numbers) prepared) (filter (is_not_of numbers) active) tx
+        (use_of table mode) held) [
           | inl first ↦
               let was = held_filtered numbers prepared tx (use_of table mode) first in
               ((run.locked tx table mode).1 (held_by_either prepared active tx (use_of table mode) (inl was.0)), was.1)
@@ -287,7 +289,8 @@ run_locked_prepared locks prepared active i member lt at run = record {
   run = run_prepared prepared active i member member lt run.run;
   once = distinct_append prepared (member ∷ []) run.once (one_alone member)
       (λ tx there last. run.apart tx there (subst (Contains (map tx_of active)) (is_number tx last) active_number));
-  apart = λ tx there also. elsewhere tx (from_prepared tx there) (subst (λ ms. Contains (map tx_of ms) tx) rest_is also);
+  apart = λ tx there also. elsewhere tx (from_prepared tx there)
+      (subst (λ ms. Contains (map tx_of ms) tx) rest_is also);
   locked = λ tx table mode. (
     λ holds. moved tx (use_of table mode) ((run.locked tx table mode).0 holds),
     λ held. (run.locked tx table mode).1 (moved_back tx (use_of table mode) held),
@@ -302,13 +305,19 @@ run_locked_prepared locks prepared active i member lt at run = record {
         ∙ ap (λ (m : Member). filter (λ other. not (is_tx m.tx other)) active) at
 
     is_last : (m : Member) → Contains (member ∷ []) m → member ≡ m
-    is_last m there = elim (contains_cases member m [] there) [ inl same ↦ same | inr none ↦ absurd (contains_none m none) ]
+    is_last m there = elim (contains_cases member m [] there) [
+      | inl same ↦ same
+      | inr none ↦ absurd (contains_none m none)
+    ]
 
     active_number : Contains (map tx_of active) member.tx
     active_number = into_map tx_of active member there_before
 
     is_number : (tx : ℕ) → Contains (member.tx ∷ []) tx → member.tx ≡ tx
-    is_number tx there = elim (contains_cases member.tx tx [] there) [ inl same ↦ same | inr none ↦ absurd (contains_none tx none) ]
+    is_number tx there = elim (contains_cases member.tx tx [] there) [
+      | inl same ↦ same
+      | inr none ↦ absurd (contains_none tx none)
+    ]
 
     from_prepared : (tx : ℕ) → Contains (map tx_of (prepared ++ member ∷ [])) tx
         → Contains (map tx_of prepared) tx ⊎ (member.tx ≡ tx)
@@ -333,7 +342,13 @@ run_locked_prepared locks prepared active i member lt at run = record {
         let one : m ≡ member =
         one_member active run.run.distinct m member there there_before (same_number m.tx member.tx same) in
         inl (held_by_either prepared (member ∷ []) tx own
-        (inr (member, contains_first member [], ap tx_of (sym one) ∙ is, subst (λ (k : Member). Contains k.uses own) one holds)))
+        (inr (
+          member,
+          contains_first member [],
+          ap tx_of (sym one)
+              ∙ is,
+          subst (λ (k : Member). Contains k.uses own) one holds,
+        )))
     to_last tx own m false same there is holds =
         inr (
           m,

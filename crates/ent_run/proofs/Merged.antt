@@ -331,7 +331,8 @@ module _ (first : ℕ) (more : List ℕ) (old new : List Membership)
               (joined_of first first is_label ∙ ap Some (first_joined first more))
           by_test false among =
               subst (λ label. group_of new label ≡ Some label) (sym (joined_if first more before false among) ∙ now)
-              (joined_of before before (grouped.named tx before had) ∙ ap Some (joined_if first more before false among))
+              (joined_of before before (grouped.named tx before had)
+              ∙ ap Some (joined_if first more before false among))
 
 -- ---- members whose groups are known
 

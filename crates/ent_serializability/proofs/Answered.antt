@@ -91,7 +91,8 @@ answered_or_left submitted seen (a ∷ asked) (values ∷ more) m good =
           tx = same_number m.tx a.tx is;
           grounds = good.0.grounds;
           member = ap (λ b. cond b (answered_by a values m) (answered_among asked more m)) is;
-          operations = ap (λ b. cond b (operation_at m values (numbered submitted m.tx)) (operations_among submitted asked more m)) is;
+          operations = ap (λ b. cond b (operation_at m values (numbered submitted m.tx))
+              (operations_among submitted asked more m)) is;
           in_joint = inl refl;
           demands = λ post at. in_first (form_posts (λ value. value) a.statement values)
               (all_posts asked more) post at;
@@ -104,7 +105,8 @@ answered_or_left submitted seen (a ∷ asked) (values ∷ more) m good =
           tx = r.tx;
           grounds = r.grounds;
           member = ap (λ b. cond b (answered_by a values m) (answered_among asked more m)) is ∙ r.member;
-          operations = ap (λ b. cond b (operation_at m values (numbered submitted m.tx)) (operations_among submitted asked more m)) is
+          operations = ap (λ b. cond b (operation_at m values (numbered submitted m.tx))
+              (operations_among submitted asked more m)) is
               ∙ r.operations;
           in_joint = inr r.in_joint;
           demands = λ post at. in_second (form_posts (λ value. value) a.statement values)
@@ -113,7 +115,8 @@ answered_or_left submitted seen (a ∷ asked) (values ∷ more) m good =
     by false is (inr r) =
         inr (record {
           member = ap (λ b. cond b (answered_by a values m) (answered_among asked more m)) is ∙ r.member;
-          operations = ap (λ b. cond b (operation_at m values (numbered submitted m.tx)) (operations_among submitted asked more m)) is
+          operations = ap (λ b. cond b (operation_at m values (numbered submitted m.tx))
+              (operations_among submitted asked more m)) is
               ∙ r.operations;
           none = λ other at same. elim at [
             | inl here ↦ differ m.tx a.tx is (same ∙ ap (λ (x : Posted). x.tx) here)

@@ -172,7 +172,8 @@ runs_on answer (Some run) r = (run, refl)
 
 pub read_views_asks : (declared : List Create) (tx place : ℕ) (operations : List Operation) (database : Database)
     (environment : Environment) → Runs (run declared operations database environment)
-    → map ask_of (read_views declared tx place operations database environment) ≡ asks_of tx place operations environment
+    → map ask_of (read_views declared tx place operations database environment) ≡ asks_of tx place operations
+    environment
 read_views_asks declared tx place [] database environment is = refl
 read_views_asks declared tx place (operation ∷ more) database environment is =
     map_joined ask_of (seen tx place operation database environment)
@@ -196,7 +197,8 @@ read_views_asks declared tx place (operation ∷ more) database environment is =
         (next_is declared operation.statement operation.valuation database environment effect same)
     by (Err failure) same r further = cc (r.1)
 
-run_environment : (declared : List Create) (operations : List Operation) (database : Database) (environment : Environment)
+run_environment : (declared : List Create) (operations : List Operation) (database : Database)
+    (environment : Environment)
     (last : Run) → run declared operations database environment ≡ Some last
     → last.environment ≡ environment_after operations environment
 run_environment declared [] database environment last is =
@@ -224,13 +226,15 @@ run_environment declared (operation ∷ more) database environment last is =
     by (Ok effect) same g further =
         rest effect (run declared more effect.database effect.environment) refl g
         (further effect.database effect.environment)
-        ∙ ap (environment_after more) (next_is declared operation.statement operation.valuation database environment effect same)
+        ∙ ap (environment_after more)
+        (next_is declared operation.statement operation.valuation database environment effect same)
     by (Err failure) same g further = cc (g)
 
 asks_after : (tx place : ℕ) (operations : List Operation) (operation : Operation) (environment : Environment)
     → asks_of tx place (operations ++ operation ∷ []) environment
     ≡ asks_of tx place operations environment
-    ++ asks_at tx (length operations + place) operation.statement operation.valuation (environment_after operations environment)
+    ++ asks_at tx (length operations + place) operation.statement operation.valuation
+    (environment_after operations environment)
 asks_after tx place [] operation environment =
     let n : place ≡ 0 + place = omega arith in
     append-nil (asks_at tx place operation.statement operation.valuation environment)
@@ -303,7 +307,8 @@ asks_place tx place (operation ∷ more) environment ask at =
           let e = asks_at_place tx place operation.statement operation.valuation environment ask a in
           omega (e, arith)
       | inr b ↦
-          let h = asks_place tx (suc place) more (next_environment operation.statement operation.valuation environment) ask b in
+          let h = asks_place tx (suc place) more (next_environment operation.statement operation.valuation environment)
+          ask b in
           omega (h, arith)
     ]
 

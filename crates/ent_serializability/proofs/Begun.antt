@@ -66,7 +66,11 @@ module _ {F : Type 0} (forms : Forms F) (laws : Laws) (s : State) (kept : Kept f
             },
           )
       by false is =
-          inr (λ i. record { member = replaced_other (taking x.member asked posted) y.member is i; operations = y.operations })
+          inr (λ i. record {
+            member = replaced_other (taking x.member asked posted) y.member is i;
+            operations =
+                y.operations;
+          })
 
   free_fit : (y : History) → In y all → Fit x y → Fit next y
   free_fit y bt fit =
@@ -87,7 +91,8 @@ module _ {F : Type 0} (forms : Forms F) (laws : Laws) (s : State) (kept : Kept f
             (λ operation. Covers (held s.opening.tables new.uses) operation.statement) x.operations
             (λ operation c name used. (holds_more x.member asked (table_number s.opening.tables name)).0 (c name used))
             covered.reads;
-        writes = all_by (WritesWithin s.opening.tables x.member.uses) (WritesWithin s.opening.tables new.uses) x.operations
+        writes = all_by (WritesWithin s.opening.tables x.member.uses) (WritesWithin s.opening.tables new.uses)
+            x.operations
             (λ operation c name used. (holds_more x.member asked (table_number s.opening.tables name)).1 (c name used))
             covered.writes;
         within = λ table used. elim (used_from asked x.member.uses table used) [

@@ -36,7 +36,8 @@ use Rattle.ent_serializability.proofs.Reached.{reached_kept}
 
 abbrev pub oracle_of : List Operation → List Valuation
 oracle_of [] = []
-oracle_of (operation ∷ more) = cond (is_entangled operation.statement) (operation.valuation ∷ oracle_of more) (oracle_of more)
+oracle_of (operation ∷ more) = cond (is_entangled operation.statement) (operation.valuation ∷ oracle_of more)
+    (oracle_of more)
 
 -- an operation is its statement with the answer that the oracle gives it
 operation_again : (st : Statement) (valuation : Valuation) (more : List Operation) (sts : List Statement)
@@ -63,7 +64,8 @@ operation_again (statements.Set setting) valuation more sts oracled rest =
     ∙ (λ i. Some (record { statement = statements.Set setting; valuation = sym oracled i } ∷ more))
 
 pub operations_again : (operations : List Operation) → AllByRecursion IsOracled operations
-    → operations_of (map (λ (operation : Operation). operation.statement) operations) (oracle_of operations) ≡ Some operations
+    → operations_of (map (λ (operation : Operation). operation.statement) operations) (oracle_of operations) ≡ Some
+    operations
 operations_again [] oracled = refl
 operations_again (operation ∷ more) oracled =
     operation_again operation.statement operation.valuation more (map (λ (d : Operation). d.statement) more) oracled.0
@@ -84,7 +86,8 @@ module _ (declared : List Create) (all : List Submitted) where
   turn_operations : (history : History) (whole : IsWhole all history)
       → operations_of whole.own.script.statements (oracle_of history.operations) ≡ Some history.operations
   turn_operations history whole =
-      ap (λ sts. operations_of sts (oracle_of history.operations)) (sym whole.whole) ∙ operations_again history.operations whole.oracled
+      ap (λ sts. operations_of sts (oracle_of history.operations)) (sym whole.whole)
+      ∙ operations_again history.operations whole.oracled
 
   pub turn_run : (history : History) (whole : IsWhole all history) (first last : Database)
       → Replays declared history first last
@@ -202,7 +205,8 @@ module _ {F : Type 0} (forms : Forms F) (s : State) (kept : Kept forms s) where
 
 pub reached_run : {F : Type 0} (forms : Forms F) (laws : Laws) (s : State) → AreFaithful forms s.opening
     → IsReached forms s → (turns : List Turn) × RunGivesBook (book_of s) turns
-    × ((read_view : ReadView) → Contains (book_read_views (book_of s) turns) read_view → IsGrounded s.opening.tables read_view)
+    × ((read_view : ReadView) → Contains (book_read_views (book_of s) turns) read_view
+    → IsGrounded s.opening.tables read_view)
 reached_run forms laws s faithful reached =
     let kept = reached_kept forms laws s faithful reached in (
       turns_of s.submitted kept.committed (committed_whole forms s kept),

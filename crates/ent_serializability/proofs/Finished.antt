@@ -42,7 +42,8 @@ use Rattle.ent_serializability.proofs.Kept.{one_history, one_member, replaced_ot
 use Rattle.ent_serializability.proofs.Stands.{ordinary_next, follows_of}
 
 module _ {F : Type 0} (forms : Forms F) (laws : Laws) (s : State) (kept : Kept forms s) (x : History)
-    (at : In x kept.others) (member : Member) (operation : Operation) (table : List ℕ) (removed added : List (List Value))
+    (at : In x kept.others) (member : Member) (operation : Operation) (table : List ℕ)
+    (removed added : List (List Value))
     (tx : member.tx ≡ x.member.tx) (place : member.place ≡ suc x.member.place) (unposted : member.posted ≡ false)
     (follows : Follows s.submitted (with_operation x member operation))
     (makes : Makes s.opening.tables x (with_operation x member operation) s.tables
@@ -179,7 +180,8 @@ module _ {F : Type 0} (forms : Forms F) (laws : Laws) (s : State) (kept : Kept f
           (same_number y.member.tx x.member.tx is) in (
             with_operation x member operation,
             in_second kept.prepared (rest ++ with_operation x member operation ∷ []) (with_operation x member operation)
-                (in_second rest (with_operation x member operation ∷ []) (with_operation x member operation) (inl refl)),
+                (in_second rest (with_operation x member operation ∷ []) (with_operation x member operation)
+                (inl refl)),
             asks_same ∙ ap history_asks (sym same),
           )
       by false is b = (
@@ -205,7 +207,8 @@ module _ {F : Type 0} (forms : Forms F) (laws : Laws) (s : State) (kept : Kept f
         of_prepared = kept.of_prepared;
         same = members_same;
         settles = kept.settles;
-        sound = sound_made s.opening.tables laws kept.base kept.prepared rest x (with_operation x member operation) s.tables new
+        sound = sound_made s.opening.tables laws kept.base kept.prepared rest x (with_operation x member operation)
+            s.tables new
             s.changes table removed added
             (last s.opening.tables laws kept.base kept.prepared kept.others s.tables s.changes kept.sound x at) makes;
         whole = kept.whole;

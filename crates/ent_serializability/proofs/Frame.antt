@@ -127,7 +127,8 @@ module _ (declared : List Create) (laws : Laws) where
 
   run_other : (operations : List Operation) (database : Database) (environment : Environment) (last : Run) (name : Name)
       → run declared operations database environment ≡ Some last
-      → AllByRecursion (λ operation. changes operation.statement name ≡ false) operations → last.database name ≡ database name
+      → AllByRecursion (λ operation. changes operation.statement name ≡ false) operations
+      → last.database name ≡ database name
   run_other [] database environment last name is none =
       ap (λ (r : Run). r.database name) (sym (some_run _ last is))
   run_other (operation ∷ more) database environment last name is none =
@@ -160,7 +161,8 @@ module _ (declared : List Create) (laws : Laws) where
         environment = environment_of history.member;
         answers = history.member.answers;
       }) name replays.runs
-      (all_by (WritesWithin declared history.member.uses) (λ operation. changes operation.statement name ≡ false) history.operations
+      (all_by (WritesWithin declared history.member.uses) (λ operation. changes operation.statement name ≡ false)
+      history.operations
       (λ operation writes. not_so (changes operation.statement name)
       (λ is. clash (owned declared history.member.uses name) (writes name is) out)) covered.writes)
 
@@ -218,7 +220,8 @@ module _ (declared : List Create) (laws : Laws) where
       by (run declared history.operations second nothing_bound) refl
       (subst (λ x. RunsAlike (Agree (held declared history.member.uses)) x
       (run declared history.operations second nothing_bound)) replays.runs
-      (laws.runs (held declared history.member.uses) declared history.operations nothing_bound first second covered.reads
+      (laws.runs (held declared history.member.uses) declared history.operations nothing_bound first second
+      covered.reads
       agree))
     where
       there : Run
@@ -243,7 +246,8 @@ module _ (declared : List Create) (laws : Laws) where
                 environment = sym alike.1 i;
                 answers = sym alike.0 i;
               }));
-          grounded = grounded_alike (held declared history.member.uses) history.member.tx 1 history.operations first second
+          grounded = grounded_alike (held declared history.member.uses) history.member.tx 1 history.operations first
+              second
               nothing_bound covered.reads agree replays.grounded;
         },
         alike.2,

@@ -29,7 +29,8 @@ module _ (declared : List Create) where
       → map ask_of (histories_read_views declared histories first) ≡ flat_map history_asks histories
   histories_ask [] first last serial = refl
   histories_ask (history ∷ more) first last serial =
-      let own = read_views_asks declared history.member.tx 1 history.operations first nothing_bound (_, serial.1.runs) in
+      let own = read_views_asks declared history.member.tx 1 history.operations first nothing_bound
+      (_, serial.1.runs) in
       let rest = ap (λ r. map ask_of (seen_from r (histories_read_views declared more))) serial.1.runs
       ∙ histories_ask more serial.0 last serial.2 in
       map_joined ask_of (read_views declared history.member.tx 1 history.operations first nothing_bound)
@@ -59,7 +60,8 @@ module _ {F : Type 0} (forms : Forms F) (laws : Laws) (s : State) (kept : Kept f
       (opening_database s.opening) kept.base (database_of s.opening.tables s.tables) kept.settles kept.sound.serial
 
   good : (joint : JointAnswer) → In joint s.joints
-      → IsGood s.opening.tables (histories_read_views s.opening.tables everyone (opening_database s.opening)) joint.members
+      → IsGood s.opening.tables (histories_read_views s.opening.tables everyone (opening_database s.opening))
+      joint.members
   good =
       let declared = s.opening.tables in
       let first = opening_database s.opening in

@@ -206,7 +206,8 @@ module _ (s : State) (asker : Member) (asked : List Use) (free : blocker s asker
   not_conflicting holder at =
       free_of asked holder
       (not_so (is_conflicting asked holder) (λ is.
-      least_none (conflicting s asker asked) free holder (to_filter (is_conflicting asked) (not_passed s asker) holder at is)))
+      least_none (conflicting s asker asked) free holder
+      (to_filter (is_conflicting asked) (not_passed s asker) holder at is)))
 
   pub free_active : (holder : Member) → In holder s.active → (holder.tx ≡ asker.tx → ⊥) → Free asked holder.uses
   free_active holder at differs =

@@ -106,7 +106,8 @@ asks_there tx first (operation ∷ more) environment (suc k) entangled is =
     let rest = asks_there tx (suc first) more next k entangled is in
     record {
       ask = rest.ask;
-      at = in_second (asks_at tx first operation.statement operation.valuation environment) (asks_of tx (suc first) more next)
+      at = in_second (asks_at tx first operation.statement operation.valuation environment)
+          (asks_of tx (suc first) more next)
           rest.ask rest.at;
       own = rest.own;
       here = rest.here ∙ later_place first k;
@@ -117,7 +118,8 @@ record AskedAt (first : ℕ) (operations : List Operation) (ask : Ask) : Type 0 
   pub before : ℕ
   pub place : ask.place ≡ first + before
   pub low : before < length operations
-  pub there : slice_get (map (λ operation. operation.statement) operations) before ≡ Some (statements.Entangled ask.entangled)
+  pub there : slice_get (map (λ operation. operation.statement) operations) before ≡ Some
+      (statements.Entangled ask.entangled)
 
 asked_now : (tx place : ℕ) (statement : Statement) (valuation : Valuation) (environment : Environment) (ask : Ask)
     → In ask (asks_at tx place statement valuation environment)

@@ -161,7 +161,8 @@ module _ (creates : List Create) (x : History) (member : Member) (st : TreeState
             → table < length creates) (sym uses) covered.within;
       }
 
-pub follows_pushed : (all : List Submitted) (x : History) (member : Member) (operation : Operation) (follows : Follows all x)
+pub follows_pushed : (all : List Submitted) (x : History) (member : Member) (operation : Operation)
+    (follows : Follows all x)
     → member.tx ≡ x.member.tx → member.place ≡ suc x.member.place → IsOracled operation
     → slice_get follows.own.script.statements (length x.operations) ≡ Some operation.statement
     → Follows all (with_operation x member operation)
@@ -210,7 +211,8 @@ module _ (creates : List Create) (laws : Laws) (x : History) (member : Member) (
 
   pub ordinary_makes : (table : List ℕ) (removed added : List (List Value))
       → with_change table removed added tables ≡ new → OwnsFirst x.member.uses table
-      → Makes creates x (with_operation x member (record { statement = st; valuation = [] })) tables new table removed added
+      → Makes creates x (with_operation x member (record { statement = st; valuation = [] })) tables new table removed
+      added
   ordinary_makes table removed added is owns =
       record {
         tables_are = is;

@@ -74,7 +74,8 @@ module _ {F : Type 0} (forms : Forms F) (laws : Laws) (s : State) (kept : Kept f
       subst (WorkRight s.submitted s.active s.tables (tables_of job.tables)) is
       (of_all (JobRight s.submitted s.active s.tables) s.lent job kept.jobs at) in
       let p = of_all (IsPresent s) asked query (present_all s asked component) there in
-      let still = of_all (PostedQueryRight s.active s.tables (tables_of job.tables)) asked query right there p.member p.at
+      let still = of_all (PostedQueryRight s.active s.tables (tables_of job.tables)) asked query right there p.member
+      p.at
       (sym p.tx) in
       (still.1 (sym p.place)).alike
 

@@ -182,7 +182,8 @@ module _ (declared : List Create) (tx : ℕ) (operation : Operation) (last : Dat
   none_after (Err failure) place = tt
 
   pub read_views_pushed : (operations : List Operation) (place : ℕ) (database : Database) (environment : Environment)
-      → Reaches (run declared operations database environment) last bound → AreGrounded place operations database environment
+      → Reaches (run declared operations database environment) last bound
+      → AreGrounded place operations database environment
       → AreGrounded place (operations ++ operation ∷ []) database environment
   read_views_pushed [] place database environment is h =
       let same = some_run (record { database = database; environment = environment; answers = [] }) is.0 is.1 in
@@ -203,13 +204,15 @@ module _ (declared : List Create) (tx : ℕ) (operation : Operation) (last : Dat
           → AllByRecursion (IsGrounded declared) (seen_after x (read_views declared tx (suc place) more))
           → ((d : Database) (e : Environment) → Reaches (run declared more d e) last bound
           → AreGrounded (suc place) more d e → AreGrounded (suc place) (more ++ operation ∷ []) d e)
-          → AllByRecursion (IsGrounded declared) (seen_after x (read_views declared tx (suc place) (more ++ operation ∷ [])))
+          → AllByRecursion (IsGrounded declared)
+          (seen_after x (read_views declared tx (suc place) (more ++ operation ∷ [])))
       by (Err failure) e g further = tt
       by (Ok effect) e g further =
           further effect.database effect.environment
           (without_first effect.answer (run declared more effect.database effect.environment) last bound e) g
 
-module _ (declared : List Create) (laws : Laws) (x next : History) (operation : Operation) (before middle last : Database)
+module _ (declared : List Create) (laws : Laws) (x next : History) (operation : Operation)
+    (before middle last : Database)
     (answer : Answer) where
   pub replays_pushed : next.operations ≡ x.operations ++ operation ∷ [] → next.member.tx ≡ x.member.tx
       → next.member.answers ≡ x.member.answers ++ answer ∷ []
@@ -233,6 +236,7 @@ module _ (declared : List Create) (laws : Laws) (x next : History) (operation : 
             (read_views declared next.member.tx 1 all before nothing_bound)) (sym operations)
             (subst (λ t. AllByRecursion (IsGrounded declared)
             (read_views declared t 1 (x.operations ++ operation ∷ []) before nothing_bound)) (sym tx)
-            (read_views_pushed declared x.member.tx operation middle (environment_of x.member) grounded x.operations 1 before
+            (read_views_pushed declared x.member.tx operation middle (environment_of x.member) grounded x.operations 1
+            before
             nothing_bound (_, replays.runs, refl, refl) replays.grounded));
       }

@@ -86,7 +86,8 @@ ticket_at n m zero script (first ∷ more) at h =
 ticket_at n m (suc i) script (first ∷ more) at h = inr (ticket_at (suc n) m i script more (omega (arith, at)) h)
 
 -- a ticket before the first number isn't there
-none_below : (m n : ℕ) (script : Script) (scripts : List Script) → m < n → In (ticket m script) (tickets_from n scripts) → ⊥
+none_below : (m n : ℕ) (script : Script) (scripts : List Script) → m < n → In (ticket m script) (tickets_from n scripts)
+    → ⊥
 none_below m n script [] low h = h
 none_below m n script (first ∷ more) low (inl e) =
     let number = ap (λ (t : Ticket). t.tx) e in absurd (omega (arith, number, low))
@@ -129,7 +130,8 @@ same_scripts xs ys p =
 
 -- ---- the first
 
-no_first : (first : First) (k : ℕ) → In (Some first) (map (λ (s : SessionState). s.first) (replicate k other_session)) → ⊥
+no_first : (first : First) (k : ℕ) → In (Some first) (map (λ (s : SessionState). s.first) (replicate k other_session))
+    → ⊥
 no_first first zero h = h
 no_first first (suc k) (inl e) = cc
 no_first first (suc k) (inr h) = no_first first k h

@@ -30,14 +30,18 @@ value_of_fault : {A : Type 0} (r : Result A GrammarFault) (tree : A) → with_fa
 value_of_fault {A} (Ok x) tree e = let k : x ≡ tree = cc in ap (λ (y : A). let s : Result A GrammarFault = Ok y in s) k
 value_of_fault (Err f) tree e = absurd cc
 
-unexpected_of : {A : Type 0} (r : Result A GrammarFault) (place : ℕ) → with_fault r ≡ Err (Unexpected place) → r ≡ Err (grammar.Unexpected place)
+unexpected_of : {A : Type 0} (r : Result A GrammarFault) (place : ℕ) → with_fault r ≡ Err (Unexpected place)
+    → r ≡ Err (grammar.Unexpected place)
 unexpected_of (Ok x) place e = absurd cc
-unexpected_of {A} (Err (grammar.Unexpected p)) place e = let k : p ≡ place = cc in ap (λ (n : ℕ). let s : Result A GrammarFault = Err (grammar.Unexpected n) in s) k
+unexpected_of {A} (Err (grammar.Unexpected p)) place e = let k : p ≡ place = cc in
+    ap (λ (n : ℕ). let s : Result A GrammarFault = Err (grammar.Unexpected n) in s) k
 unexpected_of (Err (grammar.TooMany p)) place e = absurd cc
 
-too_many_of : {A : Type 0} (r : Result A GrammarFault) (place : ℕ) → with_fault r ≡ Err (TooMany place) → r ≡ Err (grammar.TooMany place)
+too_many_of : {A : Type 0} (r : Result A GrammarFault) (place : ℕ) → with_fault r ≡ Err (TooMany place)
+    → r ≡ Err (grammar.TooMany place)
 too_many_of (Ok x) place e = absurd cc
-too_many_of {A} (Err (grammar.TooMany p)) place e = let k : p ≡ place = cc in ap (λ (n : ℕ). let s : Result A GrammarFault = Err (grammar.TooMany n) in s) k
+too_many_of {A} (Err (grammar.TooMany p)) place e = let k : p ≡ place = cc in
+    ap (λ (n : ℕ). let s : Result A GrammarFault = Err (grammar.TooMany n) in s) k
 too_many_of (Err (grammar.Unexpected p)) place e = absurd cc
 
 never_text : {A : Type 0} (r : Result A GrammarFault) (f : TextFault) → with_fault r ≡ Err (Text f) → ⊥
@@ -47,21 +51,44 @@ never_text (Err (grammar.TooMany p)) f e = absurd cc
 
 -- ---- with tokens
 
-says_from : (text : List ℕ) (tree : Input) (r : Result (List Token) TextFault) → tokens_of text ≡ r → with_tokens input r (length text) ≡ Ok tree → Says text tree
-says_from text tree (Ok ts) is e = record { tokens = ts; are_tokens = is; spelled = read_is_spelled input input_next (length text) ts tree (value_of_fault (reads_all input (length text) ts) tree e) true }
+says_from : (text : List ℕ) (tree : Input) (r : Result (List Token) TextFault) → tokens_of text ≡ r
+    → with_tokens input r (length text) ≡ Ok tree → Says text tree
+says_from text tree (Ok ts) is e =
+    record {
+      tokens = ts;
+      are_tokens = is;
+      spelled = read_is_spelled input input_next (length text) ts tree
+          (value_of_fault (reads_all input (length text) ts) tree e) true;
+    }
 says_from text tree (Err f) is e = absurd cc
 
-follow_from : (text : List ℕ) (place : ℕ) (r : Result (List Token) TextFault) → tokens_of text ≡ r → with_tokens input r (length text) ≡ Err (Unexpected place) → CantFollow text place
-follow_from text place (Ok ts) is e = record { tokens = ts; are_tokens = is; stands = unexpected_cant_follow input input_next (length text) ts place (unexpected_of (reads_all input (length text) ts) place e) }
+follow_from : (text : List ℕ) (place : ℕ) (r : Result (List Token) TextFault) → tokens_of text ≡ r
+    → with_tokens input r (length text) ≡ Err (Unexpected place) → CantFollow text place
+follow_from text place (Ok ts) is e =
+    record {
+      tokens = ts;
+      are_tokens = is;
+      stands = unexpected_cant_follow input input_next (length text) ts place
+          (unexpected_of (reads_all input (length text) ts) place e);
+    }
 follow_from text place (Err f) is e = absurd cc
 
-much_from : (text : List ℕ) (place : ℕ) (r : Result (List Token) TextFault) → tokens_of text ≡ r → with_tokens input r (length text) ≡ Err (TooMany place) → IsTooMuch text place
-much_from text place (Ok ts) is e = record { tokens = ts; are_tokens = is; stands = too_many_is_too_much input input_next (length text) ts place (too_many_of (reads_all input (length text) ts) place e) }
+much_from : (text : List ℕ) (place : ℕ) (r : Result (List Token) TextFault) → tokens_of text ≡ r
+    → with_tokens input r (length text) ≡ Err (TooMany place) → IsTooMuch text place
+much_from text place (Ok ts) is e =
+    record {
+      tokens = ts;
+      are_tokens = is;
+      stands = too_many_is_too_much input input_next (length text) ts place
+          (too_many_of (reads_all input (length text) ts) place e);
+    }
 much_from text place (Err f) is e = absurd cc
 
-text_from : (text : List ℕ) (f : TextFault) (r : Result (List Token) TextFault) → tokens_of text ≡ r → with_tokens input r (length text) ≡ Err (Text f) → tokens_of text ≡ Err f
+text_from : (text : List ℕ) (f : TextFault) (r : Result (List Token) TextFault) → tokens_of text ≡ r
+    → with_tokens input r (length text) ≡ Err (Text f) → tokens_of text ≡ Err f
 text_from text f (Ok ts) is e = absurd (never_text (reads_all input (length text) ts) f e)
-text_from text f (Err g) is e = let k : g ≡ f = cc in is ∙ ap (λ (h : TextFault). let s : Result (List Token) TextFault = Err h in s) k
+text_from text f (Err g) is e = let k : g ≡ f = cc in
+    is ∙ ap (λ (h : TextFault). let s : Result (List Token) TextFault = Err h in s) k
 
 -- ---- by any grammar, with tokens up to the first fault
 
@@ -71,11 +98,13 @@ module _ {A : Type 0} (g : Grammar A) (g_next : IsPredictive g []) where
   as_read text = with_tokens g (tokens_of text) (length text)
 
   -- a text with these tokens
-  with_these : (text : List ℕ) (tokens : List Token) → tokens_of text ≡ Ok tokens → as_read text ≡ with_fault (reads_all g (length text) tokens)
+  with_these : (text : List ℕ) (tokens : List Token) → tokens_of text ≡ Ok tokens
+      → as_read text ≡ with_fault (reads_all g (length text) tokens)
   with_these text tokens is = ap (λ (r : Result (List Token) TextFault). with_tokens g r (length text)) is
 
   -- what the tokens up to the first fault say is what all of them say
-  pub read_up_to : (text : List ℕ) (tokens : List Token) (tree : A) → tokens ≡ tokens_left 0 text → reads_all g (length text) tokens ≡ Ok tree → as_read text ≡ Ok tree
+  pub read_up_to : (text : List ℕ) (tokens : List Token) (tree : A) → tokens ≡ tokens_left 0 text
+      → reads_all g (length text) tokens ≡ Ok tree → as_read text ≡ Ok tree
   read_up_to text tokens tree left e = from (tokens_of text) refl
     where
       from : (r : Result (List Token) TextFault) → tokens_of text ≡ r → as_read text ≡ Ok tree
@@ -89,7 +118,8 @@ module _ {A : Type 0} (g : Grammar A) (g_next : IsPredictive g []) where
           absurd cc
 
   -- without a fault of the tokens, the first fault is that of the grammar
-  pub fault_up_to : (text : List ℕ) (tokens : List Token) (fault : GrammarFault) → tokens ≡ tokens_left 0 text → tokens_of text ≡ Ok (tokens_left 0 text)
+  pub fault_up_to : (text : List ℕ) (tokens : List Token) (fault : GrammarFault) → tokens ≡ tokens_left 0 text
+      → tokens_of text ≡ Ok (tokens_left 0 text)
       → reads_all g (length text) tokens ≡ Err fault → as_read text ≡ Err (fault_of fault)
   fault_up_to text tokens fault left is e =
       with_these text (tokens_left 0 text) is ∙ ap (λ (r : Result A GrammarFault). with_fault r)
@@ -130,7 +160,9 @@ read_is_said text tree e = says_from text tree (tokens_of text) refl e
 
 pub said_is_read : (text : List ℕ) (tree : Input) → Says text tree → reading text ≡ Ok tree
 unfolding reading
-said_is_read text tree h = with_these input input_next text h.tokens h.are_tokens ∙ ap (λ (r : Result Input GrammarFault). with_fault r) (spelled_is_read input input_next (length text) h.tokens tree h.spelled)
+said_is_read text tree h = with_these input input_next text h.tokens h.are_tokens
+    ∙ ap (λ (r : Result Input GrammarFault). with_fault r)
+    (spelled_is_read input input_next (length text) h.tokens tree h.spelled)
 
 pub one_is_said : (text : List ℕ) (one other : Input) → Says text one → Says text other → one ≡ other
 one_is_said text one other h k = let a = said_is_read text one h in let b = said_is_read text other k in cc
@@ -149,7 +181,9 @@ unexpected_is text place e = follow_from text place (tokens_of text) refl e
 
 pub unexpected_so : (text : List ℕ) (place : ℕ) → CantFollow text place → reading text ≡ Err (Unexpected place)
 unfolding reading
-unexpected_so text place h = with_these input input_next text h.tokens h.are_tokens ∙ ap (λ (r : Result Input GrammarFault). with_fault r) (cant_follow_is_unexpected input (length text) h.tokens input_next place h.stands)
+unexpected_so text place h = with_these input input_next text h.tokens h.are_tokens
+    ∙ ap (λ (r : Result Input GrammarFault). with_fault r)
+    (cant_follow_is_unexpected input (length text) h.tokens input_next place h.stands)
 
 pub too_many_is : (text : List ℕ) (place : ℕ) → reading text ≡ Err (TooMany place) → IsTooMuch text place
 unfolding reading
@@ -157,28 +191,35 @@ too_many_is text place e = much_from text place (tokens_of text) refl e
 
 pub too_many_so : (text : List ℕ) (place : ℕ) → IsTooMuch text place → reading text ≡ Err (TooMany place)
 unfolding reading
-too_many_so text place h = with_these input input_next text h.tokens h.are_tokens ∙ ap (λ (r : Result Input GrammarFault). with_fault r) (too_much_is_too_many input (length text) h.tokens input_next place h.stands)
+too_many_so text place h = with_these input input_next text h.tokens h.are_tokens
+    ∙ ap (λ (r : Result Input GrammarFault). with_fault r)
+    (too_much_is_too_many input (length text) h.tokens input_next place h.stands)
 
 -- ---- as the two readers have it
 
-pub input_up_to : (text : List ℕ) (tokens : List Token) (tree : Input) → tokens ≡ tokens_left 0 text → reads_all input (length text) tokens ≡ Ok tree → reading text ≡ Ok tree
+pub input_up_to : (text : List ℕ) (tokens : List Token) (tree : Input) → tokens ≡ tokens_left 0 text
+    → reads_all input (length text) tokens ≡ Ok tree → reading text ≡ Ok tree
 unfolding reading
 input_up_to = read_up_to input input_next
 
-pub input_fault_up_to : (text : List ℕ) (tokens : List Token) (fault : GrammarFault) → tokens ≡ tokens_left 0 text → tokens_of text ≡ Ok (tokens_left 0 text)
+pub input_fault_up_to : (text : List ℕ) (tokens : List Token) (fault : GrammarFault) → tokens ≡ tokens_left 0 text
+    → tokens_of text ≡ Ok (tokens_left 0 text)
     → reads_all input (length text) tokens ≡ Err fault → reading text ≡ Err (fault_of fault)
 unfolding reading
 input_fault_up_to = fault_up_to input input_next
 
-pub script_up_to : (text : List ℕ) (tokens : List Token) (tree : Script) → tokens ≡ tokens_left 0 text → reads_all script (length text) tokens ≡ Ok tree → script_reading text ≡ Ok tree
+pub script_up_to : (text : List ℕ) (tokens : List Token) (tree : Script) → tokens ≡ tokens_left 0 text
+    → reads_all script (length text) tokens ≡ Ok tree → script_reading text ≡ Ok tree
 unfolding script_reading
 script_up_to = read_up_to script (script_next [])
 
-pub script_fault_up_to : (text : List ℕ) (tokens : List Token) (fault : GrammarFault) → tokens ≡ tokens_left 0 text → tokens_of text ≡ Ok (tokens_left 0 text)
+pub script_fault_up_to : (text : List ℕ) (tokens : List Token) (fault : GrammarFault) → tokens ≡ tokens_left 0 text
+    → tokens_of text ≡ Ok (tokens_left 0 text)
     → reads_all script (length text) tokens ≡ Err fault → script_reading text ≡ Err (fault_of fault)
 unfolding script_reading
 script_fault_up_to = fault_up_to script (script_next [])
 
-pub script_text_fault_first : (text : List ℕ) (f : TextFault) → tokens_of text ≡ Err f → script_reading text ≡ Err (Text f)
+pub script_text_fault_first : (text : List ℕ) (f : TextFault) → tokens_of text ≡ Err f
+    → script_reading text ≡ Err (Text f)
 unfolding script_reading
 script_text_fault_first = text_fault_comes_first script (script_next [])

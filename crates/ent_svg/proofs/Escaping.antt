@@ -14,7 +14,8 @@ pub escape_other : (b : ℕ) → (b ≡ 60 → ⊥) → (b ≡ 62 → ⊥) → (
 escape_other b less more amp quote =
     other_by b (ne_eqb b 60 less) (ne_eqb b 62 more) (ne_eqb b 38 amp) (ne_eqb b 34 quote)
 
-quote_piece : (b : ℕ) → b ≢ 60 → b ≢ 62 → b ≢ 38 → (t : Bool) → eqb b 34 ≡ t → IsPiece (if t then codes "&quot;" else b ∷ [])
+quote_piece : (b : ℕ) → b ≢ 60 → b ≢ 62 → b ≢ 38 → (t : Bool) → eqb b 34 ≡ t
+    → IsPiece (if t then codes "&quot;" else b ∷ [])
 quote_piece b less more amp true e = inr (inr (inr (inl refl)))
 quote_piece b less more amp false e = inr (inr (inr (inr (b, refl, less, more, amp, eqb-false b 34 e))))
 
@@ -24,7 +25,8 @@ amp_piece b less more true e = inr (inr (inl refl))
 amp_piece b less more false e = quote_piece b less more (eqb-false b 38 e) (eqb b 34) refl
 
 more_piece : (b : ℕ) → b ≢ 60 → (t : Bool) → eqb b 62 ≡ t
-    → IsPiece (if t then codes "&gt;" else (if b == 38 then codes "&amp;" else (if b == 34 then codes "&quot;" else b ∷ [])))
+    → IsPiece (if t then codes "&gt;" else
+    (if b == 38 then codes "&amp;" else (if b == 34 then codes "&quot;" else b ∷ [])))
 more_piece b less true e = inr (inl refl)
 more_piece b less false e = amp_piece b less (eqb-false b 62 e) (eqb b 38) refl
 

@@ -29,30 +29,46 @@ module _ (tables : List Relation) (log : List Noted) (tx table : ℕ) (after : R
       ∙ set_there (kinds_in tables) table (slice_index_or tables table no_table).kinds kinds_at
 
   -- the notes are of the tables that stand then
-  pub noted_too : AreOfTables (kinds_in tables) log → AreOfTables (kinds_in (slice_set tables table after)) (log ++ noted_at tx table tables ∷ [])
+  pub noted_too : AreOfTables (kinds_in tables) log
+      → AreOfTables (kinds_in (slice_set tables table after)) (log ++ noted_at tx table tables ∷ [])
   noted_too all =
-      rw kinds_kept (all_push (λ change. slice_get (kinds_in tables) change.table ≡ Some change.before.kinds) log (noted_at tx table tables) all kinds_at)
+      rw kinds_kept (all_push (λ change. slice_get (kinds_in tables) change.table ≡ Some change.before.kinds) log
+      (noted_at tx table tables) all kinds_at)
 
-  pub made : (removed added : List (List Value)) → after.rows ≡ applied removed added (slice_index_or tables table no_table).rows
-      → stored_of (slice_set tables table after) (log ++ noted_at tx table tables ∷ []) ≡ changed tx table removed added (stored_of tables log)
+  pub made : (removed added : List (List Value))
+      → after.rows ≡ applied removed added (slice_index_or tables table no_table).rows
+      → stored_of (slice_set tables table after) (log ++ noted_at tx table tables ∷ []) ≡ changed tx table removed added
+      (stored_of tables log)
   made removed added is =
-      let at : slice_index_or (rows_in tables) table set.empty ≡ (slice_index_or tables table no_table).rows = index_map (λ (t : Relation). t.rows) tables table no_table in
-      let rows : rows_in (slice_set tables table after) ≡ slice_set (rows_in tables) table (applied removed added (slice_index_or (rows_in tables) table set.empty)) =
+      let at : slice_index_or (rows_in tables) table set.empty ≡ (slice_index_or tables table no_table).rows =
+      index_map (λ (t : Relation). t.rows) tables table no_table in
+      let rows : rows_in (slice_set tables table after) ≡ slice_set (rows_in tables) table
+      (applied removed added (slice_index_or (rows_in tables) table set.empty)) =
       map-set (λ (t : Relation). t.rows) tables table after
       ∙ ap (λ rs. slice_set (rows_in tables) table rs) (is ∙ ap (applied removed added) (sym at)) in
-      let changes : changes_seen (log ++ noted_at tx table tables ∷ []) ≡ record { tx = tx; table = table; before = slice_index_or (rows_in tables) table set.empty } ∷ changes_seen log =
-      seen_newest log (noted_at tx table tables) ∙ (λ i. record { tx = tx; table = table; before = sym at i } ∷ changes_seen log) in
+      let changes : changes_seen
+      (log ++ noted_at tx table tables ∷ []) ≡ record {
+        tx = tx;
+        table = table;
+        before = slice_index_or
+            (rows_in tables) table set.empty;
+      } ∷ changes_seen log =
+      seen_newest log (noted_at tx table tables)
+      ∙ (λ i. record { tx = tx; table = table; before = sym at i } ∷ changes_seen log) in
       λ i. record { kinds = kinds_kept i; tables = rows i; changes = changes i }
 
-  pub undone : taken_back (stored_of (slice_set tables table after) (log ++ noted_at tx table tables ∷ [])) ≡ stored_of tables log
+  pub undone : taken_back (stored_of (slice_set tables table after) (log ++ noted_at tx table tables ∷ [])) ≡ stored_of
+      tables log
   undone =
       let newest = seen_newest log (noted_at tx table tables) in
       let before = slice_index_or tables table no_table in
       let rows : slice_set (rows_in (slice_set tables table after)) table before.rows ≡ rows_in tables =
       ap (λ (rs : Tables). slice_set rs table before.rows) (map-set (λ (t : Relation). t.rows) tables table after)
       ∙ set-set (rows_in tables) table after.rows before.rows
-      ∙ set_there (rows_in tables) table before.rows (get_there (λ (t : Relation). t.rows) tables table no_table there) in
-      (λ i. taken_back (record (stored_of (slice_set tables table after) (log ++ noted_at tx table tables ∷ [])) { changes = newest i }))
+      ∙ set_there (rows_in tables) table before.rows
+      (get_there (λ (t : Relation). t.rows) tables table no_table there) in
+      (λ i. taken_back (record
+      (stored_of (slice_set tables table after) (log ++ noted_at tx table tables ∷ [])) { changes = newest i }))
       ∙ (λ i. record { kinds = kinds_kept i; tables = rows i; changes = changes_seen log })
 
 -- as it is done
@@ -63,7 +79,13 @@ module _ (tables tables' : List Relation) (log log' : List Noted) (s : Stored) (
     (is_before : before ≡ slice_index_or tables table no_table)
     (same : after.kinds ≡ (slice_index_or tables table no_table).kinds) where
   below : table < length tables
-  below = omega (arith, there, ap (λ (stored : Stored). length stored.tables) view, length-map tables (λ (t : Relation). t.rows))
+  below = omega (
+    arith,
+    there,
+    ap (λ (stored : Stored). length stored.tables) view,
+    length-map tables
+        (λ (t : Relation). t.rows),
+  )
 
   log_is : log' ≡ log ++ noted_at tx table tables ∷ []
   log_is = noted ∙ (λ i. log ++ record { tx = tx; table = table; before = is_before i } ∷ [])
@@ -71,7 +93,8 @@ module _ (tables tables' : List Relation) (log log' : List Noted) (s : Stored) (
   pub change_is_noted : AreOfTables (kinds_in tables) log → AreOfTables (kinds_in tables') log'
   change_is_noted all = rw (put, log_is) (noted_too tables log tx table after below same all)
 
-  pub change_is_made : (removed added : List (List Value)) → after.rows ≡ applied removed added (slice_index_or tables table no_table).rows
+  pub change_is_made : (removed added : List (List Value))
+      → after.rows ≡ applied removed added (slice_index_or tables table no_table).rows
       → stored_of tables' log' ≡ changed tx table removed added s
   change_is_made removed added rows =
       (λ i. stored_of (put i) (log_is i)) ∙ made tables log tx table after below same removed added rows
@@ -83,7 +106,8 @@ module _ (tables tables' : List Relation) (log log' : List Noted) (s : Stored) (
 
 -- ---- the newest change is taken back
 
-kinds_set : (tables : List Relation) (newest : Noted) → slice_get (kinds_in tables) newest.table ≡ Some newest.before.kinds
+kinds_set : (tables : List Relation) (newest : Noted)
+    → slice_get (kinds_in tables) newest.table ≡ Some newest.before.kinds
     → kinds_in (slice_set tables newest.table newest.before) ≡ kinds_in tables
 kinds_set tables newest at =
     map-set (λ (t : Relation). t.kinds) tables newest.table newest.before
@@ -91,26 +115,31 @@ kinds_set tables newest at =
 
 without_newest : (tables : List Relation) (earlier : List Noted) (newest : Noted)
     → slice_get (kinds_in tables) newest.table ≡ Some newest.before.kinds
-    → stored_of (slice_set tables newest.table newest.before) earlier ≡ taken_back (stored_of tables (earlier ++ newest ∷ []))
+    → stored_of (slice_set tables newest.table newest.before) earlier ≡ taken_back
+    (stored_of tables (earlier ++ newest ∷ []))
 without_newest tables earlier newest at =
     let rows = map-set (λ (t : Relation). t.rows) tables newest.table newest.before in
     (λ i. record { kinds = kinds_set tables newest at i; tables = rows i; changes = changes_seen earlier })
-    ∙ sym (λ i. taken_back (record (stored_of tables (earlier ++ newest ∷ [])) { changes = seen_newest earlier newest i }))
+    ∙ sym (λ i. taken_back (record
+    (stored_of tables (earlier ++ newest ∷ [])) { changes = seen_newest earlier newest i }))
 
 module _ (tables tables' : List Relation) (log log' : List Noted)
     (none : log ≡ [] → (log' ≡ []) × (tables' ≡ tables))
     (left : (earlier : List Noted) (newest : Noted) → log ≡ earlier ++ newest ∷ [] → log' ≡ earlier)
-    (put : (earlier : List Noted) (newest : Noted) → log ≡ earlier ++ newest ∷ [] → tables' ≡ slice_set tables newest.table newest.before)
+    (put : (earlier : List Noted) (newest : Noted) → log ≡ earlier ++ newest ∷ []
+    → tables' ≡ slice_set tables newest.table newest.before)
     (all : AreOfTables (kinds_in tables) log) where
   newest_at : (earlier : List Noted) (newest : Noted) → log ≡ earlier ++ newest ∷ []
       → AreOfTables (kinds_in tables) earlier × (slice_get (kinds_in tables) newest.table ≡ Some newest.before.kinds)
   newest_at earlier newest is =
-      all_pop (λ change. slice_get (kinds_in tables) change.table ≡ Some change.before.kinds) earlier newest (rw (← is) all)
+      all_pop (λ change. slice_get (kinds_in tables) change.table ≡ Some change.before.kinds) earlier newest
+      (rw (← is) all)
 
   pub taken : stored_of tables' log' ≡ taken_back (stored_of tables log)
   taken = by (ends log)
     where
-      by : (log ≡ []) ⊎ ((earlier : List Noted) × (newest : Noted) × (log ≡ earlier ++ newest ∷ [])) → stored_of tables' log' ≡ taken_back (stored_of tables log)
+      by : (log ≡ []) ⊎ ((earlier : List Noted) × (newest : Noted) × (log ≡ earlier ++ newest ∷ []))
+          → stored_of tables' log' ≡ taken_back (stored_of tables log)
       by (inl empty) =
           let e = none empty in
           (λ i. stored_of (e.1 i) (e.0 i)) ∙ sym (ap (λ notes. taken_back (stored_of tables notes)) empty)
@@ -123,7 +152,8 @@ module _ (tables tables' : List Relation) (log log' : List Noted)
   pub still_of_tables : AreOfTables (kinds_in tables') log'
   still_of_tables = by (ends log)
     where
-      by : (log ≡ []) ⊎ ((earlier : List Noted) × (newest : Noted) × (log ≡ earlier ++ newest ∷ [])) → AreOfTables (kinds_in tables') log'
+      by : (log ≡ []) ⊎ ((earlier : List Noted) × (newest : Noted) × (log ≡ earlier ++ newest ∷ []))
+          → AreOfTables (kinds_in tables') log'
       by (inl empty) = rw (none empty).0 tt
       by (inr e) =
           let at = newest_at e.0 e.1 e.2 in

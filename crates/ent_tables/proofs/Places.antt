@@ -1,5 +1,6 @@
 -- Elements at their places.
-use Rattle.std.proofs.Common.{◌≡◌, ◌<◌, ◌≤◌, ℕ, zero, suc, List, [], ◌∷◌, length, map, set, get_or, refl, sym, ap, ◌∙◌, arith, Some, None}
+use Rattle.std.proofs.Common.{◌≡◌, ◌<◌, ◌≤◌, ℕ, zero, suc, List, [], ◌∷◌, length, map, set, get_or, refl, sym, ap, ◌∙◌}
+use Rattle.std.proofs.Common.{arith, Some, None}
 use Rattle.std.specs.Prelude.{slice_get, slice_index_or}
 use Rattle.ent_set.specs.Sets as set
 use Rattle.ent_tree.specs.declared.declaration.Create.{Create}
@@ -18,25 +19,29 @@ map_at f (y ∷ xs) zero x d lt is = ap f (sym is)
 map_at f (y ∷ xs) (suc i) x d lt is = map_at f xs i x d (omega arith) is
 
 -- what stands at a place, or in its stead, seen by f
-pub index_map : {A B : Type 0} (f : A → B) (xs : List A) (i : ℕ) (d : A) → slice_index_or (map f xs) i (f d) ≡ f (slice_index_or xs i d)
+pub index_map : {A B : Type 0} (f : A → B) (xs : List A) (i : ℕ) (d : A)
+    → slice_index_or (map f xs) i (f d) ≡ f (slice_index_or xs i d)
 index_map f [] i d = refl
 index_map f (x ∷ xs) zero d = refl
 index_map f (x ∷ xs) (suc i) d = index_map f xs i d
 
 -- a place that is there, seen by f and then by g
-pub there_at : {A B C : Type 0} (f : A → B) (g : B → C) (xs : List A) (i : ℕ) (x : A) → i < length xs → x ≡ get_or xs i x
+pub there_at : {A B C : Type 0} (f : A → B) (g : B → C) (xs : List A) (i : ℕ) (x : A) → i < length xs
+    → x ≡ get_or xs i x
     → Some (g (f x)) ≡ slice_get (map g (map f xs)) i
 there_at f g [] i x lt is = absurd (omega arith)
 there_at f g (y ∷ xs) zero x lt is = ap (λ z. Some (g (f z))) is
 there_at f g (y ∷ xs) (suc i) x lt is = there_at f g xs i x (omega arith) is
 
-pub past_all : {A B C : Type 0} (f : A → B) (g : B → C) (xs : List A) (i : ℕ) → length xs ≤ i → None ≡ slice_get (map g (map f xs)) i
+pub past_all : {A B C : Type 0} (f : A → B) (g : B → C) (xs : List A) (i : ℕ) → length xs ≤ i
+    → None ≡ slice_get (map g (map f xs)) i
 past_all f g [] i past = refl
 past_all f g (y ∷ xs) zero past = absurd (omega arith)
 past_all f g (y ∷ xs) (suc i) past = past_all f g xs i (omega arith)
 
 -- a place below the length has what stands there
-pub get_there : {A B : Type 0} (f : A → B) (xs : List A) (i : ℕ) (d : A) → i < length xs → slice_get (map f xs) i ≡ Some (f (slice_index_or xs i d))
+pub get_there : {A B : Type 0} (f : A → B) (xs : List A) (i : ℕ) (d : A) → i < length xs
+    → slice_get (map f xs) i ≡ Some (f (slice_index_or xs i d))
 get_there f [] i d lt = absurd (omega arith)
 get_there f (x ∷ xs) zero d lt = refl
 get_there f (x ∷ xs) (suc i) d lt = get_there f xs i d (omega arith)
@@ -49,12 +54,14 @@ set_there (y ∷ xs) (suc i) x is = ap (λ zs. y ∷ zs) (set_there xs i x is)
 
 -- ---- tables as uses name them
 
-pub seen_is : (declared : List Create) (tables : List Relation) (uses : List Use) → kinds_declared declared ≡ kinds_in tables
+pub seen_is : (declared : List Create) (tables : List Relation) (uses : List Use)
+    → kinds_declared declared ≡ kinds_in tables
     → seen_in tables uses ≡ seen_now declared (rows_in tables) uses
 seen_is declared tables [] is = refl
 seen_is declared tables (own ∷ uses) is =
     let kinds : (slice_index_or tables own.table no_table).kinds ≡ declared_kinds declared own.table =
-    sym (index_map (λ (t : Relation). t.kinds) tables own.table no_table) ∙ ap (λ all. slice_index_or all own.table []) (sym is) in
+    sym (index_map (λ (t : Relation). t.kinds) tables own.table no_table) ∙ ap (λ all. slice_index_or all own.table [])
+    (sym is) in
     let rows = sym (index_map (λ (t : Relation). t.rows) tables own.table no_table) in
     let first : seen_at tables own.table ≡ record {
       table = own.table;

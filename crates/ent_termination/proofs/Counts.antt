@@ -91,7 +91,8 @@ one_begins all m own ms ascend at tx k less =
         by : (b : Bool) → (y.tx == own.tx) ≡ b → unbegun_of all (cond b own y) ≤ unbegun_of all y
         by true is =
             let same : m ≡ y =
-            one_of member_tx ms m y (below_apart member_tx ms ascend) at there (sym (same_number y.tx own.tx is ∙ tx)) in
+            one_of member_tx ms m y (below_apart member_tx ms ascend) at there
+            (sym (same_number y.tx own.tx is ∙ tx)) in
             subst (λ (x : Member). unbegun_of all own ≤ unbegun_of all x) same (fewer _ _ k less)
         by false is = omega arith
 

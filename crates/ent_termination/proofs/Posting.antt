@@ -15,7 +15,8 @@ use Rattle.ent_lists.specs.Elements.{turned}
 use Rattle.ent_termination.proofs.ReachedStates.{member_tx}
 
 -- what a member asks depends on the scripts alone
-pub asks_under : (s new : State) (m : Member) (a : Posted) → new.submitted ≡ s.submitted → IsPostedBy new m a → IsPostedBy s m a
+pub asks_under : (s new : State) (m : Member) (a : Posted) → new.submitted ≡ s.submitted → IsPostedBy new m a
+    → IsPostedBy s m a
 asks_under s new m a submitted asks =
     record {
       posted = asks.posted;
@@ -51,7 +52,8 @@ module _ (s new : State) (m own : Member) (active : new.active ≡ map (replaced
       by : (b : Member) → In b s.active → IsPostedBy s b a → a.tx ≡ b.tx → (is : Bool) → (b.tx == own.tx) ≡ is
           → In a (pool new) × ((a.tx == m.tx) ≡ false)
       by b here asks same true is =
-          let one : b ≡ m = one_of member_tx s.active b m (below_apart member_tx s.active ascend) here at (same_number b.tx own.tx is ∙ tx) in
+          let one : b ≡ m = one_of member_tx s.active b m (below_apart member_tx s.active ascend) here at
+          (same_number b.tx own.tx is ∙ tx) in
           clash b.posted asks.posted (ap (λ (x : Member). x.posted) one ∙ unposted)
       by b here asks same false is = (
         to_pool new a b
@@ -125,6 +127,7 @@ prepared_asks s m ascend at unposted =
       where
         by : (is : Bool) → (b.tx == m.tx) ≡ is → not is ≡ true
         by true is =
-            let one : b ≡ m = one_of member_tx s.active b m (below_apart member_tx s.active ascend) here at (same_number b.tx m.tx is) in
+            let one : b ≡ m = one_of member_tx s.active b m (below_apart member_tx s.active ascend) here at
+            (same_number b.tx m.tx is) in
             clash b.posted posted (ap (λ (x : Member). x.posted) one ∙ unposted)
         by false is = refl

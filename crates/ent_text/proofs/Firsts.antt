@@ -1,5 +1,6 @@
 -- The first byte of a piece tells what it is.
-use Rattle.std.proofs.Common.{◌≡◌, ℕ, ◌<◌, ◌≤◌, Bool, true, false, not, cond, leb, eqb, List, [], ◌∷◌, length, Result, Ok, refl, ap, sym, ◌∙◌, arith, Option, Some, None, ◌⊎◌, inl, inr}
+use Rattle.std.proofs.Common.{◌≡◌, ℕ, ◌<◌, ◌≤◌, Bool, true, false, not, cond, leb, eqb, List, [], ◌∷◌, length, Result}
+use Rattle.std.proofs.Common.{Ok, refl, ap, sym, ◌∙◌, arith, Option, Some, None, ◌⊎◌, inl, inr}
 use Rattle.std.specs.Prelude.{◌||◌, slice_index}
 use Rattle.std.specs.Char.{is_ascii_alphabetic, is_ascii_digit}
 use Rattle.std.specs.Int.{is_in_range}
@@ -8,10 +9,13 @@ use Rattle.ent_text.specs.declared.fault.TextFault.{TextFault}
 use Rattle.ent_text.specs.declared.token.TokenKind.{TokenKind}
 use Rattle.ent_text.specs.declared.token.TokenKind.TheVariants.{Word, Name, HostVariable, Number, Literal, Sign, Fault}
 use Rattle.ent_text.specs.declared.symbol.Symbol.{Symbol}
-use Rattle.ent_text.specs.declared.symbol.Symbol.TheVariants.{Open, Close, Comma, Semicolon, Dot, Star, Plus, Minus, Equal, NotEqual, Less, LessOrEqual, Greater, GreaterOrEqual}
+use Rattle.ent_text.specs.declared.symbol.Symbol.TheVariants.{Open, Close, Comma, Semicolon, Dot, Star, Plus, Minus}
+use Rattle.ent_text.specs.declared.symbol.Symbol.TheVariants.{Equal, NotEqual, Less, LessOrEqual, Greater}
+use Rattle.ent_text.specs.declared.symbol.Symbol.TheVariants.{GreaterOrEqual}
 use Rattle.ent_text.specs.Symbol.{symbol_text, SpellsSymbol}
 use Rattle.ent_text.specs.Spelling.{Spells, is_blank, is_in_line, IsBlank, IsComment, IsPiece}
-use Rattle.ent_text.specs.Lexing.{Piece, after, word_at, number_at, text_at, host_variable_at, begins_comment, symbol_at, piece_at}
+use Rattle.ent_text.specs.Lexing.{Piece, after, word_at, number_at, text_at, host_variable_at, begins_comment}
+use Rattle.ent_text.specs.Lexing.{symbol_at, piece_at}
 use Rattle.ent_text.proofs.Digits.{is_digit}
 
 abbrev pub class_from : Bool → Bool → Bool → Bool → Bool → ℕ
@@ -50,13 +54,19 @@ digit_is_small b e = let k : b ≤ 57 = leb-true b 57 (and_parts (leb 48 b) (leb
 
 pub class_of_letter : (b : ℕ) → is_ascii_alphabetic b ≡ true → class_of b ≡ 1
 unfolding class_of
-class_of_letter b e = eqb-true (class_of b) 1 (implied (is_ascii_alphabetic b) (eqb (class_of b) 1) (agree_below_at (λ c. not (is_ascii_alphabetic c) || eqb (class_of c) 1) (λ c. true) 128 b refl (letter_is_small b e)) e)
+class_of_letter b e = eqb-true (class_of b) 1
+    (implied (is_ascii_alphabetic b) (eqb (class_of b) 1)
+    (agree_below_at (λ c. not (is_ascii_alphabetic c) || eqb (class_of c) 1) (λ c. true) 128 b refl
+    (letter_is_small b e)) e)
 
 pub class_of_digit : (b : ℕ) → is_ascii_digit b ≡ true → class_of b ≡ 2
 unfolding class_of
-class_of_digit b e = eqb-true (class_of b) 2 (implied (is_ascii_digit b) (eqb (class_of b) 2) (agree_below_at (λ c. not (is_ascii_digit c) || eqb (class_of c) 2) (λ c. true) 128 b refl (digit_is_small b e)) e)
+class_of_digit b e = eqb-true (class_of b) 2
+    (implied (is_ascii_digit b) (eqb (class_of b) 2)
+    (agree_below_at (λ c. not (is_ascii_digit c) || eqb (class_of c) 2) (λ c. true) 128 b refl (digit_is_small b e)) e)
 
-pub class_of_other : (b : ℕ) → is_blank b ≡ false → is_ascii_alphabetic b ≡ false → is_ascii_digit b ≡ false → eqb b 39 ≡ false → eqb b 64 ≡ false → class_of b ≡ 4
+pub class_of_other : (b : ℕ) → is_blank b ≡ false → is_ascii_alphabetic b ≡ false → is_ascii_digit b ≡ false
+    → eqb b 39 ≡ false → eqb b 64 ≡ false → class_of b ≡ 4
 unfolding class_of
 class_of_other b e f g h i = on (is_blank b) (is_ascii_alphabetic b) (is_ascii_digit b) (eqb b 39) (eqb b 64) e f g h i
   where
@@ -110,22 +120,29 @@ class_of_exclamation : class_of 33 ≡ 4
 unfolding class_of
 class_of_exclamation = refl
 
-pub class_of_symbol : (bytes : List ℕ) (symbol : Symbol) → SpellsSymbol bytes symbol → class_of (slice_index bytes 0) ≡ 4
+pub class_of_symbol : (bytes : List ℕ) (symbol : Symbol) → SpellsSymbol bytes symbol
+    → class_of (slice_index bytes 0) ≡ 4
 class_of_symbol bytes symbol (inl e) = ap (λ (l : List ℕ). class_of (slice_index l 0)) e ∙ class_of_mark symbol
 class_of_symbol bytes symbol (inr e) = ap (λ (l : List ℕ). class_of (slice_index l 0)) e.0 ∙ class_of_exclamation
 
-pub kind_of_first : (b : ℕ) (bytes : List ℕ) (kind : TokenKind) → Spells (b ∷ bytes) kind → class_of b ≡ class_of_kind kind
+pub kind_of_first : (b : ℕ) (bytes : List ℕ) (kind : TokenKind) → Spells (b ∷ bytes) kind
+    → class_of b ≡ class_of_kind kind
 kind_of_first b bytes (Word keyword) h = class_of_letter b h.0.0
 kind_of_first b bytes (Name word) h = class_of_letter b h.0.0
-kind_of_first b bytes (HostVariable word) h = let k : b ≡ 64 = ap (λ (l : List ℕ). slice_index l 0) h.0 in ap class_of k ∙ class_of_at_sign
+kind_of_first b bytes (HostVariable word) h = let k : b ≡ 64 = ap (λ (l : List ℕ). slice_index l 0) h.0 in
+    ap class_of k ∙ class_of_at_sign
 kind_of_first b bytes (Number n) h = class_of_digit b (is_digit b h.0.1.0)
-kind_of_first b bytes (Literal text) h = let k : b ≡ 39 = ap (λ (l : List ℕ). slice_index l 0) h.0 in ap class_of k ∙ class_of_quote
+kind_of_first b bytes (Literal text) h = let k : b ≡ 39 = ap (λ (l : List ℕ). slice_index l 0) h.0 in
+    ap class_of k ∙ class_of_quote
 kind_of_first b bytes (Sign symbol) h = class_of_symbol (b ∷ bytes) symbol h
 kind_of_first b bytes (Fault fault) h = absurd h
 
-pub piece_of_first : (b k : ℕ) (bytes : List ℕ) (piece : Option TokenKind) → class_of b ≡ k → IsPiece (b ∷ bytes) piece → PieceOf k (b ∷ bytes) piece
-piece_of_first b k bytes None e (inl h) = let first : b ≡ h.0 = ap (λ (l : List ℕ). slice_index l 0) h.1 in inl (sym e ∙ ap class_of first ∙ class_of_blank h.0 h.2, h)
-piece_of_first b k bytes None e (inr h) = let first : b ≡ 45 = ap (λ (l : List ℕ). slice_index l 0) h.1 in inr (sym e ∙ ap class_of first ∙ class_of_minus, h)
+pub piece_of_first : (b k : ℕ) (bytes : List ℕ) (piece : Option TokenKind) → class_of b ≡ k → IsPiece (b ∷ bytes) piece
+    → PieceOf k (b ∷ bytes) piece
+piece_of_first b k bytes None e (inl h) = let first : b ≡ h.0 = ap (λ (l : List ℕ). slice_index l 0) h.1 in
+    inl (sym e ∙ ap class_of first ∙ class_of_blank h.0 h.2, h)
+piece_of_first b k bytes None e (inr h) = let first : b ≡ 45 = ap (λ (l : List ℕ). slice_index l 0) h.1 in
+    inr (sym e ∙ ap class_of first ∙ class_of_minus, h)
 piece_of_first b k bytes (Some kind) e h = (sym e ∙ kind_of_first b bytes kind h, h)
 
 length_of_mark : (symbol : Symbol) → 0 < length (symbol_text symbol)
@@ -159,10 +176,13 @@ no_empty_piece (Some (Fault fault)) h = absurd h
 
 -- ---- what is read there
 
-abbrev Chosen : Bool → Bool → Bool → Bool → Bool → Result Piece TextFault → Result Piece TextFault → Result Piece TextFault → Result Piece TextFault → Result Piece TextFault → Result Piece TextFault → Result Piece TextFault
+abbrev Chosen : Bool → Bool → Bool → Bool → Bool → Result Piece TextFault → Result Piece TextFault
+    → Result Piece TextFault → Result Piece TextFault → Result Piece TextFault → Result Piece TextFault
+    → Result Piece TextFault
 Chosen t u v w x a b c d e f = cond t a (cond u b (cond v c (cond w d (cond x e f))))
 
-pick_word : (t u v w x : Bool) (a b c d e f : Result Piece TextFault) → class_from t u v w x ≡ 1 → Chosen t u v w x a b c d e f ≡ b
+pick_word : (t u v w x : Bool) (a b c d e f : Result Piece TextFault) → class_from t u v w x ≡ 1
+    → Chosen t u v w x a b c d e f ≡ b
 pick_word true u v w x a b c d e f k = absurd (omega arith)
 pick_word false true v w x a b c d e f k = refl
 pick_word false false true w x a b c d e f k = absurd (omega arith)
@@ -170,7 +190,8 @@ pick_word false false false true x a b c d e f k = absurd (omega arith)
 pick_word false false false false true a b c d e f k = absurd (omega arith)
 pick_word false false false false false a b c d e f k = absurd (omega arith)
 
-pick_number : (t u v w x : Bool) (a b c d e f : Result Piece TextFault) → class_from t u v w x ≡ 2 → Chosen t u v w x a b c d e f ≡ c
+pick_number : (t u v w x : Bool) (a b c d e f : Result Piece TextFault) → class_from t u v w x ≡ 2
+    → Chosen t u v w x a b c d e f ≡ c
 pick_number true u v w x a b c d e f k = absurd (omega arith)
 pick_number false true v w x a b c d e f k = absurd (omega arith)
 pick_number false false true w x a b c d e f k = refl
@@ -178,7 +199,8 @@ pick_number false false false true x a b c d e f k = absurd (omega arith)
 pick_number false false false false true a b c d e f k = absurd (omega arith)
 pick_number false false false false false a b c d e f k = absurd (omega arith)
 
-pick_other : (t u v w x : Bool) (a b c d e f : Result Piece TextFault) → class_from t u v w x ≡ 4 → Chosen t u v w x a b c d e f ≡ f
+pick_other : (t u v w x : Bool) (a b c d e f : Result Piece TextFault) → class_from t u v w x ≡ 4
+    → Chosen t u v w x a b c d e f ≡ f
 pick_other true u v w x a b c d e f k = absurd (omega arith)
 pick_other false true v w x a b c d e f k = absurd (omega arith)
 pick_other false false true w x a b c d e f k = absurd (omega arith)
@@ -186,28 +208,39 @@ pick_other false false false true x a b c d e f k = absurd (omega arith)
 pick_other false false false false true a b c d e f k = absurd (omega arith)
 pick_other false false false false false a b c d e f k = refl
 
-pub word_is_read : (place b : ℕ) (bytes : List ℕ) → class_of b ≡ 1 → piece_at place (b ∷ bytes) ≡ word_at place (b ∷ bytes)
+pub word_is_read : (place b : ℕ) (bytes : List ℕ) → class_of b ≡ 1
+    → piece_at place (b ∷ bytes) ≡ word_at place (b ∷ bytes)
 unfolding piece_at class_of
-word_is_read place b bytes k = pick_word (is_blank b) (is_ascii_alphabetic b) (is_ascii_digit b) (eqb b 39) (eqb b 64) _ _ _ _ _ _ k
+word_is_read place b bytes k = pick_word (is_blank b) (is_ascii_alphabetic b) (is_ascii_digit b) (eqb b 39)
+    (eqb b 64) _ _ _ _ _ _ k
 
-pub number_is_read : (place b : ℕ) (bytes : List ℕ) → class_of b ≡ 2 → piece_at place (b ∷ bytes) ≡ number_at place (b ∷ bytes)
+pub number_is_read : (place b : ℕ) (bytes : List ℕ) → class_of b ≡ 2
+    → piece_at place (b ∷ bytes) ≡ number_at place (b ∷ bytes)
 unfolding piece_at class_of
-number_is_read place b bytes k = pick_number (is_blank b) (is_ascii_alphabetic b) (is_ascii_digit b) (eqb b 39) (eqb b 64) _ _ _ _ _ _ k
+number_is_read place b bytes k = pick_number (is_blank b) (is_ascii_alphabetic b) (is_ascii_digit b) (eqb b 39)
+    (eqb b 64) _ _ _ _ _ _ k
 
 abbrev CommentOr : List ℕ → Result Piece TextFault → Bool → Result Piece TextFault
 CommentOr bytes symbol comment = cond comment (Ok (None, after is_in_line bytes)) symbol
 
-other_is_read : (place b : ℕ) (bytes : List ℕ) → class_of b ≡ 4 → piece_at place (b ∷ bytes) ≡ CommentOr (b ∷ bytes) (symbol_at place (b ∷ bytes)) (begins_comment (b ∷ bytes))
+other_is_read : (place b : ℕ) (bytes : List ℕ) → class_of b ≡ 4
+    → piece_at place (b ∷ bytes) ≡ CommentOr (b ∷ bytes) (symbol_at place (b ∷ bytes)) (begins_comment (b ∷ bytes))
 unfolding piece_at class_of
-other_is_read place b bytes k = pick_other (is_blank b) (is_ascii_alphabetic b) (is_ascii_digit b) (eqb b 39) (eqb b 64) _ _ _ _ _ _ k
+other_is_read place b bytes k = pick_other (is_blank b) (is_ascii_alphabetic b) (is_ascii_digit b) (eqb b 39)
+    (eqb b 64) _ _ _ _ _ _ k
 
-pub comment_is_read : (place b : ℕ) (bytes : List ℕ) → class_of b ≡ 4 → begins_comment (b ∷ bytes) ≡ true → piece_at place (b ∷ bytes) ≡ Ok (None, after is_in_line (b ∷ bytes))
-comment_is_read place b bytes k e = other_is_read place b bytes k ∙ ap (CommentOr (b ∷ bytes) (symbol_at place (b ∷ bytes))) e
+pub comment_is_read : (place b : ℕ) (bytes : List ℕ) → class_of b ≡ 4 → begins_comment (b ∷ bytes) ≡ true
+    → piece_at place (b ∷ bytes) ≡ Ok (None, after is_in_line (b ∷ bytes))
+comment_is_read place b bytes k e =
+    other_is_read place b bytes k ∙ ap (CommentOr (b ∷ bytes) (symbol_at place (b ∷ bytes))) e
 
-pub symbol_is_read : (place b : ℕ) (bytes : List ℕ) → class_of b ≡ 4 → begins_comment (b ∷ bytes) ≡ false → piece_at place (b ∷ bytes) ≡ symbol_at place (b ∷ bytes)
-symbol_is_read place b bytes k e = other_is_read place b bytes k ∙ ap (CommentOr (b ∷ bytes) (symbol_at place (b ∷ bytes))) e
+pub symbol_is_read : (place b : ℕ) (bytes : List ℕ) → class_of b ≡ 4 → begins_comment (b ∷ bytes) ≡ false
+    → piece_at place (b ∷ bytes) ≡ symbol_at place (b ∷ bytes)
+symbol_is_read place b bytes k e =
+    other_is_read place b bytes k ∙ ap (CommentOr (b ∷ bytes) (symbol_at place (b ∷ bytes))) e
 
-pub host_variable_is_read : (place : ℕ) (bytes : List ℕ) → piece_at place (64 ∷ bytes) ≡ host_variable_at place (64 ∷ bytes)
+pub host_variable_is_read : (place : ℕ) (bytes : List ℕ)
+    → piece_at place (64 ∷ bytes) ≡ host_variable_at place (64 ∷ bytes)
 unfolding piece_at
 host_variable_is_read place bytes = refl
 

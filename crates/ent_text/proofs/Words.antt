@@ -1,5 +1,6 @@
 -- Words: which are reserved, and what spells them.
-use Rattle.std.proofs.Common.{◌≡◌, ℕ, ◌≤◌, Bool, true, false, cond, eqb, List, [], ◌∷◌, ◌++◌, map, length, refl, ap, sym, ◌∙◌, arith, subst, Option, Some, None}
+use Rattle.std.proofs.Common.{◌≡◌, ℕ, ◌≤◌, Bool, true, false, cond, eqb, List, [], ◌∷◌, ◌++◌, map, length, refl, ap}
+use Rattle.std.proofs.Common.{sym, ◌∙◌, arith, subst, Option, Some, None}
 use Rattle.std.specs.Prelude.{◌&&◌, slice_index, IsTrue}
 use Rattle.std.proofs.lemmas.Bool.{le-leb, and_parts, eqb-true}
 use Rattle.std.proofs.lemmas.List.{length-map}
@@ -9,7 +10,10 @@ use Rattle.std.specs.Char.{is_ascii_alphabetic, to_ascii_uppercase}
 use Rattle.std.proofs.lemmas.List.Sums.{take_while-cons}
 use Rattle.ent_value.specs.Name.{is_word_byte, IsWord}
 use Rattle.ent_text.specs.declared.keyword.Keyword.{Keyword}
-use Rattle.ent_text.specs.declared.keyword.Keyword.TheVariants.{And, Answer, As, Begin, Choose, Commit, Create, Delete, From, In, Insert, Int, Into, Rollback, Runs, Select, Set, Table, Text, Transaction, Update, Values, Where, Within}
+use Rattle.ent_text.specs.declared.keyword.Keyword.TheVariants.{And, Answer, As, Begin, Choose, Commit, Create, Delete}
+use Rattle.ent_text.specs.declared.keyword.Keyword.TheVariants.{From, In, Insert, Int, Into, Rollback, Runs, Select}
+use Rattle.ent_text.specs.declared.keyword.Keyword.TheVariants.{Set, Table, Text, Transaction, Update, Values, Where}
+use Rattle.ent_text.specs.declared.keyword.Keyword.TheVariants.{Within}
 use Rattle.ent_text.specs.declared.token.TokenKind.TheVariants.{Word, Name}
 use Rattle.ent_text.specs.Keyword.{keyword_text}
 use Rattle.ent_text.specs.Spelling.{IsWordLike, IsInAnyCase, Spells}
@@ -20,21 +24,27 @@ use Rattle.ent_text.proofs.Fronts.{front_passes}
 all_three : (a b c : Bool) → a ≡ true → b ≡ true → c ≡ true → IsTrue (a && (b && c))
 all_three a b c p q r = rw (p, q, r) refl
 
-first_stays : (bytes : List ℕ) → is_ascii_alphabetic (slice_index bytes 0) ≡ true → is_ascii_alphabetic (slice_index (take_while is_word_byte bytes) 0) ≡ true
+first_stays : (bytes : List ℕ) → is_ascii_alphabetic (slice_index bytes 0) ≡ true
+    → is_ascii_alphabetic (slice_index (take_while is_word_byte bytes) 0) ≡ true
 first_stays [] e = e
 first_stays (b ∷ bytes) e = rw take_while-cons (rw (alphabetic_is_word b e) e)
 
-pub letter_first : (front behind : List ℕ) → is_ascii_alphabetic (slice_index front 0) ≡ true → is_ascii_alphabetic (slice_index (front ++ behind) 0) ≡ true
+pub letter_first : (front behind : List ℕ) → is_ascii_alphabetic (slice_index front 0) ≡ true
+    → is_ascii_alphabetic (slice_index (front ++ behind) 0) ≡ true
 letter_first [] behind e = absurd cc
 letter_first (b ∷ front) behind e = e
 
 -- the longest front of word bytes, behind a letter, is a word
-pub front_is_wordlike : (bytes : List ℕ) → is_ascii_alphabetic (slice_index bytes 0) ≡ true → IsWordLike (take_while is_word_byte bytes)
+pub front_is_wordlike : (bytes : List ℕ) → is_ascii_alphabetic (slice_index bytes 0) ≡ true
+    → IsWordLike (take_while is_word_byte bytes)
 front_is_wordlike bytes e = (first_stays bytes e, front_passes is_word_byte bytes)
 
-pub front_is_word : (bytes word : List ℕ) → is_ascii_alphabetic (slice_index bytes 0) ≡ true → word ≡ take_while is_word_byte bytes → length word ≤ 63 → IsWord word
+pub front_is_word : (bytes word : List ℕ) → is_ascii_alphabetic (slice_index bytes 0) ≡ true
+    → word ≡ take_while is_word_byte bytes → length word ≤ 63 → IsWord word
 front_is_word bytes word e is le =
-    subst IsWord (sym is) (all_three _ _ _ (le-leb (length (take_while is_word_byte bytes)) 63 (omega (arith, ap length is))) (first_stays bytes e) (front_passes is_word_byte bytes))
+    subst IsWord (sym is) (all_three _ _ _
+    (le-leb (length (take_while is_word_byte bytes)) 63 (omega (arith, ap length is))) (first_stays bytes e)
+    (front_passes is_word_byte bytes))
 
 -- ---- reserved words
 
@@ -67,11 +77,14 @@ keyword_with capitals = find (λ keyword. is_same capitals (keyword_text keyword
 
 find_alike : (p q : Keyword → Bool) → ((k : Keyword) → p k ≡ q k) → (ks : List Keyword) → find p ks ≡ find q ks
 find_alike p q alike [] = refl
-find_alike p q alike (k ∷ ks) = ap (λ (t : Bool). cond t (Some k) (find p ks)) (alike k) ∙ ap (λ (o : Option Keyword). cond (q k) (Some k) o) (find_alike p q alike ks)
+find_alike p q alike (k ∷ ks) = ap (λ (t : Bool). cond t (Some k) (find p ks)) (alike k)
+    ∙ ap (λ (o : Option Keyword). cond (q k) (Some k) o) (find_alike p q alike ks)
 
 keyword_is : (word : List ℕ) → keyword_of word ≡ keyword_with (map to_ascii_uppercase word)
 unfolding keyword_of keyword_with
-keyword_is word = find_alike (λ keyword. is_written word (keyword_text keyword)) (λ keyword. is_same (map to_ascii_uppercase word) (keyword_text keyword)) (λ keyword. written_is_same word (keyword_text keyword)) keywords
+keyword_is word = find_alike (λ keyword. is_written word (keyword_text keyword))
+    (λ keyword. is_same (map to_ascii_uppercase word) (keyword_text keyword))
+    (λ keyword. written_is_same word (keyword_text keyword)) keywords
 
 found_passes : (p : Keyword → Bool) (ks : List Keyword) (k : Keyword) → find p ks ≡ Some k → p k ≡ true
 found_passes p [] k e = absurd cc
@@ -114,7 +127,9 @@ keyword_is_found word keyword e = keyword_is word ∙ ap keyword_with e ∙ with
 
 pub found_is_keyword : (word : List ℕ) (keyword : Keyword) → keyword_of word ≡ Some keyword → IsInAnyCase keyword word
 unfolding keyword_with
-found_is_keyword word keyword e = same_lists _ _ (found_passes (λ k. is_same (map to_ascii_uppercase word) (keyword_text k)) keywords keyword (sym (keyword_is word) ∙ e))
+found_is_keyword word keyword e =
+    same_lists _ _ (found_passes (λ k. is_same (map to_ascii_uppercase word) (keyword_text k)) keywords keyword
+    (sym (keyword_is word) ∙ e))
 
 text_is_short : (keyword : Keyword) → length (keyword_text keyword) ≤ 63
 text_is_short And = omega arith
@@ -149,7 +164,8 @@ keyword_is_short word keyword e = omega (arith, length-map word to_ascii_upperca
 pub word_spells : (word : List ℕ) → IsWordLike word → Spells word (word_kind word)
 word_spells word like = on (keyword_of word) refl
   where
-    on : (o : Option Keyword) → keyword_of word ≡ o → Spells word (option_map_or (λ keyword. Word keyword) o (Name word))
+    on : (o : Option Keyword) → keyword_of word ≡ o
+        → Spells word (option_map_or (λ keyword. Word keyword) o (Name word))
     on None e = (like, refl, λ keyword h. let k = keyword_is_found word keyword h in absurd cc)
     on (Some keyword) e = (like, found_is_keyword word keyword e)
 

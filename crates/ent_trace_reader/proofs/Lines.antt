@@ -1,14 +1,18 @@
 -- The lines of exchanges.
-use Rattle.std.proofs.Common.{◌≡◌, ◌+◌, ◌<◌, ℕ, List, [], ◌∷◌, ◌++◌, Bool, true, false, not, cond, Option, None, Some, length, take, get_or, refl, sym, ap, subst, ◌∙◌, append-nil, append_assoc, take_all, eqb, arith}
+use Rattle.std.proofs.Common.{◌≡◌, ◌+◌, ◌<◌, ℕ, List, [], ◌∷◌, ◌++◌, Bool, true, false, not, cond, Option, None, Some}
+use Rattle.std.proofs.Common.{length, take, get_or, refl, sym, ap, subst, ◌∙◌, append-nil, append_assoc, take_all, eqb}
+use Rattle.std.proofs.Common.{arith}
 use Rattle.std.specs.Prelude.{◌≢◌, is_some}
 use Rattle.std.proofs.lemmas.Bool.{eqb-true, false≢true, true≢false}
 use Rattle.std.proofs.lemmas.List.{get_or_default}
 use Rattle.std.proofs.lemmas.List.Elements.{filter_more}
 use Rattle.ent_trace_reader.specs.declared.exchange.Event.{Event}
 use Rattle.ent_trace_reader.specs.declared.exchange.Exchange.{Exchange}
-use Rattle.ent_trace_reader.specs.Trace.{event_line, reply_line, exchange_lines, trace_lines, lines_of, is_notice, told, IsStrange}
+use Rattle.ent_trace_reader.specs.Trace.{event_line, reply_line, exchange_lines, trace_lines, lines_of, is_notice, told}
+use Rattle.ent_trace_reader.specs.Trace.{IsStrange}
 
-trace_more : (trace : List Exchange) (x : Exchange) → trace_lines (trace ++ x ∷ []) ≡ trace_lines trace ++ exchange_lines x
+trace_more : (trace : List Exchange) (x : Exchange) → trace_lines (trace ++ x ∷ []) ≡ trace_lines trace
+    ++ exchange_lines x
 trace_more [] x = refl
 trace_more (e ∷ trace) x = ap (λ rest. event_line e.event ∷ reply_line e.reply ∷ rest) (trace_more trace x)
 
@@ -73,7 +77,8 @@ strange lines k number line trace waiting at count read other = (
 )
 
 -- all lines are read
-pub all_read : (lines : List (List ℕ)) (k : ℕ) (before : List (List ℕ)) → k ≡ length lines → told (take k lines) ≡ before
+pub all_read : (lines : List (List ℕ)) (k : ℕ) (before : List (List ℕ)) → k ≡ length lines
+    → told (take k lines) ≡ before
     → told lines ≡ before
 all_read lines k before all read = ap told (sym (take_all k lines (omega (arith, all)))) ∙ read
 

@@ -1,5 +1,6 @@
 -- The parts of a text.
-use Rattle.std.proofs.Common.{◌≡◌, ◌<◌, ◌≤◌, ◌+◌, ℕ, List, [], ◌∷◌, ◌++◌, length, take, drop, Option, None, Some, Result, Ok, Err, Bor}
+use Rattle.std.proofs.Common.{◌≡◌, ◌<◌, ◌≤◌, ◌+◌, ℕ, List, [], ◌∷◌, ◌++◌, length, take, drop, Option, None, Some}
+use Rattle.std.proofs.Common.{Result, Ok, Err, Bor}
 use Rattle.std.proofs.Common.{sym, ap, ◌∙◌, arith, append-nil, append_assoc, length-append}
 use Rattle.std.specs.Prelude.{MatchOption, IfOk, IfSome, codes}
 use Rattle.std.specs.Fmt.{decimal}
@@ -27,7 +28,8 @@ parted_by_text p bs None h = tt
 parted_by_text p bs (Some x) h = split_text_parts p bs (Some x) h
 
 pub behind_found : (found : (word bytes rest : List ℕ) → behind word bytes ≡ Ok rest → bytes ≡ word ++ rest)
-    (word bytes : List ℕ) (r : Result (Bor (List ℕ)) (Refusal LineFault)) → Gives (λ rest. rest.now) r (behind word bytes)
+    (word bytes : List ℕ) (r : Result (Bor (List ℕ)) (Refusal LineFault))
+    → Gives (λ rest. rest.now) r (behind word bytes)
     → IfOk r (λ rest. bytes ≡ word ++ rest.now)
 behind_found found word bytes (Ok rest) h = found word bytes rest.now h
 behind_found found word bytes (Err refusal) h = tt
@@ -99,5 +101,6 @@ pub broken_line : (about cycle group members taken : List ℕ) → about ≡ cyc
     → codes " " ++ cycle ≡ listed members → codes " " ++ group ≡ listed taken
     → codes "broken" ++ (codes " " ++ about) ≡ codes "broken" ++ (listed members ++ (codes " group" ++ listed taken))
 broken_line about cycle group members taken parts first second =
-    ap (λ (l : List ℕ). codes "broken " ++ l) parts ∙ (ap (λ (l : List ℕ). codes "broken" ++ (l ++ (codes " group " ++ group))) first
+    ap (λ (l : List ℕ). codes "broken " ++ l) parts
+    ∙ (ap (λ (l : List ℕ). codes "broken" ++ (l ++ (codes " group " ++ group))) first
     ∙ ap (λ (l : List ℕ). codes "broken" ++ (listed members ++ (codes " group" ++ l))) second)

@@ -30,12 +30,14 @@ pub dormant_of_gone : (submitted : List Submitted) (cause : Cause) (gone : List 
     → filter_map (λ run_attempt. dormant_by submitted cause (as_member run_attempt)) (map run_attempt_of gone)
     ≡ filter_map (dormant_by submitted cause) gone
 dormant_of_gone submitted cause gone =
-    filter_mapped run_attempt_of (λ (run_attempt : RunAttempt). dormant_by submitted cause (as_member run_attempt)) (dormant_by submitted cause)
+    filter_mapped run_attempt_of (λ (run_attempt : RunAttempt). dormant_by submitted cause (as_member run_attempt))
+    (dormant_by submitted cause)
     (same_dormant submitted cause) gone
 
 pub fates_of_gone : (submitted : List Submitted) (cause : Cause) (gone : List Member)
     → filter_map (λ run_attempt. fated_by submitted cause (as_member run_attempt)) (map run_attempt_of gone)
     ≡ filter_map (fated_by submitted cause) gone
 fates_of_gone submitted cause gone =
-    filter_mapped run_attempt_of (λ (run_attempt : RunAttempt). fated_by submitted cause (as_member run_attempt)) (fated_by submitted cause)
+    filter_mapped run_attempt_of (λ (run_attempt : RunAttempt). fated_by submitted cause (as_member run_attempt))
+    (fated_by submitted cause)
     (same_fated submitted cause) gone

@@ -157,7 +157,8 @@ told_apart ks atom js other apart =
     }
 
 -- what the equations of two tuples tell of their atoms
-pub told_refuted : (ks : List Kind) (atom : Atom Value) (js : List Kind) (other : Atom Value) (ts us : List (Term Value))
+pub told_refuted : (ks : List Kind) (atom : Atom Value) (js : List Kind) (other : Atom Value)
+    (ts us : List (Term Value))
     → ts ≡ atom.terms → us ≡ other.terms → AreRefuted (column_sides (term_side 0 ks) (term_side 1 js) ts us)
     → AreTold ks atom js other false
 told_refuted ks atom js other ts us left right refuted =

@@ -14,7 +14,8 @@ use Rattle.ent_semantics.specs.declared.book.Book.{Book}
 use Rattle.ent_semantics.specs.declared.book.Member.{Member}
 use Rattle.ent_semantics.specs.Book.{IsLegal, JournalIsRight, RunGivesBook, all_members, book_read_views}
 use Rattle.ent_semantics.specs.Database.{Name, Database, row_of, opening_database, same_name}
-use Rattle.ent_semantics.specs.Joint.{IsGood, IsGrounded, IsOffered, StandsIn, member_of, read_view_heads, read_view_posts}
+use Rattle.ent_semantics.specs.Joint.{IsGood, IsGrounded, IsOffered, StandsIn, member_of, read_view_heads}
+use Rattle.ent_semantics.specs.Joint.{read_view_posts}
 use Rattle.ent_semantics.specs.Serial.{ReadView, Turn, numbered, scripts_run, scripts_read_views}
 use Rattle.ent_lists.specs.Elements.{contains_in, in_contains, of_map, to_map}
 use Rattle.ent_unplaced_laws.specs.Unplaced.{unplaced_book, unplaced_create, unplaced_opening, unplaced_row}
@@ -62,13 +63,16 @@ opening_same opening = λ i name. table_same opening name i
 
 -- ---- joint answers
 
-read_view_heads_same : (read_view : ReadView) → read_view_heads (unplaced_read_view read_view) ≡ read_view_heads read_view
+read_view_heads_same : (read_view : ReadView)
+    → read_view_heads (unplaced_read_view read_view) ≡ read_view_heads read_view
 read_view_heads_same read_view = heads_same read_view.environment read_view.entangled read_view.valuation
 
-read_view_posts_same : (read_view : ReadView) → read_view_posts (unplaced_read_view read_view) ≡ read_view_posts read_view
+read_view_posts_same : (read_view : ReadView)
+    → read_view_posts (unplaced_read_view read_view) ≡ read_view_posts read_view
 read_view_posts_same read_view = posts_same read_view.environment read_view.entangled read_view.valuation
 
-module _ (declared : List Create) (run : List ReadView) (members : List Member) (good : IsGood declared run members) where
+module _ (declared : List Create) (run : List ReadView) (members : List Member)
+    (good : IsGood declared run members) where
   offered_bare : (fact : Fact) → IsOffered run members fact → IsOffered (map unplaced_read_view run) members fact
   offered_bare fact offered = (
     unplaced_read_view offered.0,
@@ -83,13 +87,16 @@ module _ (declared : List Create) (run : List ReadView) (members : List Member) 
       ∙ good.grounded read_view stands
 
   met_bare : (read_view : ReadView) → StandsIn run members read_view → (post : Fact)
-      → Contains (read_view_posts (unplaced_read_view read_view)) post → IsOffered (map unplaced_read_view run) members post
+      → Contains (read_view_posts (unplaced_read_view read_view)) post
+      → IsOffered (map unplaced_read_view run) members post
   met_bare read_view stands post there =
       offered_bare post
-      (good.met read_view stands post (subst (λ (facts : List Fact). Contains facts post) (read_view_posts_same read_view) there))
+      (good.met read_view stands post
+      (subst (λ (facts : List Fact). Contains facts post) (read_view_posts_same read_view) there))
 
   -- what holds of each statement of the run that stands in the joint answer, its places aside
-  of_bare : (P : ReadView → Type 0) → ((read_view : ReadView) → StandsIn run members read_view → P (unplaced_read_view read_view))
+  of_bare : (P : ReadView → Type 0)
+      → ((read_view : ReadView) → StandsIn run members read_view → P (unplaced_read_view read_view))
       → (read_view : ReadView) → StandsIn (map unplaced_read_view run) members read_view → P read_view
   of_bare P holds read_view stands =
       let found = of_mapped unplaced_read_view run read_view stands.0 in
@@ -112,7 +119,8 @@ module _ (declared : List Create) (run : List ReadView) (members : List Member) 
 -- ---- books
 
 read_views_same : (book : Book Database) (turns : List Turn)
-    → book_read_views (unplaced_book book) (map unplaced_turn turns) ≡ map unplaced_read_view (book_read_views book turns)
+    → book_read_views (unplaced_book book) (map unplaced_turn turns) ≡ map unplaced_read_view
+    (book_read_views book turns)
 read_views_same book turns =
     ap (λ (database : Database). scripts_read_views (map unplaced_create book.opening.tables) (map unplaced_turn turns)
     database) (opening_same book.opening)

@@ -11,8 +11,10 @@ use Rattle.ent_semantics.specs.declared.answer.Failure.{Failure}
 use Rattle.ent_semantics.specs.Database.{Database, Environment, nothing_bound}
 use Rattle.ent_semantics.specs.Effect.{Effect}
 use Rattle.ent_semantics.specs.Entangled.{Valuation}
-use Rattle.ent_semantics.specs.Serial.{Operation, Run, ReadView, Turn, is_entangled, operation_first, with_answer, operations_of}
-use Rattle.ent_semantics.specs.Serial.{after, run, ended, script_run, ran_first, scripts_run, seen, seen_after, read_views}
+use Rattle.ent_semantics.specs.Serial.{Operation, Run, ReadView, Turn, is_entangled, operation_first, with_answer}
+use Rattle.ent_semantics.specs.Serial.{operations_of}
+use Rattle.ent_semantics.specs.Serial.{after, run, ended, script_run, ran_first, scripts_run, seen, seen_after}
+use Rattle.ent_semantics.specs.Serial.{read_views}
 use Rattle.ent_semantics.specs.Serial.{script_read_views, seen_from, scripts_read_views}
 use Rattle.ent_semantics.specs.Statement.{statement_meaning}
 use Rattle.ent_lists.specs.Elements.{map_joined}
@@ -33,11 +35,13 @@ answer_same : (statement : Statement) (entangled : Bool) (oracle : List Valuatio
     → with_answer (unplaced_statement statement) entangled oracle f
     ≡ option_map (map unplaced_operation) (with_answer statement entangled oracle g)
 answer_same statement false oracle f g same =
-    ap (λ (operations : Option (List Operation)). operation_first (unplaced_statement statement) [] operations) (same oracle)
+    ap (λ (operations : Option (List Operation)). operation_first (unplaced_statement statement) [] operations)
+    (same oracle)
     ∙ first_same statement [] (g oracle)
 answer_same statement true [] f g same = refl
 answer_same statement true (valuation ∷ oracle) f g same =
-    ap (λ (operations : Option (List Operation)). operation_first (unplaced_statement statement) valuation operations) (same oracle)
+    ap (λ (operations : Option (List Operation)). operation_first (unplaced_statement statement) valuation operations)
+    (same oracle)
     ∙ first_same statement valuation (g oracle)
 
 entangled_same : (statement : Statement) → is_entangled (unplaced_statement statement) ≡ is_entangled statement
@@ -55,12 +59,14 @@ operations_are [] (valuation ∷ oracle) = refl
 operations_are (statement ∷ more) oracle =
     ap (λ (b : Bool). with_answer (unplaced_statement statement) b oracle
     (λ others. operations_of (map unplaced_statement more) others)) (entangled_same statement)
-    ∙ answer_same statement (is_entangled statement) oracle (λ others. operations_of (map unplaced_statement more) others)
+    ∙ answer_same statement (is_entangled statement) oracle
+    (λ others. operations_of (map unplaced_statement more) others)
     (λ others. operations_of more others) (λ others. operations_are more others)
 
 -- ---- runs
 
-operations_run : (declared : List Create) (operations : List Operation) (database : Database) (environment : Environment)
+operations_run : (declared : List Create) (operations : List Operation) (database : Database)
+    (environment : Environment)
     → run (map unplaced_create declared) (map unplaced_operation operations) database environment
     ≡ run declared operations database environment
 operations_run declared [] database environment = refl
@@ -139,7 +145,8 @@ read_views_are declared tx place (operation ∷ more) database environment =
 -- what is seen of operations, where there are any
 operations_read_views : List Create → ℕ → Database → Option (List Operation) → List ReadView
 operations_read_views declared tx database None = []
-operations_read_views declared tx database (Some operations) = read_views declared tx 1 operations database nothing_bound
+operations_read_views declared tx database (Some operations) =
+    read_views declared tx 1 operations database nothing_bound
 
 by_operations : (declared : List Create) (turn : Turn) (database : Database) (operations : Option (List Operation))
     → operations_of turn.script.statements turn.oracle ≡ operations
@@ -148,19 +155,22 @@ unfolding operations_read_views
 by_operations declared turn database None is = rw is refl
 by_operations declared turn database (Some operations) is = rw is refl
 
-operations_read_views_are : (declared : List Create) (tx : ℕ) (database : Database) (operations : Option (List Operation))
+operations_read_views_are : (declared : List Create) (tx : ℕ) (database : Database)
+    (operations : Option (List Operation))
     → operations_read_views (map unplaced_create declared) tx database (option_map (map unplaced_operation) operations)
     ≡ map unplaced_read_view (operations_read_views declared tx database operations)
 unfolding operations_read_views
 operations_read_views_are declared tx database None = refl
-operations_read_views_are declared tx database (Some operations) = read_views_are declared tx 1 operations database nothing_bound
+operations_read_views_are declared tx database (Some operations) =
+    read_views_are declared tx 1 operations database nothing_bound
 
 script_read_views_are : (declared : List Create) (turn : Turn) (database : Database)
     → script_read_views (map unplaced_create declared) (unplaced_turn turn) database
     ≡ map unplaced_read_view (script_read_views declared turn database)
 script_read_views_are declared turn database =
     let operations : Option (List Operation) = operations_of turn.script.statements turn.oracle in
-    by_operations (map unplaced_create declared) (unplaced_turn turn) database (option_map (map unplaced_operation) operations)
+    by_operations (map unplaced_create declared) (unplaced_turn turn) database
+    (option_map (map unplaced_operation) operations)
     (operations_are turn.script.statements turn.oracle)
     ∙ operations_read_views_are declared turn.tx database operations
     ∙ ap (map unplaced_read_view) (sym (by_operations declared turn database operations refl))

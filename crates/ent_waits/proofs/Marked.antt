@@ -229,7 +229,8 @@ row_marks run askers asked first row of_groups kept of_others = λ asker (same, 
 
 -- ---- while it waits
 
-pub waiting_row : (run : Run) (submitted : List Submitted) (lent : List Job) (asker : Member) (asked : List Use) (row : ℕ)
+pub waiting_row : (run : Run) (submitted : List Submitted) (lent : List Job) (asker : Member) (asked : List Use)
+    (row : ℕ)
     → asked ≡ next_uses (next_in (numbered submitted asker.tx) asker)
     → MarksAll run.active (is_awaited (with_run run nothing) asker asked) row
     → MarksAll run.active (awaits_now run submitted lent asker) row

@@ -12,8 +12,11 @@ pub all_noted : (told : List Exchange) (old new : NoteTaker) → HearsAll Hears 
     → new.notes.is_whole ≡ true
     → (old.notes.is_whole ≡ true)
     × ((tx : ℕ) → note_of new.notes.notes tx ≡ noted_from (note_of old.notes.notes tx) tx told)
-all_noted [] old new same whole =
-    (ap (λ (n : NoteTaker). n.notes.is_whole) (sym same) ∙ whole, λ tx. ap (λ (n : NoteTaker). note_of n.notes.notes tx) same)
+all_noted [] old new same whole = (
+  ap (λ (n : NoteTaker). n.notes.is_whole) (sym same) ∙ whole,
+  λ tx. ap (λ (n : NoteTaker). note_of n.notes.notes tx)
+      same,
+)
 all_noted ((event, reply) ∷ more) old new heard whole =
     let next = heard.0 in
     let behind = all_noted more next new heard.2 whole in

@@ -50,7 +50,8 @@ changes : (c : After-delta-1)
     IsApplicable table c.in-Changed.delta)
 changes c =
     let known = (goal.at.change-requires-clause-within c).In_ok-rows in
-    let can = applied_so (map relation_of c.deref-2.result.now) c.in_ok-rows.field-0 c.in-Changed.count c.in-Changed.delta
+    let can = applied_so (map relation_of c.deref-2.result.now) c.in_ok-rows.field-0 c.in-Changed.count
+    c.in-Changed.delta
     c.in-Changed.is c.in_ok-rows.ensures.change in
     let one = sym (are_named known) ∙ can.1 in (
       one_table c.args.statement.now (map arc_value c.args.tables.now.items) (environment_of c.args.environment.now)

@@ -36,7 +36,8 @@ returns c = λ s posted_is.
     let at = subst (λ (pool : List Posted). IsPlaceOf pool first.tx place) pool_is
     (subst (λ (tx : ℕ). IsPlaceOf c.members.result.now tx place) c.tx.ensures c.in-Some-place_of.ensures) in
     let taken = c.in_ok-lists.ensures in
-    let told = is_listed posted asked c.members.ensures.by_number first c.in-Some.ensures.value place at lists rest taken in
+    let told = is_listed posted asked c.members.ensures.by_number first c.in-Some.ensures.value place at lists rest
+    taken in
     let listed : List (List Posted) → Type 0 = λ lists. Contains lists asked in
     in_state s posted asked (IsTrue c.is_among.result) posted_is (
       λ is. told.0 (subst listed c.as_slice.ensures.value (c.is_among.ensures.0 is)),

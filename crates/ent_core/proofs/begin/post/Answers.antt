@@ -36,7 +36,8 @@ returns-in-Err-clause-ok c =
     let now = c.args.store.now in
     let all : pool now ≡ c.store.inside.pool =
     ap pool (sym c.store.view_is) ∙ c.store.invariant.posted (the_view c.store.inside) refl refl in
-    let P : State → Type 0 = λ new. IfOk c.held_back.result (λ reply. Begins now c.args.found.tx (reply_seen reply) new) in
+    let P : State → Type 0 =
+    λ new. IfOk c.held_back.result (λ reply. Begins now c.args.found.tx (reply_seen reply) new) in
     subst P (sym c.store.view_is)
     (replied_held now c.args.found.tx c.args.query c.requires.asks c.same_statements_are_alike.ensures.first_unsafe
     c.held_back.result c.in-Err.why c.held_back.ensures
@@ -65,21 +66,25 @@ invariant_of-store-in_default-post_at c =
     let s : State = the_view inside in
     let stand = subst StandByNumber (sym c.store.view_is)
     (c.members_stand_by_number.ensures resolved_forms c.args.store.now c.requires.kept.reached) in
-    let at = subst (λ (x : State). IsAt x.active c.args.found.tx c.args.found.place) (sym c.store.view_is) c.requires.at in
+    let at = subst (λ (x : State). IsAt x.active c.args.found.tx c.args.found.place) (sym c.store.view_is)
+    c.requires.at in
     let plan = subst (λ (x : State). IsToPost x c.args.found.tx c.args.query) (sym c.store.view_is) c.requires.asks in
     let uses = c.as_slice.ensures.list ∙ c.entangled_uses-uses.ensures
     ∙ ap entangled_uses c.statement.ensures in
-    kept_changed inside.catalogue.tables inside.opening inside.submitted.items inside.transaction_table inside.running inside.run
+    kept_changed inside.catalogue.tables inside.opening inside.submitted.items inside.transaction_table inside.running
+    inside.run
     c.post_at.new.self inside.tables inside.pool c.post.new.self c.args.found.tx c.store.invariant
     (is_member s c.args.found.tx c.args.query plan)
     (posted_kept s c.args.found.tx c.args.query plan c.as_slice.result.now uses c.post_at.new.self.active
-    (c.in_default-post_at.ensures.ok c.args.found.tx at) stand inside.pool c.post.new.self c.store.invariant.posted c.in_default.ensures.posted)
+    (c.in_default-post_at.ensures.ok c.args.found.tx at) stand inside.pool c.post.new.self c.store.invariant.posted
+    c.in_default.ensures.posted)
 
 pub returns-clause-ok : goal.returns-clause-ok
 returns-clause-ok c =
     let inside = c.store.inside in
     let s : State = the_view inside in
-    let at = subst (λ (x : State). IsAt x.active c.args.found.tx c.args.found.place) (sym c.store.view_is) c.requires.at in
+    let at = subst (λ (x : State). IsAt x.active c.args.found.tx c.args.found.place) (sym c.store.view_is)
+    c.requires.at in
     let plan = subst (λ (x : State). IsToPost x c.args.found.tx c.args.query) (sym c.store.view_is) c.requires.asks in
     let all : pool s ≡ inside.pool = c.store.invariant.posted s refl refl in
     let posted = subst (λ (old : List Posted). IsPostedTo old c.post.new.self c.args.query) (sym all)

@@ -27,7 +27,8 @@ invariant_of-store-2 c =
     c.in_ok-push_answers.ensures
     ∙ ap (λ (all : List MemberAnswer). all ++ member_answers asked groundings) c.in_ok-given.ensures.items in
     let run = c.answer.new.self in
-    kept_answered inside.catalogue.tables inside.opening inside.submitted.items inside.transaction_table inside.running inside.run
+    kept_answered inside.catalogue.tables inside.opening inside.submitted.items inside.transaction_table inside.running
+    inside.run
     run inside.tables inside.pool c.withdraw_answered.new.pool (in_joined_group (answered_labels given inside.run))
     (λ member. in_joined_group (answered_labels given inside.run) (answered_from given member)) c.store.invariant
     c.in_ok-answer.ensures.ok.prepared c.in_ok-answer.ensures.ok.active

@@ -35,7 +35,8 @@ returns-in-Ordinary c =
     let member = c.member-member.result.now in
     let next : Ordinary c.in-Ordinary.statement ≡ next_of now member =
     sym (ap next_seen c.in-Ordinary.is) ∙ c.in_ok-statement.ensures.next in
-    moves_ordinary now c.args.found.tx member c.member-member.ensures.there c.member-member.ensures.free c.in-Ordinary.statement (sym next)
+    moves_ordinary now c.args.found.tx member c.member-member.ensures.there c.member-member.ensures.free
+    c.in-Ordinary.statement (sym next)
 
 pub returns-in-Asks : goal.returns-in-Asks
 returns-in-Asks c =

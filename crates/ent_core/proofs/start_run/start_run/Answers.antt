@@ -20,7 +20,8 @@ start-requires-clause-distinct c =
 pub invariant_of-store : goal.invariant_of-store
 invariant_of-store c =
     let inside = c.store.inside in
-    kept_started inside.catalogue.tables inside.opening inside.submitted.items inside.transaction_table _ inside.running _
+    kept_started inside.catalogue.tables inside.opening inside.submitted.items inside.transaction_table _ inside.running
+    _
     c.in_ok-run.run'
     inside.tables inside.pool inside.pool c.min-count.result c.store.invariant c.take_first.ensures
     (kept_fresh inside.submitted.items inside.run.active inside.pool c.store.invariant.posted
@@ -35,7 +36,8 @@ returns-clause-ok c =
     let s : State = the_view c.store.inside in
     let waiting = c.dormant_len-waiting.ensures in
     let some : 0 < length c.store.inside.transaction_table.dormant = omega (arith, waiting) in
-    let least : c.min-count.result ≡ min (length c.store.inside.transaction_table.dormant) MOST_MEMBERS = c.min-count.ensures
+    let least : c.min-count.result ≡ min (length c.store.inside.transaction_table.dormant) MOST_MEMBERS =
+    c.min-count.ensures
     ∙ ap (λ n. min n 64) waiting in
     started FormFault s c.args.store.now c.min-count.result c.take_first.new.self.dormant c.take_first.new.self.fates
     c.in_ok-run.run'.prepared c.in_ok-run.run'.active c.numbers-members.result c.clear.new.self.items
@@ -44,5 +46,6 @@ returns-clause-ok c =
     (c.in_ok-run.ensures.active
     ∙ ap (λ (all : List Dormant). by_number tx_of (map fresh all)) (c.as_slice.ensures.value
     ∙ c.in_ok-entrants.ensures))
-    (ap (λ (r : TransactionTable). r.dormant) c.take_first.ensures) (ap (λ (r : TransactionTable). r.fates) c.take_first.ensures)
+    (ap (λ (r : TransactionTable). r.dormant) c.take_first.ensures)
+    (ap (λ (r : TransactionTable). r.fates) c.take_first.ensures)
     (c.numbers-members.ensures s)

@@ -12,7 +12,8 @@ invariant_of-store-in-Ok-admit c =
     let inside = c.store.inside in
     let more = c.push_reserved.ensures.items
     ∙ ap (λ (xs : List Submitted). xs ++ c.in_ok-own.own ∷ []) c.reserve.ensures.items in
-    kept_submitted inside.catalogue.tables inside.opening inside.submitted.items _ inside.transaction_table _ inside.running
+    kept_submitted inside.catalogue.tables inside.opening inside.submitted.items _ inside.transaction_table _
+    inside.running
     inside.run
     inside.tables inside.pool c.in_ok-own.own _ c.store.invariant c.within-asked.ensures.least more
     c.in-Ok-admit.ensures.ok (omega arith)

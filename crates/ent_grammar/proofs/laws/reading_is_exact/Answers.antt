@@ -4,13 +4,25 @@ use Rattle.std.proofs.Common.{true}
 use Rattle.ent_grammar.proofs.laws.reading_is_exact.Goals as goal
 
 pub returns-clause-value : goal.returns-clause-value
-returns-clause-value g c h end tokens y = (λ e. read_is_spelled g.T.Language.grammar h end tokens y e true, spelled_is_read g.T.Language.grammar h end tokens y)
+returns-clause-value g c h end tokens y = (
+  λ e. read_is_spelled g.T.Language.grammar h end tokens y e true,
+  spelled_is_read g.T.Language.grammar h end tokens
+      y,
+)
 
 pub returns-clause-single : goal.returns-clause-single
 returns-clause-single g c h tokens this that = one_value g.T.Language.grammar 0 tokens h this that
 
 pub returns-clause-unexpected : goal.returns-clause-unexpected
-returns-clause-unexpected g c h end tokens place = (unexpected_cant_follow g.T.Language.grammar h end tokens place, cant_follow_is_unexpected g.T.Language.grammar end tokens h place)
+returns-clause-unexpected g c h end tokens place = (
+  unexpected_cant_follow g.T.Language.grammar h end tokens place,
+  cant_follow_is_unexpected g.T.Language.grammar end
+      tokens h place,
+)
 
 pub returns-clause-too_many : goal.returns-clause-too_many
-returns-clause-too_many g c h end tokens place = (too_many_is_too_much g.T.Language.grammar h end tokens place, too_much_is_too_many g.T.Language.grammar end tokens h place)
+returns-clause-too_many g c h end tokens place = (
+  too_many_is_too_much g.T.Language.grammar h end tokens place,
+  too_much_is_too_many g.T.Language.grammar end tokens
+      h place,
+)

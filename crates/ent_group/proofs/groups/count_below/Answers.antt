@@ -9,4 +9,5 @@ returns c =
     let parted = IsPartitionedBy-ltb (λ m. m.member) ms c.args.tx (in_order ms c.requires) in
     let point = IsPartitionPoint-from_clause (λ m. nat_lt m.member c.args.tx) ms c.partition_point.result
     c.partition_point.ensures.partitioned parted (λ a r q k. search rules) in
-    count_before (λ m. nat_lt m.member c.args.tx) ms c.partition_point.result c.partition_point.ensures.bound point.0 point.1
+    count_before (λ m. nat_lt m.member c.args.tx) ms c.partition_point.result c.partition_point.ensures.bound point.0
+    point.1

@@ -14,7 +14,11 @@ loop-i-preserved c =
     let same : read ≡ get_or ms c.loop-i.i read = get_or_default ms c.loop-i.i (alone 0) read within in
     elim c.if-membership-group.branch [
       | then-membership-group w ↦
-          rw (w.memberships-is, w.kept-is) (FiltersInPlace-more_set {x = read} c.loop-i.invariant within (ap not (ne_eqb read.group c.args.group w.if-membership-group.true)) same)
+          rw (w.memberships-is, w.kept-is)
+          (FiltersInPlace-more_set {x = read} c.loop-i.invariant within
+          (ap not (ne_eqb read.group c.args.group w.if-membership-group.true)) same)
       | else-membership-group w ↦
-          rw (w.memberships-is, w.kept-is) (FiltersInPlace-more_no {x = read} c.loop-i.invariant within (ap not (eq-eqb read.group c.args.group w.if-membership-group.false)) same)
+          rw (w.memberships-is, w.kept-is)
+          (FiltersInPlace-more_no {x = read} c.loop-i.invariant within
+          (ap not (eq-eqb read.group c.args.group w.if-membership-group.false)) same)
     ]

@@ -11,4 +11,5 @@ loop-membership-preserved c =
     let within : i < length ms = omega (arith, c.loop-membership.auto.memberships, c.loop-membership-test.true) in
     let read = get_or ms i (alone 0) in
     rw c.moved_label-membership.ensures
-    (map_over_more (relabelled c.args.gone c.args.kept) c.args.memberships.now ms i read c.loop-membership-test.true c.loop-membership.invariant (get_or_default ms i (alone 0) read within))
+    (map_over_more (relabelled c.args.gone c.args.kept) c.args.memberships.now ms i read c.loop-membership-test.true
+    c.loop-membership.invariant (get_or_default ms i (alone 0) read within))

@@ -4,4 +4,5 @@ use Rattle.ent_group.proofs.groups.relabel.Given as goal
 
 abbrev pub invariant-loop-membership : goal.invariant-loop-membership
 invariant-loop-membership l =
-    l.memberships ≡ map (relabelled l.gone l.kept) (take l.membership-index l.fn.memberships) ++ drop l.membership-index l.fn.memberships
+    l.memberships ≡ map (relabelled l.gone l.kept) (take l.membership-index l.fn.memberships)
+    ++ drop l.membership-index l.fn.memberships

@@ -13,4 +13,5 @@ loop-row-preserved c =
     let read = get_or rows i 0 in
     let within : i < length rows = omega (arith, c.loop-row.auto.rows, c.loop-row-test.true) in
     rw c.joined.ensures
-    (map_over_more (joined c.args.middle (slice_index old c.args.middle)) old rows i read c.loop-row-test.true c.loop-row.invariant (get_or_default rows i 0 read within))
+    (map_over_more (joined c.args.middle (slice_index old c.args.middle)) old rows i read c.loop-row-test.true
+    c.loop-row.invariant (get_or_default rows i 0 read within))

@@ -15,5 +15,7 @@ pub returns-clause-greatest : goal.returns-clause-greatest
 returns-clause-greatest c =
     let pairs = c.args.pairs.now in
     let first = c.in_ok-first.first in
-    IfSome_then c.cycle_from.result {P = λ members. IsCycle pairs members × (slice_index members 0 ≡ first)} {Q = λ members. (x : ℕ) → IsOnCycle pairs x → x ≤ slice_index members 0} c.cycle_from.ensures.found
-    (λ members found x found_cycle. subst (λ (v : ℕ). x ≤ v) (sym found.1) (c.in_ok-first.ensures.greatest x found_cycle))
+    IfSome_then c.cycle_from.result {P = λ members. IsCycle pairs members × (slice_index members 0 ≡ first)}
+    {Q = λ members. (x : ℕ) → IsOnCycle pairs x → x ≤ slice_index members 0} c.cycle_from.ensures.found
+    (λ members found x found_cycle. subst (λ (v : ℕ). x ≤ v) (sym found.1)
+    (c.in_ok-first.ensures.greatest x found_cycle))

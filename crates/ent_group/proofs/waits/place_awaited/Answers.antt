@@ -14,11 +14,14 @@ loop-from-preserved c =
       | then-from-waiter+in_default w ↦ λ _. w.in_default.ensures.none refl
       | else-from-waiter w ↦ λ same. absurd (w.if-from-waiter.false same)
     ] in
-    All-more (λ p. p.0 ≡ c.args.waiter → ¬ Contains c.args.reached.now p.1) pairs i (0, 0) c.loop-from-test.true c.loop-from.invariant here
+    All-more (λ p. p.0 ≡ c.args.waiter → ¬ Contains c.args.reached.now p.1) pairs i (0, 0) c.loop-from-test.true
+    c.loop-from.invariant here
 
 pub returns-clause-none : goal.returns-clause-none
 returns-clause-none c = λ _ k d within there.
     let pairs = c.args.pairs.now in
     let reached = c.args.reached.now in
-    let all = subst (All (λ p. p.0 ≡ c.args.waiter → ¬ Contains reached p.1)) (take_all c.loop-from.from-index pairs c.loop-from-test.false) c.loop-from.invariant in
-    All-contains (λ p. p.0 ≡ c.args.waiter → ¬ Contains reached p.1) pairs (c.args.waiter, get_or reached k d) all there refl (Contains-get_or reached k d within)
+    let all = subst (All (λ p. p.0 ≡ c.args.waiter → ¬ Contains reached p.1))
+    (take_all c.loop-from.from-index pairs c.loop-from-test.false) c.loop-from.invariant in
+    All-contains (λ p. p.0 ≡ c.args.waiter → ¬ Contains reached p.1) pairs (c.args.waiter, get_or reached k d) all there
+    refl (Contains-get_or reached k d within)

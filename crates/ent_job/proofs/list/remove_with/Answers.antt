@@ -5,4 +5,5 @@ use Rattle.ent_job.proofs.list.remove_with.Goals as goal
 
 pub returns : goal.returns
 returns c =
-    filter_same _ (λ job. not (goes_with_any c.args.numbers.now job)) _ (λ x b f' k. search rules) _ _ c.retain.ensures.filtered
+    filter_same _ (λ job. not (goes_with_any c.args.numbers.now job)) _ (λ x b f' k. search rules) _ _
+    c.retain.ensures.filtered

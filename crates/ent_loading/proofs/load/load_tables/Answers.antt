@@ -9,5 +9,7 @@ use Rattle.ent_loading.proofs.load.load_tables.Goals as goal
 pub returns-clause-rows : goal.returns-clause-rows
 returns-clause-rows c =
     c.loop-number.invariant.rows
-    ∙ ap (map (λ schema. set.from_list {R = row_cmp} (rows_named c.args.opening.now schema.name))) (take_all c.loop-number.number c.args.catalogue.now.tables (omega (arith, c.loop-number-test.false, ap length c.as_slice-schema-items.ensures)))
+    ∙ ap (map (λ schema. set.from_list {R = row_cmp} (rows_named c.args.opening.now schema.name)))
+    (take_all c.loop-number.number c.args.catalogue.now.tables
+    (omega (arith, c.loop-number-test.false, ap length c.as_slice-schema-items.ensures)))
     ∙ opened c.args.opening.now c.args.catalogue.now.tables c.requires.tables

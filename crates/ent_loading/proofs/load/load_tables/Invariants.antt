@@ -9,6 +9,8 @@ use Rattle.ent_loading.proofs.load.load_tables.Given as goal
 -- the tables so far
 abbrev pub invariant-loop-number : goal.invariant-loop-number
 invariant-loop-number l = record {
-  rows : map (λ table. table.rows) (map arc_value l.tables.items) ≡ map (λ schema. set.from_list {R = row_cmp} (rows_named l.opening schema.name)) (take l.number l.catalogue.tables);
-  kinds : map (λ table. table.kinds) (map arc_value l.tables.items) ≡ map column_kinds (take l.number l.catalogue.tables);
+  rows : map (λ table. table.rows) (map arc_value l.tables.items) ≡ map
+      (λ schema. set.from_list {R = row_cmp} (rows_named l.opening schema.name)) (take l.number l.catalogue.tables);
+  kinds : map (λ table. table.kinds) (map arc_value l.tables.items) ≡ map column_kinds
+      (take l.number l.catalogue.tables);
 }

@@ -17,8 +17,10 @@ loop-uses-preserved g c =
     let in_ts : i < length ts = omega (arith, c.loop-uses.auto.tables, in_old) in
     let here : t ≡ get_or ts i t = get_or_default ts i c.uses-item.result t in_ts in
     record {
-      so_far = λ q. dropped_more g.T.TableKey.key ts old i t t' q (is_use_of_none c.args.members.now q) in_ts in_old c.loop-uses.invariant.rest here
-          (dropped_table g.T.TableKey.key c.args.members.now q t t' refl c.drop_holders.ensures) (c.loop-uses.invariant.so_far q);
+      so_far = λ q. dropped_more g.T.TableKey.key ts old i t t' q (is_use_of_none c.args.members.now q) in_ts in_old
+          c.loop-uses.invariant.rest here
+          (dropped_table g.T.TableKey.key c.args.members.now q t t' refl c.drop_holders.ensures)
+          (c.loop-uses.invariant.so_far q);
       rest = dropped_rest ts old i t t' in_ts in_old c.loop-uses.invariant.rest;
       names = keys-set g.T.TableKey.key ts i t t' in_ts here refl ∙ c.loop-uses.invariant.names;
     }
@@ -29,6 +31,8 @@ returns-clause-held g c =
     let old = c.args.tables.now in
     let i = c.loop-uses.uses-index in
     dropped_all g.T.TableKey.key ts old c.args.members.now (λ q.
-    ap (list_any (has_in g.T.TableKey.key q)) (sym (take_all i ts (omega (arith, c.loop-uses.auto.tables, c.loop-uses-test.false))))
+    ap (list_any (has_in g.T.TableKey.key q))
+    (sym (take_all i ts (omega (arith, c.loop-uses.auto.tables, c.loop-uses-test.false))))
     ∙ c.loop-uses.invariant.so_far q
-    ∙ ap (λ (xs : List (TableUses _)). is_use_of_none c.args.members.now q && list_any (has_in g.T.TableKey.key q) xs) (take_all i old c.loop-uses-test.false))
+    ∙ ap (λ (xs : List (TableUses _)). is_use_of_none c.args.members.now q && list_any (has_in g.T.TableKey.key q) xs)
+    (take_all i old c.loop-uses-test.false))

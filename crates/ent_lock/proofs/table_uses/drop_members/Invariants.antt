@@ -7,7 +7,9 @@ use Rattle.ent_lock.proofs.table_uses.drop_members.Given as goal
 
 abbrev pub invariant-loop-uses : goal.invariant-loop-uses
 invariant-loop-uses g l = record {
-  so_far : (q : Use) → list_any (has_in g.T.TableKey.key q) (take l.uses-index l.tables) ≡ (is_use_of_none l.members q && list_any (has_in g.T.TableKey.key q) (take l.uses-index l.fn.tables));
+  so_far : (q : Use) → list_any (has_in g.T.TableKey.key q)
+      (take l.uses-index l.tables) ≡ (is_use_of_none l.members q && list_any (has_in g.T.TableKey.key q)
+      (take l.uses-index l.fn.tables));
   rest : drop l.uses-index l.tables ≡ drop l.uses-index l.fn.tables;
   names : keys_of g.T.TableKey.key l.tables ≡ keys_of g.T.TableKey.key l.fn.tables;
 }

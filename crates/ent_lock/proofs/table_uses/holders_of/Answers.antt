@@ -9,8 +9,13 @@ returns-in-Ok g c = λ tx mode.
     let at = c.in-Ok.ensures.found in
     let t = get_or ts c.in-Ok.at c.index-tables-at.result in
     rw c.as_slice.ensures.value
-    (Holds_here g.T.TableKey.key ts c.in-Ok.at t (g.T.TableKey.key c.args.table.now) tx mode c.requires at (get_or_default ts c.in-Ok.at c.index-tables-at.result t at.in_range))
+    (Holds_here g.T.TableKey.key ts c.in-Ok.at t (g.T.TableKey.key c.args.table.now) tx mode c.requires at
+    (get_or_default ts c.in-Ok.at c.index-tables-at.result t at.in_range))
 
 pub returns-in-Err : goal.returns-in-Err
-returns-in-Err g c = λ tx mode.
-    (λ inside. absurd (omega arith), λ held. absurd (true≢false (sym held ∙ Holds_nowhere g.T.TableKey.key c.args.tables.now c.in-Err.field-0 (g.T.TableKey.key c.args.table.now) tx mode c.in-Err.ensures.missing)))
+returns-in-Err g c = λ tx mode. (
+  λ inside. absurd (omega arith),
+  λ held. absurd
+      (true≢false (sym held ∙ Holds_nowhere g.T.TableKey.key c.args.tables.now c.in-Err.field-0
+      (g.T.TableKey.key c.args.table.now) tx mode c.in-Err.ensures.missing)),
+)

@@ -15,7 +15,8 @@ turned front m =
     let last : length (front ++ m ∷ []) - 1 ≡ length front = omega (arith, length-append front (m ∷ [])) in
     rw (last, drop_at front (m ∷ []) (length front) refl, take_at front (m ∷ []) (length front) refl) refl
 
-put_in : (xs ys : List RunAttempt) (at len : ℕ) (m : RunAttempt) → at ≤ len → len < length xs → ys ≡ m ∷ drop at (take len xs) →
+put_in : (xs ys : List RunAttempt) (at len : ℕ) (m : RunAttempt) → at ≤ len → len < length xs
+    → ys ≡ m ∷ drop at (take len xs) →
     take (len + 1) (put_mid at (len + 1 - at) (set xs len m) ys) ≡ insert (take len xs) at m
 put_in xs ys at len m place room is =
     let long : length ys ≡ 1 + (len - at) = ap length is

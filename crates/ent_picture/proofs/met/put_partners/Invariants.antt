@@ -5,4 +5,5 @@ use Rattle.ent_picture.proofs.met.put_partners.Given as goal
 
 abbrev pub invariant-loop-joint : goal.invariant-loop-joint
 invariant-loop-joint l =
-    l.found.items ≡ l.fn.found.items ++ flat_map (λ joint. if_met l.picked joint.members.items) (take l.joint-index l.joints)
+    l.found.items ≡ l.fn.found.items ++ flat_map (λ joint. if_met l.picked joint.members.items)
+    (take l.joint-index l.joints)

@@ -38,28 +38,53 @@ use Rattle.ent_pointer.proofs.RawBox.into_loose.Code as code
 
 pub into_loose_spec : {M : Type 1} → statement M
 into_loose_spec 𝓤 𝓛 𝓜 𝓡 wired T L =
-    let H = 𝓛.H in let 𝓣 = tables 𝓤 H 𝓜 𝓡 𝓡.env in let R : RattleType = param 0 T in let En = ended T in let c = clauses T 𝓛 𝓜.mem 𝓡.returns in let LZ = heap_laws.the_row_laws in let Lr : RattleType = Loose R Z LZ ghosts in
-    let inst = layouts (a_type ∷ []) (T, tt) in let fn = inst_fn inst code.function in let hs : Stays En.signature.params En.kept = (stay_dropped (plain (λ _. Raw R)) no, tt) in
-    proved_at 𝓛 En hs c 𝓜 𝓡 (Goes-blank 𝓛 1 (plain (λ _. Raw R)) no (λ κs x f. tt), tt) (#self inst) fn (code.unfolded 𝓤 H 𝓜 𝓡 wired (T, tt)) (λ z are.
-    let κs = z.0.0 in let qs = z.0.1 in let d = z.0.3.0 in let a = d.alloc in let Post : Val → SProp 𝓤 = (walk_of 𝓛 En hs c).post z in let Run : List Val → SProp 𝓤 = λ ws. WpFn 𝓤 H 𝓣.C 𝓣.Λ fn ws Post in let Out : RattleType = type_at En.signature.result κs in
-    qed 𝓛 ((raw (alive 𝓛 En.signature κs qs) ⊛ ‵ (owns (types_at En.signature.params κs) z.0.3 z.0.4)) ∷ raw ((c κs z.0.3).requires z.1) ∷ []) ∵ split ! $ move ! (1 ∷ []) $ fsplit ! $
+    let H = 𝓛.H in let 𝓣 = tables 𝓤 H 𝓜 𝓡 𝓡.env in let R : RattleType = param 0 T in let En = ended T in
+    let c = clauses T 𝓛 𝓜.mem 𝓡.returns in let LZ = heap_laws.the_row_laws in let Lr : RattleType =
+    Loose R Z LZ ghosts in
+    let inst = layouts (a_type ∷ []) (T, tt) in let fn = inst_fn inst code.function in
+    let hs : Stays En.signature.params En.kept = (stay_dropped (plain (λ _. Raw R)) no, tt) in
+    proved_at 𝓛 En hs c 𝓜 𝓡 (Goes-blank 𝓛 1 (plain (λ _. Raw R)) no (λ κs x f. tt), tt) (#self inst) fn
+    (code.unfolded 𝓤 H 𝓜 𝓡 wired (T, tt)) (λ z are.
+    let κs = z.0.0 in let qs = z.0.1 in let d = z.0.3.0 in let a = d.alloc in
+    let Post : Val → SProp 𝓤 = (walk_of 𝓛 En hs c).post z in let Run : List Val → SProp 𝓤 =
+    λ ws. WpFn 𝓤 H 𝓣.C 𝓣.Λ fn ws Post in let Out : RattleType = type_at En.signature.result κs in
+    qed 𝓛 ((raw (alive 𝓛 En.signature κs qs) ⊛ ‵ (owns (types_at En.signature.params κs) z.0.3 z.0.4)) ∷ raw
+    ((c κs z.0.3).requires z.1) ∷ []) ∵ split ! $ move ! (1 ∷ []) $ fsplit ! $
     raw_out R ! d z.0.4.0 (λ h ws fits.
-    let runs : (p : Ptr) → d.at ≡ p → ent 𝓤 (Run (both (ptr_val p) h ∷ [])) (Run (z.0.4.0 ++ [])) = λ p e. subst (λ (us : List Val). ent 𝓤 (Run (both (ptr_val p) h ∷ [])) (Run us)) (sym (λ i. (ws ∙ ap (λ (p : Ptr). both (ptr_val p) h ∷ []) e) i ++ [])) (id⊢ 𝓤 (Run (both (ptr_val p) h ∷ []))) in
+    let runs : (p : Ptr) → d.at ≡ p → ent 𝓤 (Run (both (ptr_val p) h ∷ [])) (Run (z.0.4.0 ++ [])) =
+    λ p e. subst (λ (us : List Val). ent 𝓤 (Run (both (ptr_val p) h ∷ [])) (Run us))
+    (sym (λ i. (ws ∙ ap (λ (p : Ptr). both (ptr_val p) h ∷ []) e) i ++ []))
+    (id⊢ 𝓤 (Run (both (ptr_val p) h ∷ []))) in
     held_cases R a ! d.at d.held
-    (λ e is. let w : Val = both (ptr_val null_ptr) h in let v₀ : Val = live 0 vnil in let good₀ : Good (layout Out) v₀ = (tt, (record { fits = lit< tt }, tt)) in
-    suffices ! (Run (w ∷ [])) (runs null_ptr e) $ enter ! 𝓣.C 𝓣.Λ fn (w ∷ []) Post $ alloc_all ! (λ l. pass_all ! refl (raw_good R null_ptr h fits, tt) $ let Ev = env fn.locals l in
-    sets ! (of_opd ! (get_in ! (fld ! refl (stop !)) (sub ! 0 refl (whole !)))) refl (tt, record { fits = lit< tt }) $ sets ! (of_opd ! (get_in ! (fld ! refl (stop !)) (sub ! 1 refl (whole !)))) refl fits $
+    (λ e is. let w : Val = both (ptr_val null_ptr) h in let v₀ : Val = live 0 vnil in let good₀ : Good (layout Out) v₀ =
+    (tt, (record { fits = lit< tt }, tt)) in
+    suffices ! (Run (w ∷ [])) (runs null_ptr e) $ enter ! 𝓣.C 𝓣.Λ fn (w ∷ []) Post $ alloc_all !
+    (λ l. pass_all ! refl (raw_good R null_ptr h fits, tt) $ let Ev = env fn.locals l in
+    sets ! (of_opd ! (get_in ! (fld ! refl (stop !)) (sub ! 0 refl (whole !)))) refl (tt, record { fits = lit< tt }) $
+    sets ! (of_opd ! (get_in ! (fld ! refl (stop !)) (sub ! 1 refl (whole !)))) refl fits $
     sets ! (bin ! (get ! refl) (lit ! tt) tt) refl (tt, tt) $ first ! $ branches ! (get ! refl)
-    (λ _. sets_last ! (agg ! (and_then ! (lit ! tt) (no_more !))) refl good₀ $ exec ! 𝓣.C 𝓣.Λ Ev (after 4 fn.body) (at_ret Ev Post) $ sets ! (of_opd ! (get ! refl)) refl good₀ $
-    use0 𝓛 (‵ (Out.own_val None (v₀ ∷ []))) (none_of 𝓛 Lr) $ use0 𝓛 (raw (fact 𝓤 (d.held ≡ None))) (fact_i 𝓤 (d.held ≡ None) (emp 𝓤) is) $ nothing ! $ nothing ! $ fjoin ! $
-    returns ! (look_at ! 0 refl) $ free_all ! refl $ keep ! (5 ∷ 0 ∷ 2 ∷ 1 ∷ []) $ by ! (leaves 𝓛 En hs c z v₀ None (tt, tt) (tt, tt)))
+    (λ _. sets_last ! (agg ! (and_then ! (lit ! tt) (no_more !))) refl good₀ $ exec ! 𝓣.C 𝓣.Λ Ev (after 4 fn.body)
+    (at_ret Ev Post) $ sets ! (of_opd ! (get ! refl)) refl good₀ $
+    use0 𝓛 (‵ (Out.own_val None (v₀ ∷ []))) (none_of 𝓛 Lr) $ use0 𝓛 (raw (fact 𝓤 (d.held ≡ None)))
+    (fact_i 𝓤 (d.held ≡ None) (emp 𝓤) is) $ nothing ! $ nothing ! $ fjoin ! $
+    returns ! (look_at ! 0 refl) $ free_all ! refl $ keep ! (5 ∷ 0 ∷ 2 ∷ 1 ∷ []) $ by !
+    (leaves 𝓛 En hs c z v₀ None (tt, tt) (tt, tt)))
     (λ wrong. absurd wrong)))
-    (λ b o x e is t. let w : Val = both (vptr b o) h in let typed = loose_good R Z LZ ghosts b o h fits in let v₁ : Val = live 1 (vcons w vnil) in let l₁ : Lr.Denot = record { at = block_ptr b o; alloc = a; value = x } in
+    (λ b o x e is t. let w : Val = both (vptr b o) h in let typed = loose_good R Z LZ ghosts b o h fits in
+    let v₁ : Val = live 1 (vcons w vnil) in let l₁ : Lr.Denot =
+    record { at = block_ptr b o; alloc = a; value = x } in
     let good₁ : Good (layout Out) v₁ = (and_tt _ typed.0, (record { fits = lit< tt }, (typed.1, tt))) in
-    suffices ! (Run (w ∷ [])) (runs (block_ptr b o) e) $ enter ! 𝓣.C 𝓣.Λ fn (w ∷ []) Post $ alloc_all ! (λ l. pass_all ! refl (raw_good R (block_ptr b o) h fits, tt) $ let Ev = env fn.locals l in
-    sets ! (of_opd ! (get_in ! (fld ! refl (stop !)) (sub ! 0 refl (whole !)))) refl (tt, tt) $ sets ! (of_opd ! (get_in ! (fld ! refl (stop !)) (sub ! 1 refl (whole !)))) refl fits $
-    sets ! (bin ! (get ! refl) (lit ! tt) (tests_null (block_ptr b o) t)) refl (tt, tt) $ first ! $ branches ! (get ! refl) (λ wrong. absurd wrong)
-    (λ _. sets ! (agg ! (and_then ! (get ! refl) (and_then ! (get ! refl) (no_more !)))) refl typed $ sets_last ! (agg ! (and_then ! (lit ! tt) (and_then ! (get ! refl) (no_more !)))) refl good₁ $
-    exec ! 𝓣.C 𝓣.Λ Ev (after 4 fn.body) (at_ret Ev Post) $ sets ! (of_opd ! (get ! refl)) refl good₁ $ loose_in R Z LZ ghosts ! b o h a x $
-    use1 𝓛 (‵ (Out.own_val (Some l₁) (v₁ ∷ []))) (Some-of 𝓛 Lr l₁ w) $ use0 𝓛 (raw (fact 𝓤 (d.held ≡ Some x))) (fact_i 𝓤 (d.held ≡ Some x) (emp 𝓤) is) $ nothing ! $ nothing ! $ fjoin ! $
-    returns ! (look_at ! 0 refl) $ free_all ! refl $ keep ! (4 ∷ 0 ∷ 2 ∷ 1 ∷ []) $ by ! (leaves 𝓛 En hs c z v₁ (Some l₁) (tt, tt) (tt, tt)))))))
+    suffices ! (Run (w ∷ [])) (runs (block_ptr b o) e) $ enter ! 𝓣.C 𝓣.Λ fn (w ∷ []) Post $ alloc_all !
+    (λ l. pass_all ! refl (raw_good R (block_ptr b o) h fits, tt) $ let Ev = env fn.locals l in
+    sets ! (of_opd ! (get_in ! (fld ! refl (stop !)) (sub ! 0 refl (whole !)))) refl (tt, tt) $ sets !
+    (of_opd ! (get_in ! (fld ! refl (stop !)) (sub ! 1 refl (whole !)))) refl fits $
+    sets ! (bin ! (get ! refl) (lit ! tt) (tests_null (block_ptr b o) t)) refl (tt, tt) $ first ! $ branches !
+    (get ! refl) (λ wrong. absurd wrong)
+    (λ _. sets ! (agg ! (and_then ! (get ! refl) (and_then ! (get ! refl) (no_more !)))) refl typed $ sets_last !
+    (agg ! (and_then ! (lit ! tt) (and_then ! (get ! refl) (no_more !)))) refl good₁ $
+    exec ! 𝓣.C 𝓣.Λ Ev (after 4 fn.body) (at_ret Ev Post) $ sets ! (of_opd ! (get ! refl)) refl good₁ $ loose_in R Z LZ
+    ghosts ! b o h a x $
+    use1 𝓛 (‵ (Out.own_val (Some l₁) (v₁ ∷ []))) (Some-of 𝓛 Lr l₁ w) $ use0 𝓛 (raw (fact 𝓤 (d.held ≡ Some x)))
+    (fact_i 𝓤 (d.held ≡ Some x) (emp 𝓤) is) $ nothing ! $ nothing ! $ fjoin ! $
+    returns ! (look_at ! 0 refl) $ free_all ! refl $ keep ! (4 ∷ 0 ∷ 2 ∷ 1 ∷ []) $ by !
+    (leaves 𝓛 En hs c z v₁ (Some l₁) (tt, tt) (tt, tt)))))))

@@ -10,4 +10,5 @@ first_none (Some fault) second e = cc (e)
 pub returns : goal.returns
 returns c bytes input book is served short =
     c.reports_of_finished_books_are_right.ensures bytes input book is.read.reads is.read.text.1
-    (first_none (opening_fault input.opening) (scripts_fault input.opening input.scripts) is.formed) served.finished short
+    (first_none (opening_fault input.opening) (scripts_fault input.opening input.scripts) is.formed) served.finished
+    short

@@ -8,4 +8,5 @@ returns-in_err-place c = λ statement sort.
     rw (p.1, p.2) (heads_refused statement c.args.text.now c.in_err-place.field-0.0 sort c.in_err-place.ensures)
 
 pub returns : goal.returns
-returns c = λ statement sort. heads_read statement c.args.text.now c.in_ok-place.place c.in_ok-place.heads sort c.in_ok-place.ensures
+returns c = λ statement sort. heads_read statement c.args.text.now c.in_ok-place.place c.in_ok-place.heads sort
+    c.in_ok-place.ensures

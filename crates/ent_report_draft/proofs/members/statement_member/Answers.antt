@@ -32,6 +32,7 @@ returns-clause-found c =
     let at = c.args.place in
     bound_so (some_binds entangled own) (binds_of statement form) at.0 at.1 c.args.text.now c.entangled_member.result
     (bound_both statement form entangled own c.in-Some.ensures c.in-Some-form_of.ensures)
-    (subst (λ (kinds : List Kind). Finds (IsMemberLine (Some (written_variables entangled, kinds)) at.0 at.1 c.args.text.now)
+    (subst (λ (kinds : List Kind). Finds
+    (IsMemberLine (Some (written_variables entangled, kinds)) at.0 at.1 c.args.text.now)
     c.entangled_member.result)
     c.as_slice.ensures c.entangled_member.ensures.found)

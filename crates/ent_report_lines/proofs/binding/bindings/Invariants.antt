@@ -5,4 +5,5 @@ use Rattle.ent_report_lines.proofs.binding.bindings.Given as goal
 
 -- what was read and what is left are all
 abbrev pub invariant-loop-name : goal.invariant-loop-name
-invariant-loop-name l = with_values l.values (bindings_at (drop l.name-index l.names) l.rest) ≡ bindings_at l.names l.bytes
+invariant-loop-name l = with_values l.values (bindings_at (drop l.name-index l.names) l.rest) ≡ bindings_at l.names
+    l.bytes

@@ -3,7 +3,8 @@ use Rattle.ent_book.specs.Report2.{line_count}
 use Rattle.ent_history_form.specs.Fault.{IsNoEnd}
 use Rattle.ent_report_reader.proofs.WholeRead.{not_ended, some_left}
 use Rattle.ent_report_reader.proofs.Whole.{breaks_at, faulty_at}
-use Rattle.ent_report_reader.proofs.report.read_text.Goals.{else-has_ended-via-then-has_ended+else-is_empty, else-has_ended-via-else-has_ended}
+use Rattle.ent_report_reader.proofs.report.read_text.Goals.{else-has_ended-via-then-has_ended+else-is_empty}
+use Rattle.ent_report_reader.proofs.report.read_text.Goals.{else-has_ended-via-else-has_ended}
 use Rattle.ent_report_reader.proofs.report.read_text.Goals as goal
 
 pub returns-then-branch : goal.returns-then-branch

@@ -26,7 +26,8 @@ loop-holder-preserved c =
             (map tx_of (filter (is_passed c.args.passed) (take c.loop-holder.holder-index c.args.holders.now)))
             (w.tx.result ∷ [])
             ∙ ap (λ (tx : ℕ). c.args.numbers.now
-            ++ (map tx_of (filter (is_passed c.args.passed) (take c.loop-holder.holder-index c.args.holders.now)) ++ tx ∷ []))
+            ++ (map tx_of (filter (is_passed c.args.passed) (take c.loop-holder.holder-index c.args.holders.now))
+            ++ tx ∷ []))
             w.tx.ensures
             ∙ ap (λ (ns : List ℕ). c.args.numbers.now ++ ns) (sym (next_passed c true w.if-is_passed.true));
         room = omega (

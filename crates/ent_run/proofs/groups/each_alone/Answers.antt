@@ -9,7 +9,8 @@ use Rattle.ent_run.proofs.groups.each_alone.Goals as goal
 
 pub loop-entrant-init : goal.loop-entrant-init
 loop-entrant-init c = record {
-  grouped = subst (λ (groups : List Membership). AreGrouped groups (map fresh [])) (sym c.new-groups.ensures) nobody_grouped;
+  grouped = subst (λ (groups : List Membership). AreGrouped groups (map fresh [])) (sym c.new-groups.ensures)
+      nobody_grouped;
   len = ap length c.new-groups.ensures;
 }
 

@@ -15,10 +15,13 @@ returns t c =
     let first = c.in-Some.first.now in
     let rest = c.in-Some.rest.now in
     let found = c.least_in_conflict_at.result in
-    let one : IsLeastIfAny (λ v. ¬ Contains pass v × InConflictAt locks v (key_of_number first.table) first.mode) found =
-    subst (λ (mode : Mode). IsLeastIfAny (λ v. ¬ Contains pass v × InConflictAt locks v (key_of_number first.table) mode) found)
+    let one : IsLeastIfAny (λ v. ¬ Contains pass v × InConflictAt locks v (key_of_number first.table) first.mode)
+    found =
+    subst (λ (mode : Mode). IsLeastIfAny
+    (λ v. ¬ Contains pass v × InConflictAt locks v (key_of_number first.table) mode) found)
     c.mode.ensures
-    (subst (λ (n : ℕ). IsLeastIfAny (λ v. ¬ Contains pass v × InConflictAt locks v (key_of_number n) c.mode.result) found)
+    (subst (λ (n : ℕ). IsLeastIfAny (λ v. ¬ Contains pass v × InConflictAt locks v (key_of_number n) c.mode.result)
+    found)
     c.table.ensures c.least_in_conflict_at.ensures) in
     subst (IsLeastIfAny (BlocksUses locks c.args.asked.now pass)) (sym c.lesser.ensures)
     (subst (λ (asked : List Use). IsLeastIfAny (BlocksUses locks asked pass) (lesser found c.least_in_conflict.result))

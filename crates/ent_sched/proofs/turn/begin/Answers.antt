@@ -12,7 +12,8 @@ pub returns-in_err-carry_out-in-Lent-clause-events : goal.returns-in_err-carry_o
 returns-in_err-carry_out-in-Lent-clause-events g c =
     let first = c.args.counted.now in
     let middle = c.begin.new.self in
-    let begun = c.events_add_up.ensures.one resolved_forms (Begin c.args.found.tx) (reply_seen c.in_ok-reply.reply) first
+    let begun = c.events_add_up.ensures.one resolved_forms (Begin c.args.found.tx) (reply_seen c.in_ok-reply.reply)
+    first
     middle c.in_ok-reply.ensures.ok refl in
     c.events_add_up.ensures.joined resolved_forms 1 1 first middle c.carry_out.new.counted begun
     c.in_err-carry_out-in-Lent.ensures.events
@@ -21,7 +22,8 @@ pub returns-in_ok-carry_out-in-Lent-clause-events : goal.returns-in_ok-carry_out
 returns-in_ok-carry_out-in-Lent-clause-events g c =
     let first = c.args.counted.now in
     let middle = c.begin.new.self in
-    let begun = c.events_add_up.ensures.one resolved_forms (Begin c.args.found.tx) (reply_seen c.in_ok-reply.reply) first
+    let begun = c.events_add_up.ensures.one resolved_forms (Begin c.args.found.tx) (reply_seen c.in_ok-reply.reply)
+    first
     middle c.in_ok-reply.ensures.ok refl in
     c.events_add_up.ensures.joined resolved_forms 1 1 first middle c.carry_out.new.counted begun
     c.in_ok-carry_out-in-Lent.ensures.events
@@ -70,7 +72,8 @@ pub returns-in_err-carry_out-in-Lent-clause-watched : goal.returns-in_err-carry_
 returns-in_err-carry_out-in-Lent-clause-watched g c =
     let first = c.args.counted.now in
     let middle = c.begin.new.self in
-    let one = one_watched resolved_forms g.W.Watcher.hears (Begin c.args.found.tx) (reply_seen c.in_ok-reply.reply) first
+    let one = one_watched resolved_forms g.W.Watcher.hears (Begin c.args.found.tx) (reply_seen c.in_ok-reply.reply)
+    first
     middle c.args.watcher.now c.begin.new.watcher c.in_ok-reply.ensures.ok c.in_ok-reply.ensures.told in
     watched_on resolved_forms g.W.Watcher.hears first middle c.carry_out.new.counted c.args.watcher.now
     c.begin.new.watcher c.carry_out.new.watcher one c.in_err-carry_out-in-Lent.ensures.watched
@@ -79,7 +82,8 @@ pub returns-in_ok-carry_out-in-Lent-clause-watched : goal.returns-in_ok-carry_ou
 returns-in_ok-carry_out-in-Lent-clause-watched g c =
     let first = c.args.counted.now in
     let middle = c.begin.new.self in
-    let one = one_watched resolved_forms g.W.Watcher.hears (Begin c.args.found.tx) (reply_seen c.in_ok-reply.reply) first
+    let one = one_watched resolved_forms g.W.Watcher.hears (Begin c.args.found.tx) (reply_seen c.in_ok-reply.reply)
+    first
     middle c.args.watcher.now c.begin.new.watcher c.in_ok-reply.ensures.ok c.in_ok-reply.ensures.told in
     watched_on resolved_forms g.W.Watcher.hears first middle c.carry_out.new.counted c.args.watcher.now
     c.begin.new.watcher c.carry_out.new.watcher one c.in_ok-carry_out-in-Lent.ensures.watched

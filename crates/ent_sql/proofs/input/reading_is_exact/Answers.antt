@@ -1,4 +1,5 @@
-use Rattle.ent_sql.proofs.Exact.{read_is_said, said_is_read, one_is_said, text_fault_is, text_fault_first, unexpected_is, unexpected_so, too_many_is, too_many_so}
+use Rattle.ent_sql.proofs.Exact.{read_is_said, said_is_read, one_is_said, text_fault_is, text_fault_first}
+use Rattle.ent_sql.proofs.Exact.{unexpected_is, unexpected_so, too_many_is, too_many_so}
 use Rattle.ent_sql.proofs.input.reading_is_exact.Goals as goal
 
 pub returns-clause-input : goal.returns-clause-input

@@ -11,5 +11,7 @@ returns-in_default c = none_is_empty c.args.word.now (omega (arith, c.in_default
 pub returns : goal.returns
 returns c =
     c.first_written.ensures ∙
-    ap (find (λ keyword. is_written c.args.word.now (keyword_text keyword))) (c.with_initial.ensures ∙ ap (λ (capital : ℕ). filter (λ keyword. slice_index (keyword_text keyword) 0 == capital) keywords) c.to_ascii_uppercase.ensures.value) ∙
+    ap (find (λ keyword. is_written c.args.word.now (keyword_text keyword)))
+    (c.with_initial.ensures ∙ ap (λ (capital : ℕ). filter
+    (λ keyword. slice_index (keyword_text keyword) 0 == capital) keywords) c.to_ascii_uppercase.ensures.value) ∙
     by_initial c.args.word.now (omega (arith, c.in-len1-up.len_at_least))

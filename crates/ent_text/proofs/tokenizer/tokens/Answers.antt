@@ -17,19 +17,23 @@ use Rattle.ent_text.proofs.tokenizer.tokens.Goals as goal
 abbrev Answer : Type 0
 Answer = Result (List Token) (Refusal TextFault)
 
-is_found : (text : List ℕ) (answer : Answer) → Gives (λ tokens. tokens) answer (tokens_of text) → IfOk answer (λ tokens. AreTokens text tokens)
+is_found : (text : List ℕ) (answer : Answer) → Gives (λ tokens. tokens) answer (tokens_of text)
+    → IfOk answer (λ tokens. AreTokens text tokens)
 is_found text (Ok tokens) given = found_are_tokens text tokens given
 is_found text (Err refusal) given = tt
 
-are_slices : (text : List ℕ) (answer : Answer) → Gives (λ tokens. tokens) answer (tokens_of text) → IfOk answer (λ tokens. All (λ token. IsSliceOf text token) tokens)
+are_slices : (text : List ℕ) (answer : Answer) → Gives (λ tokens. tokens) answer (tokens_of text)
+    → IfOk answer (λ tokens. All (λ token. IsSliceOf text token) tokens)
 are_slices text (Ok tokens) given = tokens_are_slices text tokens (found_are_tokens text tokens given)
 are_slices text (Err refusal) given = tt
 
-are_in_order : (text : List ℕ) (answer : Answer) → Gives (λ tokens. tokens) answer (tokens_of text) → IfOk answer (λ tokens. AreInOrder tokens)
+are_in_order : (text : List ℕ) (answer : Answer) → Gives (λ tokens. tokens) answer (tokens_of text)
+    → IfOk answer (λ tokens. AreInOrder tokens)
 are_in_order text (Ok tokens) given = tokens_are_in_order text tokens (found_are_tokens text tokens given)
 are_in_order text (Err refusal) given = tt
 
-is_fault : (text : List ℕ) (answer : Answer) → Gives (λ tokens. tokens) answer (tokens_of text) → IfErr answer (λ refusal. IfFault (λ fault. HasFault text fault) refusal)
+is_fault : (text : List ℕ) (answer : Answer) → Gives (λ tokens. tokens) answer (tokens_of text)
+    → IfErr answer (λ refusal. IfFault (λ fault. HasFault text fault) refusal)
 is_fault text (Ok tokens) given = tt
 is_fault text (Err errors.Memory) given = tt
 is_fault text (Err (errors.Fault fault)) given = fault_is_found text fault given

@@ -5,4 +5,5 @@ use Rattle.ent_trace_reader.proofs.reading.read_trace.Given as goal
 
 abbrev pub invariant-loop-words : goal.invariant-loop-words
 invariant-loop-words l =
-    (l.line ≡ length l.yielded) × (told (take (length l.yielded) (lines l.text)) ≡ lines_of l.reading.exchanges.items l.reading.event)
+    (l.line ≡ length l.yielded)
+    × (told (take (length l.yielded) (lines l.text)) ≡ lines_of l.reading.exchanges.items l.reading.event)

@@ -8,7 +8,8 @@ use Rattle.ent_trace_reader.proofs.reply.commits.Given as goal
 
 abbrev pub invariant-loop-word : goal.invariant-loop-word
 invariant-loop-word l = shadow (Utf8 l.rest)
-    × (codes " " ++ l.text ≡ flat_map (λ commit. paired commit.number commit.tx) l.commits.items ++ (codes " " ++ l.rest))
+    × (codes " " ++ l.text ≡ flat_map (λ commit. paired commit.number commit.tx) l.commits.items
+    ++ (codes " " ++ l.rest))
 
 abbrev pub decreases-loop-word : goal.decreases-loop-word
 decreases-loop-word l = length l.rest

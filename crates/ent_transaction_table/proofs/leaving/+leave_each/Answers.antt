@@ -13,7 +13,8 @@ use Rattle.ent_transaction_table.proofs.Lists.{list_any-map}
 use Rattle.ent_transaction_table.proofs.leaving.+leave_each.Goals as goal
 
 abbrev AreNumbered : ℕ → List RunAttempt → Type 0
-AreNumbered known run_attempts = AllByRecursion (λ (run_attempt : RunAttempt). IsNumbered known run_attempt.tx) run_attempts
+AreNumbered known run_attempts =
+    AllByRecursion (λ (run_attempt : RunAttempt). IsNumbered known run_attempt.tx) run_attempts
 
 abbrev AreAwake : List Dormant → List RunAttempt → Type 0
 AreAwake dormant run_attempts = IsDistinct nat_eq (map (λ own. own.tx) dormant ++ numbers_in run_attempts)
@@ -47,7 +48,8 @@ leave_each-requires t c =
     let own = as_member c.in-Some.first.now in
     let shorter = ap (λ (all : List RunAttempt). length all) whole in
     let numbers = subst (AreNumbered table.known) whole c.requires.numbers in
-    let within = subst (λ (all : List RunAttempt). AllByRecursion (IsWithin c.args.submitted.now) all) whole c.requires.within in
+    let within = subst (λ (all : List RunAttempt). AllByRecursion (IsWithin c.args.submitted.now) all) whole
+    c.requires.within in
     let awake = subst (AreAwake table.dormant) whole c.requires.awake in
     let unfinished = subst (AreUnfinished table.fates) whole c.requires.unfinished in (
       omega (arith, shorter),
@@ -73,7 +75,8 @@ returns-clause-dormant t c =
     let before = c.args.table.now.dormant in
     let first = c.in-Some.first.now in
     let rest = c.in-Some.rest.now in
-    let f = λ (run_attempt : RunAttempt). dormant_by c.args.submitted.now (cause_seen c.args.cause) (as_member run_attempt) in
+    let f = λ (run_attempt : RunAttempt). dormant_by c.args.submitted.now (cause_seen c.args.cause)
+    (as_member run_attempt) in
     c.leave_each.ensures.dormant
     ∙ ap (λ (dormant : List Dormant). reverse (filter_map f rest) ++ dormant) c.leave_one.ensures.dormant
     ∙ each_before before (f first) (filter_map f rest)
@@ -85,7 +88,8 @@ returns-clause-fates t c =
     let before = c.args.table.now.fates in
     let first = c.in-Some.first.now in
     let rest = c.in-Some.rest.now in
-    let f = λ (run_attempt : RunAttempt). fated_by c.args.submitted.now (cause_seen c.args.cause) (as_member run_attempt) in
+    let f = λ (run_attempt : RunAttempt). fated_by c.args.submitted.now (cause_seen c.args.cause)
+    (as_member run_attempt) in
     c.leave_each.ensures.fates
     ∙ ap (λ (fates : List Fated). fates ++ filter_map f rest) c.leave_one.ensures.fates
     ∙ each_behind before (f first) (filter_map f rest)

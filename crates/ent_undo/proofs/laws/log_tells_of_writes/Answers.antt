@@ -1,5 +1,6 @@
 use Rattle.ent_undo.proofs.Undoing.{slice_get-rolled_back}
-use Rattle.ent_undo.proofs.History.{rolls_back_to_first_write, keeps_other_tables, undoes_writes, tells_once_noted, tells_once_forgotten, tells_once_rolled_back}
+use Rattle.ent_undo.proofs.History.{rolls_back_to_first_write, keeps_other_tables, undoes_writes, tells_once_noted}
+use Rattle.ent_undo.proofs.History.{tells_once_forgotten, tells_once_rolled_back}
 use Rattle.ent_undo.proofs.laws.log_tells_of_writes.Goals as goal
 
 pub returns-clause-each_table : goal.returns-clause-each_table

@@ -11,7 +11,8 @@ loop-index-init c =
     let rs = c.args.records.now in
     let ts = map arc_value c.args.tables.now in
     record {
-      tables = sym (ap (λ xs. rolled_back c.args.members.now (changes_in xs) ts) (drop_all (length rs) rs (omega arith)) ∙ rolled_back-none c.args.members.now ts);
+      tables = sym (ap (λ xs. rolled_back c.args.members.now (changes_in xs) ts) (drop_all (length rs) rs (omega arith))
+          ∙ rolled_back-none c.args.members.now ts);
       rest = refl;
       others = refl;
     }
@@ -28,14 +29,19 @@ loop-index-preserved-then-contains c =
     let within : left ≤ length rs = omega arith in
     let rest = c.loop-index.invariant.rest in
     let at = c.index-records-index-then-contains.is in
-    let seen : get_or now (left - 1) c.index-records-index.result ≡ r = get_or_default now (left - 1) c.index-records-index.result r (omega arith) ∙ sym at in
-    let mine : is_of ms (change_of r) ≡ true = ap (λ x. is_of ms (change_of x)) (sym seen) ∙ sym c.contains.ensures.value ∙ c.if-contains.true in
-    let put = c.exchange.ensures.tables ∙ ap (λ x. set (map arc_value c.loop-index.tables) x.table (arc_value x.before)) (sym at) in
+    let seen : get_or now (left - 1) c.index-records-index.result ≡ r =
+    get_or_default now (left - 1) c.index-records-index.result r (omega arith) ∙ sym at in
+    let mine : is_of ms (change_of r) ≡ true = ap (λ x. is_of ms (change_of x)) (sym seen)
+    ∙ sym c.contains.ensures.value ∙ c.if-contains.true in
+    let put = c.exchange.ensures.tables ∙ ap (λ x. set (map arc_value c.loop-index.tables) x.table (arc_value x.before))
+    (sym at) in
     let tx = c.exchange.ensures.same ∙ ap (λ x. x.tx) (sym at) in
     record {
-      tables = tables_more ms rs now left (left - 1) r above len within rest at _ _ _ mine c.loop-index.invariant.tables put;
+      tables = tables_more ms rs now left (left - 1) r above len within rest at _ _ _ mine c.loop-index.invariant.tables
+          put;
       rest = rest_more ms rs now left (left - 1) r above len within rest at c.exchange.new.undo;
-      others = others_more ms rs now left (left - 1) r above len within rest at c.exchange.new.undo tx mine ∙ c.loop-index.invariant.others;
+      others = others_more ms rs now left (left - 1) r above len within rest at c.exchange.new.undo tx mine
+          ∙ c.loop-index.invariant.others;
     }
 
 pub loop-index-preserved : goal.loop-index-preserved
@@ -50,7 +56,8 @@ loop-index-preserved c =
     let within : left ≤ length rs = omega arith in
     let rest = c.loop-index.invariant.rest in
     let at = c.index-records-index.is in
-    let other : is_of ms (change_of r) ≡ false = ap (λ x. is_of ms (change_of x)) at ∙ sym c.contains.ensures.value ∙ c.if-contains.false in
+    let other : is_of ms (change_of r) ≡ false = ap (λ x. is_of ms (change_of x)) at ∙ sym c.contains.ensures.value
+    ∙ c.if-contains.false in
     record {
       tables = tables_kept ms rs now left (left - 1) r above len within rest at _ _ other c.loop-index.invariant.tables;
       rest = rest_kept ms rs now left (left - 1) r above len within rest at;

@@ -33,7 +33,8 @@ loop-holder-preserved c =
       | else-is_conflicting w ↦ record {
         kept = subst (λ (new : ℕ). HasMarksOf new old) (sym w.marked-is) c.loop-holder.invariant.kept;
         upto = subst (λ (new : ℕ). MarksGroupsUpto active asked holders (at + 1) new) (sym w.marked-is)
-            (groups_same active asked holders row at here element (sym c.is_conflicting.ensures ∙ w.if-is_conflicting.false)
+            (groups_same active asked holders row at here element
+            (sym c.is_conflicting.ensures ∙ w.if-is_conflicting.false)
             c.loop-holder.invariant.upto);
       }
     ]

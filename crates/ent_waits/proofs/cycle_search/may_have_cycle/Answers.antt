@@ -4,7 +4,8 @@ use Rattle.ent_waits.proofs.cycle_search.may_have_cycle.Goals as goal
 
 pub loop-round-init : goal.loop-round-init
 loop-round-init c =
-    all_stuck c.args.rows.now c.first_marks-stuck.result (λ i below. c.first_marks-stuck.ensures i (omega (arith, below)))
+    all_stuck c.args.rows.now c.first_marks-stuck.result
+    (λ i below. c.first_marks-stuck.ensures i (omega (arith, below)))
 
 pub loop-round-preserved : goal.loop-round-preserved
 loop-round-preserved c =
@@ -16,4 +17,5 @@ returns-then-stuck-eq0 c = λ none.
     none_stuck c.args.rows.now c.loop-round.stuck c.if-stuck-eq0.true c.loop-round.invariant
 
 pub returns : goal.returns
-returns c = λ none. none_stuck c.args.rows.now c.loop-round.stuck (is_zero c.loop-round.stuck none) c.loop-round.invariant
+returns c = λ none. none_stuck c.args.rows.now c.loop-round.stuck (is_zero c.loop-round.stuck none)
+    c.loop-round.invariant

@@ -14,8 +14,10 @@ loop-place-preserved c =
     elim c.if-share_mark.branch [
       | then-share_mark w ↦
           subst (λ left. AreStuck rows stuck left (at + 1)) (sym w.left-is)
-          (stuck_more rows stuck c.loop-place.left w.with_mark-left.result at w.with_mark-left.ensures c.loop-place.invariant)
+          (stuck_more rows stuck c.loop-place.left w.with_mark-left.result at w.with_mark-left.ensures
+          c.loop-place.invariant)
       | else-share_mark w ↦
           subst (λ left. AreStuck rows stuck left (at + 1)) (sym w.left-is)
-          (stuck_same rows stuck c.loop-place.left at c.share_mark.result w.if-share_mark.false c.share_mark.ensures c.loop-place.invariant)
+          (stuck_same rows stuck c.loop-place.left at c.share_mark.result w.if-share_mark.false c.share_mark.ensures
+          c.loop-place.invariant)
     ]

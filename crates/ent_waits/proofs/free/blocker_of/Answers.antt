@@ -8,7 +8,8 @@ use Rattle.ent_waits.proofs.free.blocker_of.Goals as goal
 pub returns-in-Some : goal.returns-in-Some
 returns-in-Some c = λ s.
     c.statement_blocker.ensures s
-    ∙ ap (λ (asked : List Use). blocker (with_run c.args.run.now s) c.args.member.now asked) (sym c.in-Some.ensures.uses)
+    ∙ ap (λ (asked : List Use). blocker (with_run c.args.run.now s) c.args.member.now asked)
+    (sym c.in-Some.ensures.uses)
 
 pub returns-in-None : goal.returns-in-None
 returns-in-None c = λ s.

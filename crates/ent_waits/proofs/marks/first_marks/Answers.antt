@@ -6,4 +6,5 @@ pub loop-at-init : goal.loop-at-init
 loop-at-init c = λ i below. absurd (omega (arith, below))
 
 pub loop-at-preserved : goal.loop-at-preserved
-loop-at-preserved c = first_more c.loop-at.row c.with_mark-row.result c.loop-at.at c.with_mark-row.ensures c.loop-at.invariant
+loop-at-preserved c = first_more c.loop-at.row c.with_mark-row.result c.loop-at.at c.with_mark-row.ensures
+    c.loop-at.invariant

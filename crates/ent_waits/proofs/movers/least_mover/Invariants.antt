@@ -8,4 +8,5 @@ use Rattle.ent_waits.proofs.movers.least_mover.Given as goal
 -- the least of the members so far
 abbrev pub invariant-loop-member : goal.invariant-loop-member
 invariant-loop-member l =
-    (s : State) → IsLeastIfAny (HasMoverIn (state_with l.run l.submitted l.lent s) (take l.member-index l.run.active)) l.least
+    (s : State) → IsLeastIfAny (HasMoverIn (state_with l.run l.submitted l.lent s) (take l.member-index l.run.active))
+    l.least

@@ -8,7 +8,8 @@ use Rattle.ent_core.proofs.reached.Core.begin_free.Goals as goal
 
 pub invariant_of-self : goal.invariant_of-self
 invariant_of-self c =
-    kept_after c.steps_go_on.ensures reply_seen c.self.inside.store c.begin_free.new.store (Begin c.args.found.tx) c.begin_free.result
+    kept_after c.steps_go_on.ensures reply_seen c.self.inside.store c.begin_free.new.store (Begin c.args.found.tx)
+    c.begin_free.result
     c.self.invariant c.begin_free.ensures.ok c.begin_free.ensures.err
 
 pub returns-clause-rolls_back : goal.returns-clause-rolls_back
@@ -18,6 +19,7 @@ returns-clause-rolls_back c = λ member there rolls.
 
 pub returns-clause-legal : goal.returns-clause-legal
 returns-clause-legal c =
-    let kept = kept_after c.steps_go_on.ensures reply_seen c.self.inside.store c.begin_free.new.store (Begin c.args.found.tx)
+    let kept = kept_after c.steps_go_on.ensures reply_seen c.self.inside.store c.begin_free.new.store
+    (Begin c.args.found.tx)
     c.begin_free.result c.self.invariant c.begin_free.ensures.ok c.begin_free.ensures.err in
     c.resolved_runs_are_legal.ensures c.begin_free.new.store kept.formed kept.reached

@@ -11,7 +11,8 @@ invariant_of-self g c =
     let i = c.self.inside in
     let reply = reply_seen c.break_cycle.result in
     let step = c.break_cycle.ensures.step in
-    kept_none i.count i.scripts.total i.entries.total i.core c.break_cycle.new.self BreakCycle reply c.self.invariant step
+    kept_none i.count i.scripts.total i.entries.total i.core c.break_cycle.new.self BreakCycle reply c.self.invariant
+    step
     (breaks_none i.core c.break_cycle.new.self reply step)
 
 pub returns : goal.returns

@@ -12,7 +12,8 @@ returns-in-Ok-clause-book g c =
     let i = c.self.inside in
     let sessions = c.args.sessions.now in
     let book = book_seen c.in-Ok.book in
-    let accounted = subst (λ (d : DeskState). IsAccounted d.core d.count sessions) (sym c.self.view_is) c.requires.accounted in
+    let accounted = subst (λ (d : DeskState). IsAccounted d.core d.count sessions) (sym c.self.view_is)
+    c.requires.accounted in
     let done = subst (λ (d : DeskState). CanClose d.core) (sym c.self.view_is) c.requires.done in
     closed i.core i.count sessions book accounted c.self.invariant.gathered c.is_reached.ensures.reached done
     c.in-Ok.ensures.book

@@ -12,7 +12,8 @@ invariant_of-self-2 g c =
     let i = c.self.inside in
     let reply = reply_seen c.in_ok-join_answer.field-0 in
     let step = c.in_ok-join_answer.ensures.ok in
-    kept_none i.count i.scripts.total i.entries.total i.core c.join_answer.new.self (JoinAnswer c.args.done) reply c.self.invariant step
+    kept_none i.count i.scripts.total i.entries.total i.core c.join_answer.new.self (JoinAnswer c.args.done) reply
+    c.self.invariant step
     (joins_none i.core c.join_answer.new.self reply c.args.done step)
 
 pub returns-clause-events : goal.returns-clause-events

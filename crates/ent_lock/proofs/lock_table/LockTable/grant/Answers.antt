@@ -11,7 +11,9 @@ returns-clause-ok g c =
     let tx = c.args.tx in
     let asked = keyed key c.args.asked.now in
     let new = held_in key c.add_all.new.tables.items in
-    on_ok_then c.add_all.result (new ≡ with_uses (held_in key c.self.inside.tables.items) tx asked) (AddsUses c.args.self.now new tx asked)
+    on_ok_then c.add_all.result (new ≡ with_uses (held_in key c.self.inside.tables.items) tx asked)
+    (AddsUses c.args.self.now new tx asked)
     (λ is. subst (λ (held : Uses). AddsUses c.args.self.now held tx asked)
-    (sym (is ∙ ap (λ (held : Uses). with_uses held tx asked) c.self.view_is)) (with_uses-AddsUses c.args.self.now tx asked))
+    (sym (is ∙ ap (λ (held : Uses). with_uses held tx asked) c.self.view_is))
+    (with_uses-AddsUses c.args.self.now tx asked))
     c.add_all.ensures.ok

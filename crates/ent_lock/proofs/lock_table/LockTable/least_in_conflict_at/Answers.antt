@@ -6,5 +6,6 @@ use Rattle.ent_lock.proofs.lock_table.LockTable.least_in_conflict_at.Goals as go
 pub returns : goal.returns
 returns g c =
     let table = g.T.TableKey.key c.args.table.now in
-    subst (IsLeastIfAny (ConflictsOne c.args.self.now table c.args.mode c.args.pass.now)) (sym c.least_conflicting.ensures)
+    subst (IsLeastIfAny (ConflictsOne c.args.self.now table c.args.mode c.args.pass.now))
+    (sym c.least_conflicting.ensures)
     (least_of_any c.args.self.now table c.args.mode c.args.pass.now c.holders.result.now c.holders.ensures)

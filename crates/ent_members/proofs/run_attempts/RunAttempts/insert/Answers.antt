@@ -25,6 +25,7 @@ returns c =
     let held = take c.self.inside.len c.self.inside.run_attempts in
     c.put_at.ensures
     ∙ ap (λ i. insert held i c.args.run_attempt) (c.place_for-at.ensures
-    ∙ ap (λ (ls : List RunAttempt). place_in number_of ls c.args.run_attempt.tx) (c.as_slice.ensures.list ∙ sym c.self.view_is))
+    ∙ ap (λ (ls : List RunAttempt). place_in number_of ls c.args.run_attempt.tx)
+    (c.as_slice.ensures.list ∙ sym c.self.view_is))
     ∙ sym (inserted_at number_of c.args.run_attempt held)
     ∙ ap (inserted number_of c.args.run_attempt) c.self.view_is

@@ -28,9 +28,11 @@ returns-in_err-added-clause-change g c = λ passes excused image computes answer
     ∙ c.in_ok-removed.ensures.passing passes listed ∙ ap (filter passes) c.as_slice.ensures.value in
     let part = taken_from items c.as_slice.result.now c.in_ok-removed.removed.items matched c.as_slice.ensures.value
     c.as_slice-2.ensures.value c.in_ok-removed.ensures.part in
-    let here = taken_answers g.G.Fn c.args.change items matched s view (part_there items matched part) excused image answers in
+    let here = taken_answers g.G.Fn c.args.change items matched s view (part_there items matched part) excused image
+    answers in
     let found = err_from_is_err_and c.from_residual-in_err-added.result c.from_residual-in_err-added.ensures.1 in
-    rw (found.1, found.2) (not_replaced_unless excused s matched image (replacement s passes image) c.in_err-added.field-0.0
+    rw (found.1, found.2) (not_replaced_unless excused s matched image (replacement s passes image)
+    c.in_err-added.field-0.0
     (replaced s items matched passes image view (subst (IsStrictlySortedBy row_cmp)
     (sym c.in_ok-rows.ensures.rows) (rows_ascend c.args.self.now.rows)) removed)
     (c.in_err-added.ensures.images excused image here))
@@ -77,7 +79,8 @@ returns-clause-change g c = λ passes excused image computes answers.
     computes in
     let part = taken_from items c.as_slice.result.now c.in_ok-removed.removed.items matched c.as_slice.ensures.value
     c.as_slice-2.ensures.value c.in_ok-removed.ensures.part in
-    let here = taken_answers g.G.Fn c.args.change items matched s view (part_there items matched part) excused image answers in
+    let here = taken_answers g.G.Fn c.args.change items matched s view (part_there items matched part) excused image
+    answers in
     let removed : c.from_vec.result ≡ filter passes items = c.from_vec.ensures
     ∙ c.in_ok-removed.ensures.passing passes listed ∙ ap (filter passes) c.as_slice.ensures.value in
     let same : matched ≡ c.from_vec.result = c.as_slice-2.ensures.value ∙ sym c.from_vec.ensures in

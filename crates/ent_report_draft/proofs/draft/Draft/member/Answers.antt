@@ -22,7 +22,8 @@ returns-clause-judged c =
     let due = due_of c.self.inside.due in
     let at = c.in-Some.place in
     let is = place_due due at c.in-Some.ensures.some in
-    let found = subst (λ (d : Draft). IsMemberLine (member_binds d.told at.0 at.1) at.0 at.1 c.args.text.now c.in_ok-told.told)
+    let found = subst (λ (d : Draft). IsMemberLine (member_binds d.told at.0 at.1) at.0 at.1 c.args.text.now
+    c.in_ok-told.told)
     (sym c.self.view_is) c.in_ok-told.ensures.found in
     let new : Draft = record {
       told = record {

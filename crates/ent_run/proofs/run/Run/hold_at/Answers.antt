@@ -27,7 +27,8 @@ invariant_of-self-2 c =
     (held_at holding_all old new asked uses place member
     (λ d. c.at-member.ensures d ∙ ap (λ (ms : List Member). get_or ms place d) first)
     (c.in_ok-uses.ensures ∙ ap (with_uses asked) c.uses.ensures) (λ us m. refl) (λ us m. refl) (λ us m. refl) locks
-    c.lock.new.locks groups prepared (subst (IsRunWith locks groups prepared) (sym c.as_mut_slice.ensures.value) c.self.invariant)
+    c.lock.new.locks groups prepared
+    (subst (IsRunWith locks groups prepared) (sym c.as_mut_slice.ensures.value) c.self.invariant)
     (subst (λ (ms : List Member). place < length ms) first c.requires) c.hold.ensures.changed c.hold.ensures.numbers
     (subst (λ (n : ℕ). Locks n asked locks c.lock.new.locks) c.tx-tx.ensures c.in_ok-lock.ensures.ok))
 

@@ -33,11 +33,13 @@ returns-clause-all c = λ s.
 pub returns-clause-leave : goal.returns-clause-leave
 returns-clause-leave c = λ gone is. record {
   prepared = c.remove.ensures
-      ∙ ap (λ (numbers : List ℕ). filter (is_not_of numbers) c.self.inside.prepared.items) (c.numbers-numbers.ensures ∙ is)
+      ∙ ap (λ (numbers : List ℕ). filter (is_not_of numbers) c.self.inside.prepared.items)
+      (c.numbers-numbers.ensures ∙ is)
       ∙ filtered_out gone c.self.inside.prepared.items
       ∙ ap (λ (run : Run). filter (λ member. not (is_among gone member.tx)) run.prepared) c.self.view_is;
   active = c.remove-2.ensures
-      ∙ ap (λ (numbers : List ℕ). filter (is_not_of numbers) c.self.inside.active.items) (c.numbers-numbers.ensures ∙ is)
+      ∙ ap (λ (numbers : List ℕ). filter (is_not_of numbers) c.self.inside.active.items)
+      (c.numbers-numbers.ensures ∙ is)
       ∙ filtered_out gone c.self.inside.active.items
       ∙ ap (λ (run : Run). filter (λ member. not (is_among gone member.tx)) run.active) c.self.view_is;
 }

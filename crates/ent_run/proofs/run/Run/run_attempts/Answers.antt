@@ -10,7 +10,8 @@ returns c =
     let prepared = c.self.inside.prepared.items in
     let active = c.self.inside.active.items in
     c.gather.ensures.list
-    ∙ ap (λ (ms : List Member). gathered c.args.group ms c.gather_by_number-run_attempts.result) c.as_slice-2.ensures.value
+    ∙ ap (λ (ms : List Member). gathered c.args.group ms c.gather_by_number-run_attempts.result)
+    c.as_slice-2.ensures.value
     ∙ ap (gathered c.args.group prepared) (c.gather_by_number-run_attempts.ensures.list
     ∙ ap (run_attempts_in c.args.group) c.as_slice.ensures.value)
     ∙ sym (gathered-append c.args.group prepared active [])

@@ -18,7 +18,8 @@ invariant_of-self c =
     let prepared = c.self.inside.prepared.items in
     subst (IsRunWith locks groups prepared)
     (sym (with_items_is c.self.inside.active new (c.step.auto.members ∙ c.as_mut_slice.ensures.len)))
-    (stepped_with c.step.result locks groups prepared old new (stepped c.args.answer) (λ m. refl) (λ m. refl) (λ m. refl) c.args.tx
+    (stepped_with c.step.result locks groups prepared old new (stepped c.args.answer) (λ m. refl) (λ m. refl)
+    (λ m. refl) c.args.tx
     (subst (IsRunWith locks groups prepared) (sym c.as_mut_slice.ensures.value) c.self.invariant)
     (subst (λ (ms : List Member). IsSome (found ms c.args.tx))
     (ap (λ (run : Run). run.active) (sym c.self.view_is) ∙ sym c.as_mut_slice.ensures.value) c.requires)

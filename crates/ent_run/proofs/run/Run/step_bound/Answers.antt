@@ -18,7 +18,8 @@ invariant_of-self c =
     let prepared = c.self.inside.prepared.items in
     subst (IsRunWith locks groups prepared)
     (sym (with_items_is c.self.inside.active new (c.step_bound.auto.members ∙ c.as_mut_slice.ensures.len)))
-    (stepped_with c.step_bound.result locks groups prepared old new (stepping c.args.answer c.args.bound.items) (λ m. refl)
+    (stepped_with c.step_bound.result locks groups prepared old new (stepping c.args.answer c.args.bound.items)
+    (λ m. refl)
     (λ m. refl) (λ m. refl) c.args.tx
     (subst (IsRunWith locks groups prepared) (sym c.as_mut_slice.ensures.value) c.self.invariant)
     (subst (λ (ms : List Member). IsSome (found ms c.args.tx))

@@ -10,8 +10,11 @@ pub invariant_of-self : goal.invariant_of-self
 invariant_of-self c =
     let tables = map arc_value c.self.inside.tables.items in
     let log = c.self.inside.log in
-    let same = with_items_is c.self.inside.tables c.roll_back.new.tables (c.roll_back.auto.tables ∙ c.as_mut_slice.ensures.len) in
-    others_are_noted c.args.gone.now tables (map arc_value (with_items c.self.inside.tables c.roll_back.new.tables).items) log c.roll_back.new.self c.args.self.now
+    let same = with_items_is c.self.inside.tables c.roll_back.new.tables
+    (c.roll_back.auto.tables ∙ c.as_mut_slice.ensures.len) in
+    others_are_noted c.args.gone.now tables
+    (map arc_value (with_items c.self.inside.tables c.roll_back.new.tables).items) log c.roll_back.new.self
+    c.args.self.now
     c.self.view_is c.self.invariant (c.rollback_goes_newest_first.ensures c.args.gone.now log tables)
     (ap (map arc_value) same ∙ c.roll_back.ensures.tables
     ∙ ap (λ xs. rolled_back_noted c.args.gone.now log (map arc_value xs)) c.as_mut_slice.ensures.value)
@@ -21,8 +24,11 @@ pub returns-clause-numbers : goal.returns-clause-numbers
 returns-clause-numbers c =
     let tables = map arc_value c.self.inside.tables.items in
     let log = c.self.inside.log in
-    let same = with_items_is c.self.inside.tables c.roll_back.new.tables (c.roll_back.auto.tables ∙ c.as_mut_slice.ensures.len) in
-    changes_are_put_back c.args.gone.now tables (map arc_value (with_items c.self.inside.tables c.roll_back.new.tables).items) log c.roll_back.new.self c.args.self.now
+    let same = with_items_is c.self.inside.tables c.roll_back.new.tables
+    (c.roll_back.auto.tables ∙ c.as_mut_slice.ensures.len) in
+    changes_are_put_back c.args.gone.now tables
+    (map arc_value (with_items c.self.inside.tables c.roll_back.new.tables).items) log c.roll_back.new.self
+    c.args.self.now
     c.self.view_is c.self.invariant (c.rollback_goes_newest_first.ensures c.args.gone.now log tables)
     (ap (map arc_value) same ∙ c.roll_back.ensures.tables
     ∙ ap (λ xs. rolled_back_noted c.args.gone.now log (map arc_value xs)) c.as_mut_slice.ensures.value)
@@ -32,8 +38,11 @@ pub returns-clause-members : goal.returns-clause-members
 returns-clause-members c = λ members is.
     let tables = map arc_value c.self.inside.tables.items in
     let log = c.self.inside.log in
-    let same = with_items_is c.self.inside.tables c.roll_back.new.tables (c.roll_back.auto.tables ∙ c.as_mut_slice.ensures.len) in
-    changes_are_put_back c.args.gone.now tables (map arc_value (with_items c.self.inside.tables c.roll_back.new.tables).items) log c.roll_back.new.self c.args.self.now
+    let same = with_items_is c.self.inside.tables c.roll_back.new.tables
+    (c.roll_back.auto.tables ∙ c.as_mut_slice.ensures.len) in
+    changes_are_put_back c.args.gone.now tables
+    (map arc_value (with_items c.self.inside.tables c.roll_back.new.tables).items) log c.roll_back.new.self
+    c.args.self.now
     c.self.view_is c.self.invariant (c.rollback_goes_newest_first.ensures c.args.gone.now log tables)
     (ap (map arc_value) same ∙ c.roll_back.ensures.tables
     ∙ ap (λ xs. rolled_back_noted c.args.gone.now log (map arc_value xs)) c.as_mut_slice.ensures.value)

@@ -10,7 +10,8 @@ pub returns-in-Some-clause-rows : goal.returns-in-Some-clause-rows
 returns-in-Some-clause-rows c =
     let found = c.in-Some.ensures.lookup in
     ap (λ (t : Relation). Some t.rows) c.deref-in-Some.ensures
-    ∙ there_at arc_value (λ (t : Relation). t.rows) c.deref.result.now c.args.number c.in-Some.table.now found.3.0 found.1
+    ∙ there_at arc_value (λ (t : Relation). t.rows) c.deref.result.now c.args.number c.in-Some.table.now found.3.0
+    found.1
     ∙ ap (λ (arcs : List _). slice_get (rows_in (map arc_value arcs)) c.args.number) c.deref.ensures.value
     ∙ ap (λ (s : Stored). slice_get s.tables c.args.number) c.self.view_is
 
@@ -18,7 +19,8 @@ pub returns-in-Some-clause-kinds : goal.returns-in-Some-clause-kinds
 returns-in-Some-clause-kinds c =
     let found = c.in-Some.ensures.lookup in
     ap (λ (t : Relation). Some t.kinds) c.deref-in-Some.ensures
-    ∙ there_at arc_value (λ (t : Relation). t.kinds) c.deref.result.now c.args.number c.in-Some.table.now found.3.0 found.1
+    ∙ there_at arc_value (λ (t : Relation). t.kinds) c.deref.result.now c.args.number c.in-Some.table.now found.3.0
+    found.1
     ∙ ap (λ (arcs : List _). slice_get (kinds_in (map arc_value arcs)) c.args.number) c.deref.ensures.value
     ∙ ap (λ (s : Stored). slice_get s.kinds c.args.number) c.self.view_is
 

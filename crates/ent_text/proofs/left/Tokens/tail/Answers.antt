@@ -5,4 +5,5 @@ use Rattle.ent_text.proofs.left.Tokens.tail.Goals as goal
 
 pub returns : goal.returns
 returns c =
-    c.tokens_from.ensures ∙ behind_first c.self.inside.front c.self.inside.start c.self.inside.end c.self.inside.behind.now c.self.invariant.at_end ∙ ap (λ (ts : List Token). drop 1 ts) c.self.view_is
+    c.tokens_from.ensures ∙ behind_first c.self.inside.front c.self.inside.start c.self.inside.end
+    c.self.inside.behind.now c.self.invariant.at_end ∙ ap (λ (ts : List Token). drop 1 ts) c.self.view_is

@@ -17,7 +17,8 @@ returns-in_default c =
     let lack = lacks tx s.order.entries (is_none (get nat_eq s.order tx) c.in_default.ensures.found) in
     first_absent s.live s.order tx (drop s.in_run (keys s.order))
     (none_behind (λ (k : ℕ). k == tx) (keys s.order) s.in_run lack)
-    ∙ ap (λ (table : TransactionTable). first_of (filter (λ (own : Dormant). own.tx == tx) table.dormant)) c.self.view_is
+    ∙ ap (λ (table : TransactionTable). first_of (filter (λ (own : Dormant). own.tx == tx) table.dormant))
+    c.self.view_is
 
 pub returns-then-at-self : goal.returns-then-at-self
 returns-then-at-self c =
@@ -27,7 +28,8 @@ returns-then-at-self c =
     let is = number_at (keys s.order) tx at (sym c.in-Some.ensures.index) in
     first_absent s.live s.order tx (drop s.in_run (keys s.order))
     (behind_lacks (keys s.order) at s.in_run tx c.in-Some.ensures.unique is c.if-at-self.true)
-    ∙ ap (λ (table : TransactionTable). first_of (filter (λ (own : Dormant). own.tx == tx) table.dormant)) c.self.view_is
+    ∙ ap (λ (table : TransactionTable). first_of (filter (λ (own : Dormant). own.tx == tx) table.dormant))
+    c.self.view_is
 
 pub returns : goal.returns
 returns c =
@@ -41,4 +43,5 @@ returns c =
     c.get.ensures ∙ value_here s.live s.order c.self.invariant.stand tx c.index.result.now here
     ∙ first_there s.live s.order tx (drop s.in_run (keys s.order))
     (behind_has (keys s.order) at s.in_run tx is (omega (arith, c.if-at-self.false)))
-    ∙ ap (λ (table : TransactionTable). first_of (filter (λ (own : Dormant). own.tx == tx) table.dormant)) c.self.view_is
+    ∙ ap (λ (table : TransactionTable). first_of (filter (λ (own : Dormant). own.tx == tx) table.dormant))
+    c.self.view_is

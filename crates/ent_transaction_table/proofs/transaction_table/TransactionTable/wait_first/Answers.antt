@@ -16,7 +16,8 @@ overflow_sub-last c =
     let tx = c.tx-tx.result in
     let awake : is_dormant tx (waiting s.live s.order s.in_run) ≡ false =
     ap (λ n. is_dormant n (waiting s.live s.order s.in_run)) c.tx-tx.ensures
-    ∙ ap (λ (table : TransactionTable). is_dormant c.args.own.tx table.dormant) c.self.view_is ∙ c.requires.away.awake in
+    ∙ ap (λ (table : TransactionTable). is_dormant c.args.own.tx table.dormant) c.self.view_is
+    ∙ c.requires.away.awake in
     let front =
     in_front s.live s.order s.in_run tx c.unwrap-at.result c.index-key.result.now
     (sym c.get_index_of.ensures.index ∙ c.unwrap-at.ensures) c.index-key.ensures awake in
