@@ -17,6 +17,7 @@ pub mod Picked
 pub mod Playing
 pub mod Pooled
 pub mod Posting
+pub mod Settled
 pub mod Sorted
 pub mod Starting
 pub mod TakenOut

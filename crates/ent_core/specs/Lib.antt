@@ -10,6 +10,7 @@ pub mod Obstacle
 pub mod Pick
 pub mod Play
 pub mod Reply
+pub mod Settled
 pub mod Standing
 pub mod Store
 pub mod TakeOut

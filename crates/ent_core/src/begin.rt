@@ -67,8 +67,8 @@ impl BeginRefusal {
 /// number, and its place among those that aren't prepared. It is of the state in which it was found.
 #[derive(Clone, Copy)]
 pub struct FreeMember {
-    tx: Tx,
-    place: usize,
+    pub(crate) tx: Tx,
+    pub(crate) place: usize,
 }
 
 impl FreeMember {
@@ -76,13 +76,6 @@ impl FreeMember {
         ensures { result ≡ self.tx }
     {
         self.tx
-    }
-
-    /// Its place among the members that aren't prepared.
-    pub(crate) fn place(self) -> usize
-        ensures { result ≡ self.place }
-    {
-        self.place
     }
 
     /// The member itself.

@@ -50,7 +50,7 @@ pub(crate) fn commit(store: &mut Store, found: FreeMember) -> Result<Reply, Allo
     let group = found.member(store).group();
     let room = Vec::with_capacity(store.alloc, MOST_MEMBERS)?;
     store.journal.reserve(MOST_MEMBERS)?;
-    store.run.prepare_at(found.place())?;
+    store.run.prepare_at(found.place)?;
     let Some(mut committed) = store.run.commit(group, room) else {
         return Ok(Reply::Prepared);
     };

@@ -31,6 +31,7 @@ pub(crate) fn open(alloc: Global, opening: Opening) -> Result<Store, Refusal<For
         run: Run::new(alloc),
         pool: Pool::new(alloc),
         joints: Vec::new(alloc),
+        settled: 0,
         tried: Vec::new(alloc),
         lent: LentJobs::new(alloc),
         tables,

@@ -29,6 +29,9 @@ pub(crate) struct Store {
     /// What members posted, by number.
     pub(crate) pool: Pool,
     pub(crate) joints: Vec<JointAnswer>,
+    /// How many joint answers were made before the present run began. Each of their members has a fate, so no rollback
+    /// concerns them.
+    pub(crate) settled: usize,
     pub(crate) tried: Vec<Sequence<Posted>>,
     pub(crate) lent: LentJobs,
     pub(crate) tables: StoredTables,
@@ -39,6 +42,7 @@ impl Model for Store {
     ghost use Rattle.std.specs.Coded.{codes};
     ghost use Rattle.ent_rel.specs.Relation.{coded_rows};
     ghost use Rattle.ent_protocol.specs.State.{State};
+    ghost use Rattle.ent_core.specs.Settled.{AreSettled};
     ghost use Rattle.ent_core.specs.Store.{IsKept};
 
     ghost Value = { State };
@@ -62,7 +66,8 @@ impl Model for Store {
     } };
 
     ghost invariant = { λ s.
-        IsKept s.catalogue.tables s.opening s.submitted.items s.transaction_table s.running s.run s.tables s.pool };
+        IsKept s.catalogue.tables s.opening s.submitted.items s.transaction_table s.running s.run s.tables s.pool
+        × AreSettled s.settled s.joints.items s.transaction_table.fates };
 }
 
 impl Store {

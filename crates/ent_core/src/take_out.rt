@@ -1,5 +1,5 @@
 //! Members are taken out of the run. Nothing here takes memory.
-ghost use Rattle.std.specs.Prelude.{◌≡◌, ◌+◌, ◌≤◌, List, filter, length, map};
+ghost use Rattle.std.specs.Prelude.{◌≡◌, ◌+◌, ◌≤◌, List, filter, length, map, take};
 ghost use Rattle.ent_core.specs.TakeOut.{MayLeave, is_joint_of_any, is_joint_of_others};
 ghost use Rattle.ent_members.specs.RunAttempts.{numbers_in, run_attempt_of, run_attempts_in};
 ghost use Rattle.ent_members.specs.Order.{tx_of};
@@ -27,11 +27,22 @@ fn is_joint_of(numbers: &Members, joint: &JointAnswer) -> bool
         .any(|member| numbers.contains(member.tx))
 }
 
-/// Takes the joint answers out of which one of these transactions is a member.
-fn remove_joints(joints: &mut Vec<JointAnswer>, numbers: &Members)
+/// Takes the joint answers out of which one of these transactions is a member. The first ones, so many, have no such
+/// member, and aren't looked at.
+fn remove_joints(joints: &mut Vec<JointAnswer>, settled: usize, numbers: &Members)
+    requires within { settled ≤ length joints.old.items }
+    requires stay { filter (is_joint_of_others numbers.now) (take settled joints.old.items)
+        ≡ take settled joints.old.items }
     ensures { joints.new.items ≡ filter (is_joint_of_others numbers.now) joints.old.items }
 {
-    joints.retain(|joint| !is_joint_of(numbers, joint));
+    let mut kept = settled;
+    for at in settled..joints.len() {
+        if !is_joint_of(numbers, &joints[at]) {
+            joints.swap(kept, at);
+            kept += 1;
+        }
+    }
+    joints.truncate(kept);
 }
 
 /// Takes the statements of these transactions out of the pool.
@@ -61,7 +72,7 @@ fn take_out(store: &mut Store, group: Option<Tx>, cause: Cause) -> Members
         .transaction_table
         .leave(run_attempts.as_slice(), store.submitted.as_slice(), cause);
     withdraw_each(&mut store.pool, numbers.as_slice());
-    remove_joints(&mut store.joints, &numbers);
+    remove_joints(&mut store.joints, store.settled, &numbers);
     store.lent.remove_with(&numbers);
     store.tables.roll_back(&numbers);
     numbers

@@ -12,7 +12,7 @@
 //! - [`run_all_counted`] does the same, and says how many events it made. [`run_all_watched`] also tells a [`Watcher`]
 //!   of each event with its reply, in order, and of nothing else.
 //!
-//! [`Core`] and [`Played`] are those of ent_core, exported again for the callers of this crate.
+//! [`Core`] is that of `ent_core`, exported again for the callers of this crate.
 #![tactic(auto)]
 
 mod all_runs;
@@ -29,7 +29,7 @@ mod watcher;
 
 pub use all_runs::{run_all, run_all_counted, run_all_watched};
 pub use counted::{Counted, CountedBook};
-pub use ent_core::{Core, Played};
+pub use ent_core::Core;
 pub use law::{events_add_up, events_use_up_tries};
 pub use one_round::round;
 pub use one_run::{run, run_watched};

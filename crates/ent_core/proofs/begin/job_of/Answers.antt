@@ -22,7 +22,7 @@ seen-requires c =
     let count : length now.opening.tables ≡ length inside.tables.tables =
     ap (λ (x : State). length x.opening.tables) (sym c.store.view_is)
     ∙ sym (length-map inside.opening.tables (λ (create : Create). map (λ column. column.kind) create.columns))
-    ∙ ap length (sym c.store.invariant.kinds) ∙ sym c.len-declared.ensures.kinds ∙ c.len-declared.ensures.tables in
+    ∙ ap length (sym c.store.invariant.0.kinds) ∙ sym c.len-declared.ensures.kinds ∙ c.len-declared.ensures.tables in
     let P : ℕ → List Use → Type 0 = λ n asked. All (λ own. own.table < n) asked in
     let Q : ℕ → Type 0 = λ n. P n c.as_slice.result.now in
     recursion_from_All (λ (own : Use). own.table < length inside.tables.tables) c.as_slice.result.now
@@ -42,7 +42,7 @@ one-requires c =
       statement = statement;
     }) in
     let seen : c.in_ok-tables.tables ≡ seen_now now.opening.tables now.tables (statement_uses statement) =
-    c.in_ok-tables.ensures inside.opening.tables (sym c.store.invariant.kinds)
+    c.in_ok-tables.ensures inside.opening.tables (sym c.store.invariant.0.kinds)
     ∙ ap (seen_now inside.opening.tables inside.tables.tables) uses
     ∙ ap (λ (x : State). seen_now x.opening.tables x.tables (statement_uses statement)) c.store.view_is in
     let S : Single → Type 0 = λ own. IsOne own c.in_ok-tables.tables in
@@ -70,7 +70,7 @@ returns c =
       statement = statement;
     }) in
     let seen : c.in_ok-tables.tables ≡ seen_now now.opening.tables now.tables (statement_uses statement) =
-    c.in_ok-tables.ensures inside.opening.tables (sym c.store.invariant.kinds)
+    c.in_ok-tables.ensures inside.opening.tables (sym c.store.invariant.0.kinds)
     ∙ ap (seen_now inside.opening.tables inside.tables.tables) (c.as_slice.ensures.list ∙ uses)
     ∙ ap (λ (x : State). seen_now x.opening.tables x.tables (statement_uses statement)) c.store.view_is in
     record {

@@ -27,7 +27,7 @@ post-requires c =
     let now = c.args.store.now in
     let stand = c.members_stand_by_number.ensures resolved_forms now c.requires.kept.reached in
     let all : pool now ≡ c.store.inside.pool =
-    ap pool (sym c.store.view_is) ∙ c.store.invariant.posted (the_view c.store.inside) refl refl in
+    ap pool (sym c.store.view_is) ∙ c.store.invariant.0.posted (the_view c.store.inside) refl refl in
     subst (λ (posted : List Posted). HasNone posted c.args.query) all
     (none_there now c.args.found.tx c.args.query c.requires.asks stand)
 
@@ -35,7 +35,7 @@ pub returns-in-Err-clause-ok : goal.returns-in-Err-clause-ok
 returns-in-Err-clause-ok c =
     let now = c.args.store.now in
     let all : pool now ≡ c.store.inside.pool =
-    ap pool (sym c.store.view_is) ∙ c.store.invariant.posted (the_view c.store.inside) refl refl in
+    ap pool (sym c.store.view_is) ∙ c.store.invariant.0.posted (the_view c.store.inside) refl refl in
     let P : State → Type 0 =
     λ new. IfOk c.held_back.result (λ reply. Begins now c.args.found.tx (reply_seen reply) new) in
     subst P (sym c.store.view_is)
@@ -49,16 +49,18 @@ invariant_of-store-in-Err-post_at c =
     let now = c.args.store.now in
     let stand = c.members_stand_by_number.ensures resolved_forms now c.requires.kept.reached in
     let all : pool now ≡ inside.pool =
-    ap pool (sym c.store.view_is) ∙ c.store.invariant.posted (the_view inside) refl refl in
+    ap pool (sym c.store.view_is) ∙ c.store.invariant.0.posted (the_view inside) refl refl in
     let none = subst (λ (posted : List Posted). HasNone posted c.args.query) all
     (none_there now c.args.found.tx c.args.query c.requires.asks stand) in
     let by_number = subst (λ (posted : List Posted). IsByNumber posted) all stand.pool in
     let back = posted_withdrawn inside.pool c.post.new.self c.args.query c.args.found.tx
     (own_number now c.args.found.tx c.args.query c.requires.asks) by_number none c.in_default.ensures.posted in
     let K : Run → List Posted → Type 0 = λ run posted. IsKept inside.catalogue.tables inside.opening
-    inside.submitted.items inside.transaction_table inside.running run inside.tables posted in
-    subst (λ (run : Run). K run c.withdraw.new.self) (sym c.in-Err-post_at.ensures.err)
-    (subst (K inside.run) (sym (c.withdraw.ensures ∙ back)) c.store.invariant)
+    inside.submitted.items inside.transaction_table inside.running run inside.tables posted in (
+      subst (λ (run : Run). K run c.withdraw.new.self) (sym c.in-Err-post_at.ensures.err)
+          (subst (K inside.run) (sym (c.withdraw.ensures ∙ back)) c.store.invariant.0),
+      c.store.invariant.1,
+    )
 
 pub invariant_of-store-in_default-post_at : goal.invariant_of-store-in_default-post_at
 invariant_of-store-in_default-post_at c =
@@ -70,14 +72,15 @@ invariant_of-store-in_default-post_at c =
     c.requires.at in
     let plan = subst (λ (x : State). IsToPost x c.args.found.tx c.args.query) (sym c.store.view_is) c.requires.asks in
     let uses = c.as_slice.ensures.list ∙ c.entangled_uses-uses.ensures
-    ∙ ap entangled_uses c.statement.ensures in
-    kept_changed inside.catalogue.tables inside.opening inside.submitted.items inside.transaction_table inside.running
-    inside.run
-    c.post_at.new.self inside.tables inside.pool c.post.new.self c.args.found.tx c.store.invariant
-    (is_member s c.args.found.tx c.args.query plan)
-    (posted_kept s c.args.found.tx c.args.query plan c.as_slice.result.now uses c.post_at.new.self.active
-    (c.in_default-post_at.ensures.ok c.args.found.tx at) stand inside.pool c.post.new.self c.store.invariant.posted
-    c.in_default.ensures.posted)
+    ∙ ap entangled_uses c.statement.ensures in (
+      kept_changed inside.catalogue.tables inside.opening inside.submitted.items inside.transaction_table
+          inside.running inside.run c.post_at.new.self inside.tables inside.pool c.post.new.self c.args.found.tx
+          c.store.invariant.0 (is_member s c.args.found.tx c.args.query plan)
+          (posted_kept s c.args.found.tx c.args.query plan c.as_slice.result.now uses c.post_at.new.self.active
+          (c.in_default-post_at.ensures.ok c.args.found.tx at) stand inside.pool c.post.new.self
+          c.store.invariant.0.posted c.in_default.ensures.posted),
+      c.store.invariant.1,
+    )
 
 pub returns-clause-ok : goal.returns-clause-ok
 returns-clause-ok c =
@@ -86,7 +89,7 @@ returns-clause-ok c =
     let at = subst (λ (x : State). IsAt x.active c.args.found.tx c.args.found.place) (sym c.store.view_is)
     c.requires.at in
     let plan = subst (λ (x : State). IsToPost x c.args.found.tx c.args.query) (sym c.store.view_is) c.requires.asks in
-    let all : pool s ≡ inside.pool = c.store.invariant.posted s refl refl in
+    let all : pool s ≡ inside.pool = c.store.invariant.0.posted s refl refl in
     let posted = subst (λ (old : List Posted). IsPostedTo old c.post.new.self c.args.query) (sym all)
     c.in_default.ensures.posted in
     let uses = c.as_slice.ensures.list ∙ c.entangled_uses-uses.ensures

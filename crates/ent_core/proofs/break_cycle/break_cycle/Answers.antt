@@ -19,7 +19,7 @@ pub roll_back-group-requires-clause-within : goal.roll_back-group-requires-claus
 roll_back-group-requires-clause-within c =
     let P : State → Type 0 = λ s. AllByRecursion AsksForRun s.submitted in
     c.attempts_stay_within.ensures.own resolved_forms c.args.store.now c.requires.reached
-    (subst P c.store.view_is c.store.invariant.asks)
+    (subst P c.store.view_is c.store.invariant.0.asks)
 
 pub roll_back-group-requires-clause-once : goal.roll_back-group-requires-clause-once
 roll_back-group-requires-clause-once c =

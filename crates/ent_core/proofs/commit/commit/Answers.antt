@@ -23,6 +23,7 @@ use Rattle.ent_core.proofs.Begun.{found_at, kept_changed, kept_with, one_member}
 use Rattle.ent_core.proofs.Committing.{commits, committed_all, committed_few, first_part, last_part, parts_numbered}
 use Rattle.ent_core.proofs.Committing.{waits}
 use Rattle.ent_core.proofs.Pooled.{kept_prepared}
+use Rattle.ent_core.proofs.Settled.{settled_on}
 use Rattle.ent_core.proofs.commit.commit.Goals as goal
 
 pub prepare_at-requires : goal.prepare_at-requires
@@ -59,12 +60,15 @@ invariant_of-store-in_default c =
     let there = ap is_some (found_at inside.run.active tx c.args.found.place at).1 in
     let idle = subst (λ (x : State). IsUnposted x tx) (sym c.store.view_is) c.requires.unposted in
     let K : Run → Type 0 = λ run. IsKept inside.catalogue.tables inside.opening inside.submitted.items
-    inside.transaction_table inside.running run inside.tables inside.pool in
-    subst K (sym (c.in_default.ensures.same refl))
-    (kept_changed inside.catalogue.tables inside.opening inside.submitted.items inside.transaction_table
-    inside.running inside.run c.prepare_at.new.self inside.tables inside.pool inside.pool tx c.store.invariant there
-    (kept_prepared inside.submitted.items inside.run.active inside.pool c.store.invariant.posted tx inside.run
-    c.prepare_at.new.self refl (c.in_ok-prepare_at.ensures.ok tx at) there idle))
+    inside.transaction_table inside.running run inside.tables inside.pool in (
+      subst K (sym (c.in_default.ensures.same refl))
+          (kept_changed inside.catalogue.tables inside.opening inside.submitted.items inside.transaction_table
+          inside.running inside.run c.prepare_at.new.self inside.tables inside.pool inside.pool tx
+          c.store.invariant.0 there
+          (kept_prepared inside.submitted.items inside.run.active inside.pool c.store.invariant.0.posted tx inside.run
+          c.prepare_at.new.self refl (c.in_ok-prepare_at.ensures.ok tx at) there idle)),
+      c.store.invariant.1,
+    )
 
 -- ---- its group commits
 
@@ -80,7 +84,7 @@ commit-requires-2-clause-room c =
     let few = committed_few c.store.inside.run c.prepare_at.new.self tx c.group-group.result c.member.result.now
     c.in-Some.committed.items there (c.in_ok-prepare_at.ensures.ok tx at c.member.result.now there)
     (c.in-Some.ensures.committed s) in
-    omega (arith, counted, c.store.invariant.known, few, ap length c.as_slice-2.ensures.value)
+    omega (arith, counted, c.store.invariant.0.known, few, ap length c.as_slice-2.ensures.value)
 
 pub commit-requires-2-clause-numbers : goal.commit-requires-2-clause-numbers
 commit-requires-2-clause-numbers c =
@@ -89,13 +93,16 @@ commit-requires-2-clause-numbers c =
     let P : Member → Type 0 = MayTakePart s.submitted in
     let all : AllByRecursion P (run.prepared ++ run.active) =
     (subst StayWithin (sym c.store.view_is) c.requires.within).members in
-    let there : found run.active tx ≡ Some c.member.result.now = sym (c.in-Some.ensures s) in
+    let tx = c.args.found.tx in
+    let at = subst (λ (x : State). IsAt x.active tx c.args.found.place) (sym c.store.view_is) c.requires.free.at in
+    let there : found run.active tx ≡ Some c.member.result.now =
+    ap (λ (x : State). active_member x tx) c.store.view_is ∙ c.member.ensures.there in
     let among : AllByRecursion P c.in-Some.committed.items =
     committed_all P run c.prepare_at.new.self tx c.group-group.result c.member.result.now
     c.in-Some.committed.items there (c.in_ok-prepare_at.ensures.ok tx at c.member.result.now there)
     (c.in-Some.ensures.committed s) (first_part P run.prepared run.active all)
     (last_part P run.prepared run.active all) in
-    parts_numbered s.submitted c.store.inside.transaction_table.known c.as_slice-2.result.now c.store.invariant.known
+    parts_numbered s.submitted c.store.inside.transaction_table.known c.as_slice-2.result.now c.store.invariant.0.known
     (subst (λ ms. AllByRecursion P ms) (sym c.as_slice-2.ensures.value) among)
 
 pub returns-clause-ok : goal.returns-clause-ok
@@ -150,13 +157,17 @@ invariant_of-store-2 c =
     let at = subst (λ (x : State). IsAt x.active tx c.args.found.place) (sym c.store.view_is) c.requires.free.at in
     let there = ap is_some (found_at inside.run.active tx c.args.found.place at).1 in
     let idle = subst (λ (x : State). IsUnposted x tx) (sym c.store.view_is) c.requires.unposted in
-    let pooled = kept_prepared inside.submitted.items inside.run.active inside.pool c.store.invariant.posted tx
-    inside.run c.prepare_at.new.self refl (c.in_ok-prepare_at.ensures.ok tx at) there idle in
-    kept_with inside.catalogue.tables inside.opening inside.submitted.items inside.transaction_table
-    c.commit-2.new.self inside.running inside.run c.commit.new.self inside.tables c.settle.new.self inside.pool
-    inside.pool tx c.store.invariant there
-    (ap (λ (transaction_table : TransactionTable). transaction_table.dormant) c.commit-2.ensures)
-    (ap (λ (transaction_table : TransactionTable). transaction_table.known) c.commit-2.ensures)
-    (ap (λ (stored : Stored). stored.kinds) c.settle.ensures.numbers)
-    (subst (λ (ms : List Member). IsPoolOf inside.submitted.items ms inside.pool)
-    (sym (c.in-Some.ensures.active refl)) pooled)
+    let pooled = kept_prepared inside.submitted.items inside.run.active inside.pool c.store.invariant.0.posted tx
+    inside.run c.prepare_at.new.self refl (c.in_ok-prepare_at.ensures.ok tx at) there idle in (
+      kept_with inside.catalogue.tables inside.opening inside.submitted.items inside.transaction_table
+          c.commit-2.new.self inside.running inside.run c.commit.new.self inside.tables c.settle.new.self inside.pool
+          inside.pool tx c.store.invariant.0 there
+          (ap (λ (transaction_table : TransactionTable). transaction_table.dormant) c.commit-2.ensures)
+          (ap (λ (transaction_table : TransactionTable). transaction_table.known) c.commit-2.ensures)
+          (ap (λ (stored : Stored). stored.kinds) c.settle.ensures.numbers)
+          (subst (λ (ms : List Member). IsPoolOf inside.submitted.items ms inside.pool)
+          (sym (c.in-Some.ensures.active refl)) pooled),
+      settled_on inside.settled inside.joints.items inside.transaction_table.fates _ c.commit-2.new.self.fates
+          (ap (λ (transaction_table : TransactionTable). transaction_table.fates) c.commit-2.ensures)
+          c.store.invariant.1,
+    )

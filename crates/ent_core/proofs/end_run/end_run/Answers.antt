@@ -16,7 +16,7 @@ pub end-members-requires-clause-within : goal.end-members-requires-clause-within
 end-members-requires-clause-within c =
     let P : State → Type 0 = λ s. AllByRecursion AsksForRun s.submitted in
     c.attempts_stay_within.ensures.own resolved_forms c.args.store.now c.requires.kept.reached
-    (subst P c.store.view_is c.store.invariant.asks)
+    (subst P c.store.view_is c.store.invariant.0.asks)
 
 pub end-members-requires-clause-once : goal.end-members-requires-clause-once
 end-members-requires-clause-once c =

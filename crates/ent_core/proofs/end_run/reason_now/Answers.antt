@@ -7,7 +7,7 @@ use Rattle.ent_core.proofs.end_run.reason_now.Goals as goal
 
 pub reason_of-requires : goal.reason_of-requires
 reason_of-requires c = λ t of_submitted of_active.
-    c.store.invariant.posted t (of_submitted ∙ c.as_slice.ensures.value) of_active
+    c.store.invariant.0.posted t (of_submitted ∙ c.as_slice.ensures.value) of_active
 
 pub returns : goal.returns
 returns c =

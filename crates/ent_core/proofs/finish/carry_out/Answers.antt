@@ -88,10 +88,12 @@ invariant_of-store c =
     let there = subst (λ (x : State). IsSome (active_member x single.tx)) (sym c.store.view_is) c.requires.there in
     let idle = subst (λ (x : State). IsUnposted x single.tx) (sym c.store.view_is) c.requires.unposted in
     let run = c.advance.new.run in
-    let stored = c.advance.new.tables in
-    kept_with inside.catalogue.tables inside.opening inside.submitted.items inside.transaction_table
-    inside.transaction_table inside.running
-    inside.run run inside.tables stored inside.pool inside.pool single.tx c.store.invariant there refl refl
-    (advanced_kinds single outcome inside.run run inside.tables stored c.in-Ok.ensures.ok)
-    (advanced_pool inside.submitted.items inside.pool single outcome inside.run run inside.tables stored
-    c.store.invariant.posted c.in-Ok.ensures.ok there idle)
+    let stored = c.advance.new.tables in (
+      kept_with inside.catalogue.tables inside.opening inside.submitted.items inside.transaction_table
+          inside.transaction_table inside.running inside.run run inside.tables stored inside.pool inside.pool
+          single.tx c.store.invariant.0 there refl refl
+          (advanced_kinds single outcome inside.run run inside.tables stored c.in-Ok.ensures.ok)
+          (advanced_pool inside.submitted.items inside.pool single outcome inside.run run inside.tables stored
+          c.store.invariant.0.posted c.in-Ok.ensures.ok there idle),
+      c.store.invariant.1,
+    )

@@ -34,7 +34,7 @@ roll_back-requires-clause-within c =
     let w : StayWithin (the_view c.store.inside) =
     subst StayWithin (sym c.store.view_is)
     (c.attempts_stay_within.ensures.own resolved_forms c.args.store.now c.requires.kept.reached
-    (subst A c.store.view_is c.store.invariant.asks)) in
+    (subst A c.store.view_is c.store.invariant.0.asks)) in
     record { dormant = w.dormant; members = w.members }
 
 pub roll_back-requires-clause-once : goal.roll_back-requires-clause-once

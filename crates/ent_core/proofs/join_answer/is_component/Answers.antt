@@ -15,5 +15,5 @@ returns c =
     (λ is. (t : State) → pool t ≡ c.store.inside.pool → IsTrue is ↔ IsPresentComponent t asked)
     (λ is. IsTrue is ↔ IsPresentComponent c.args.store.now asked)
     (λ is told. subst (λ (t : State). IsTrue is ↔ IsPresentComponent t asked) c.store.view_is
-    (told s (c.store.invariant.posted s refl refl)))
+    (told s (c.store.invariant.0.posted s refl refl)))
     c.is_present.ensures

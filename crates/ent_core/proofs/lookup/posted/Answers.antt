@@ -10,7 +10,7 @@ use Rattle.ent_core.proofs.lookup.posted.Goals as goal
 pub returns : goal.returns
 returns c =
     let all : pool c.args.store.now ≡ c.members.result.now =
-    ap pool (sym c.store.view_is) ∙ c.store.invariant.posted (the_view c.store.inside) refl refl
+    ap pool (sym c.store.view_is) ∙ c.store.invariant.0.posted (the_view c.store.inside) refl refl
     ∙ sym c.members.ensures.members in
     subst (λ (posted : List Posted). MatchOption c.posted_of.result (HasNoneOf posted c.args.tx)
     (λ query. IsOf posted c.args.tx query.now)) (sym all) c.posted_of.ensures

@@ -13,7 +13,7 @@ returns-in-Some-clause-rows c =
     let tables = inside.tables.tables in
     let name = c.args.name.now in
     c.table.ensures.rows ∙ ap (found_in tables) c.in-Some.ensures ∙ found_under inside.catalogue.tables tables name
-    ∙ (λ i. under (names_declared inside.catalogue.tables inside.opening.tables c.store.invariant.declared i) tables
+    ∙ (λ i. under (names_declared inside.catalogue.tables inside.opening.tables c.store.invariant.0.declared i) tables
     name)
     ∙ rows_under_name (table_names inside.opening) tables name ∙ ap (λ (s : State). present_rows s name) c.store.view_is
 
@@ -23,7 +23,7 @@ returns-in-None-clause-rows c =
     let tables = inside.tables.tables in
     let name = c.args.name.now in
     ap (found_in tables) c.in-None.ensures ∙ found_under inside.catalogue.tables tables name
-    ∙ (λ i. under (names_declared inside.catalogue.tables inside.opening.tables c.store.invariant.declared i) tables
+    ∙ (λ i. under (names_declared inside.catalogue.tables inside.opening.tables c.store.invariant.0.declared i) tables
     name)
     ∙ rows_under_name (table_names inside.opening) tables name ∙ ap (λ (s : State). present_rows s name) c.store.view_is
 
@@ -33,8 +33,8 @@ returns-in-Some-clause-kinds c =
     let kinds = inside.tables.kinds in
     let name = c.args.name.now in
     c.table.ensures.kinds ∙ ap (found_in kinds) c.in-Some.ensures ∙ found_under inside.catalogue.tables kinds name
-    ∙ (λ i. under (names_declared inside.catalogue.tables inside.opening.tables c.store.invariant.declared i)
-    (c.store.invariant.kinds i) name)
+    ∙ (λ i. under (names_declared inside.catalogue.tables inside.opening.tables c.store.invariant.0.declared i)
+    (c.store.invariant.0.kinds i) name)
     ∙ ap (λ (s : State). kinds_of_table s.opening name) c.store.view_is
 
 pub returns-in-None-clause-kinds : goal.returns-in-None-clause-kinds
@@ -43,6 +43,6 @@ returns-in-None-clause-kinds c =
     let kinds = inside.tables.kinds in
     let name = c.args.name.now in
     ap (found_in kinds) c.in-None.ensures ∙ found_under inside.catalogue.tables kinds name
-    ∙ (λ i. under (names_declared inside.catalogue.tables inside.opening.tables c.store.invariant.declared i)
-    (c.store.invariant.kinds i) name)
+    ∙ (λ i. under (names_declared inside.catalogue.tables inside.opening.tables c.store.invariant.0.declared i)
+    (c.store.invariant.0.kinds i) name)
     ∙ ap (λ (s : State). kinds_of_table s.opening name) c.store.view_is

@@ -24,7 +24,7 @@ post_fault-requires c =
     c.member-member.ensures.there c.member-member.ensures.free (sym asks)
     c.query_of-query.ensures in
     let all : pool now ≡ c.store.inside.pool =
-    ap pool (sym c.store.view_is) ∙ c.store.invariant.posted (the_view c.store.inside) refl refl in
+    ap pool (sym c.store.view_is) ∙ c.store.invariant.0.posted (the_view c.store.inside) refl refl in
     subst (λ (posted : List Posted). HasNone posted query) all
     (none_there now c.args.found.tx query plan
     (c.members_stand_by_number.ensures resolved_forms now c.requires.kept.reached))
@@ -50,7 +50,7 @@ returns-in-Asks c =
     c.query_of-query.ensures in
     let posted = c.store.inside.pool in
     let all : pool now ≡ posted =
-    ap pool (sym c.store.view_is) ∙ c.store.invariant.posted (the_view c.store.inside) refl refl in
+    ap pool (sym c.store.view_is) ∙ c.store.invariant.0.posted (the_view c.store.inside) refl refl in
     IfOk-weaker c.post_fault.result
     (λ fault. MatchOption fault (IsSafe (posted ++ query ∷ [])) (IsFirstUnsafe (posted ++ query ∷ [])))
     (IsHeldBack now c.args.found.tx) (told_of_pool now c.args.found.tx query plan posted all) c.post_fault.ensures

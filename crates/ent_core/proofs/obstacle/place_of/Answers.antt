@@ -11,7 +11,7 @@ use Rattle.ent_core.proofs.obstacle.place_of.Goals as goal
 pub returns-in-Some-clause-stands : goal.returns-in-Some-clause-stands
 returns-in-Some-clause-stands c =
     let kept : pool c.args.store.now ≡ c.store.inside.pool =
-    ap pool (sym c.store.view_is) ∙ c.store.invariant.posted (the_view c.store.inside) refl refl in
+    ap pool (sym c.store.view_is) ∙ c.store.invariant.0.posted (the_view c.store.inside) refl refl in
     let query = c.in-Some.query.now in
     record {
       query = query;
@@ -31,7 +31,7 @@ pub returns-clause-stands : goal.returns-clause-stands
 returns-clause-stands c =
     let s : State = the_view c.store.inside in
     let all : pool c.args.store.now ≡ c.members.result.now =
-    ap pool (sym c.store.view_is) ∙ c.store.invariant.posted s refl refl ∙ sym c.members.ensures.members in (
+    ap pool (sym c.store.view_is) ∙ c.store.invariant.0.posted s refl refl ∙ sym c.members.ensures.members in (
       subst (λ (posted : List Posted). HasNoneOf posted c.args.tx) (sym all) c.in_default.ensures,
       ap (λ (x : State). is_prepared x c.args.tx) (sym c.store.view_is) ∙ sym (c.is_prepared.ensures s)
           ∙ c.if-is_prepared.false,

@@ -10,7 +10,7 @@ joint_job-requires-clause-present c =
     let first : IsFirstToPick c.args.store.now c.in-Some.asked =
     picked_first s c.args.store.now c.store.inside.pool c.as_slice.result.now c.as_slice-2.result.now
     c.in_ok-picked.picked c.in-Some.asked c.store.view_is
-    (c.store.invariant.posted s refl refl) (sym c.as_slice.ensures.value)
+    (c.store.invariant.0.posted s refl refl) (sym c.as_slice.ensures.value)
     (sym c.as_slice-2.ensures) c.in-Some.is c.in_ok-picked.ensures in
     first.can.component
 
@@ -20,7 +20,7 @@ returns-in_ok-job-in-Some c =
     let first : IsFirstToPick c.args.store.now c.in-Some.asked =
     picked_first s c.args.store.now c.store.inside.pool c.as_slice.result.now c.as_slice-2.result.now
     c.in_ok-picked.picked c.in-Some.asked c.store.view_is
-    (c.store.invariant.posted s refl refl) (sym c.as_slice.ensures.value)
+    (c.store.invariant.0.posted s refl refl) (sym c.as_slice.ensures.value)
     (sym c.as_slice-2.ensures) c.in-Some.is c.in_ok-picked.ensures in
     record { asked = c.in-Some.asked; first = first; is = c.in_ok-job-in-Some.ensures }
 
@@ -29,5 +29,5 @@ returns-in-None c =
     let s = the_view c.store.inside in
     picked_none s c.args.store.now c.store.inside.pool c.as_slice.result.now c.as_slice-2.result.now
     c.in_ok-picked.picked c.store.view_is
-    (c.store.invariant.posted s refl refl) (sym c.as_slice.ensures.value)
+    (c.store.invariant.0.posted s refl refl) (sym c.as_slice.ensures.value)
     (sym c.as_slice-2.ensures) c.in-None.is c.in_ok-picked.ensures

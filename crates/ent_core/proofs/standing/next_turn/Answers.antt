@@ -1,11 +1,16 @@
-use Rattle.std.proofs.Common.{◌≡◌, ◌∙◌, ap, sym}
+use Rattle.std.proofs.Common.{◌≡◌, ◌∙◌, List, ap, sym}
 use Rattle.ent_protocol.specs.Lookup.{turn_of}
-use Rattle.ent_protocol.specs.Member.{next_of}
-use Rattle.ent_protocol.specs.State.{Member}
+use Rattle.ent_protocol.specs.Member.{next_in, next_of}
+use Rattle.ent_protocol.specs.State.{State, Member, Submitted}
+use Rattle.ent_semantics.specs.Serial.{numbered}
 use Rattle.ent_core.proofs.Begun.{one_member}
 use Rattle.ent_core.proofs.standing.next_turn.Goals as goal
 
 pub returns : goal.returns
 returns c = λ member there.
-    let one = one_member c.member.result.now member (sym c.member.ensures.there ∙ there) in
-    c.turn_of.ensures ∙ ap (λ (m : Member). turn_of (next_of c.args.store.now m)) one
+    let own = c.member.result.now in
+    let one = one_member own member (sym c.member.ensures.there ∙ there) in
+    c.turn_of.ensures
+    ∙ ap (λ (submitted : List Submitted). turn_of (next_in (numbered submitted own.tx) own)) c.as_slice.ensures.value
+    ∙ ap (λ (x : State). turn_of (next_of x own)) c.store.view_is
+    ∙ ap (λ (m : Member). turn_of (next_of c.args.store.now m)) one

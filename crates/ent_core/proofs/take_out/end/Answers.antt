@@ -27,11 +27,13 @@ invariant_of-store c =
     let s : State = c.args.store.now in
     let inside = c.store.inside in
     let left : the_view inside ≡ taken_out (members s) NoOne s = c.store.view_is
-    ∙ c.take_out-members.ensures.state (members s) (every_run_attempt (members s)) in
-    kept_ended inside.catalogue.tables inside.opening inside.submitted.items inside.transaction_table inside.running
-    inside.run inside.tables inside.pool c.store.invariant
-    (ap (λ (x : State). x.prepared) left ∙ no_prepared_left s NoOne)
-    (ap (λ (x : State). x.active) left ∙ no_active_left s NoOne)
+    ∙ c.take_out-members.ensures.state (members s) (every_run_attempt (members s)) in (
+      kept_ended inside.catalogue.tables inside.opening inside.submitted.items inside.transaction_table inside.running
+          inside.run inside.tables inside.pool c.store.invariant.0
+          (ap (λ (x : State). x.prepared) left ∙ no_prepared_left s NoOne)
+          (ap (λ (x : State). x.active) left ∙ no_active_left s NoOne),
+      c.store.invariant.1,
+    )
 
 pub returns-clause-members : goal.returns-clause-members
 returns-clause-members c =

@@ -1,10 +1,11 @@
-use Rattle.std.proofs.Common.{◌≡◌, ◌∙◌, ◌++◌, ◌+◌, ◌≤◌, ℕ, List, ap, arith, length, nat_eq, sym, subst, map}
+use Rattle.std.proofs.Common.{◌≡◌, ◌∙◌, ◌++◌, ◌+◌, ◌≤◌, ℕ, List, ap, arith, length, nat_eq, sym, subst, map, take}
 use Rattle.std.specs.List.{AllByRecursion, IsDistinct, filter, filter_map}
 use Rattle.ent_pool_laws.specs.Pooled.{IsPoolOf, is_of_none}
 use Rattle.ent_core.proofs.Pooled.{kept_gone}
 use Rattle.ent_core.proofs.TakenOut.{as_run_attempts, joints_left, kept_taken, may_leave_run, numbers_leaving}
 use Rattle.ent_core.proofs.TakenOut.{taken, who_left}
-use Rattle.ent_core.specs.TakeOut.{MayLeave}
+use Rattle.ent_core.proofs.Settled.{first_stay, settled_left, settled_on}
+use Rattle.ent_core.specs.TakeOut.{MayLeave, is_joint_of_others}
 use Rattle.ent_core.specs.contracts.store.Store.{the_view}
 use Rattle.ent_members.specs.declared.run_attempts.RunAttempt.{RunAttempt}
 use Rattle.ent_members.specs.RunAttempts.{numbers_in, run_attempt_of, run_attempts_in}
@@ -42,7 +43,7 @@ leave-requires-clause-room c =
     let long : length c.as_slice.result.now ≡ length (run_attempts_in group (members s)) =
     ap length (c.as_slice.ensures.list
     ∙ left (goal.at.leave-requires-clause-room c).After-remove-run_attempts) in
-    omega (arith, room, c.store.invariant.known, long)
+    omega (arith, room, c.store.invariant.0.known, long)
 
 pub leave-requires-clause-numbers : goal.leave-requires-clause-numbers
 leave-requires-clause-numbers c =
@@ -50,7 +51,7 @@ leave-requires-clause-numbers c =
     let may = leaving (goal.at.leave-requires-clause-numbers c).After-remove-run_attempts in
     let N : ℕ → List RunAttempt → Type 0 = λ known all.
     AllByRecursion (λ run_attempt. IsNumbered known run_attempt.tx) all in
-    subst (λ known. N known c.as_slice.result.now) (sym c.store.invariant.known)
+    subst (λ known. N known c.as_slice.result.now) (sym c.store.invariant.0.known)
     (subst (N (length inside.submitted.items)) (sym c.as_slice.ensures.list) may.arrived)
 
 pub leave-requires-clause-within : goal.leave-requires-clause-within
@@ -77,6 +78,23 @@ leave-requires-clause-unfinished c =
     (map (λ fated. fated.tx) inside.transaction_table.fates ++ numbers_in all)) (sym c.as_slice.ensures.list)
     may.unfinished
 
+-- the first joint answers have nobody of those who leave
+stay : (c : After-remove-run_attempts) → filter (is_joint_of_others (numbers_in c.remove-run_attempts.result))
+    (take c.store.inside.settled c.store.inside.joints.items) ≡ take c.store.inside.settled c.store.inside.joints.items
+stay c =
+    let inside = c.store.inside in
+    first_stay inside.settled inside.joints.items inside.transaction_table.fates
+    (numbers_in c.remove-run_attempts.result) c.store.invariant.1 (leaving c).unfinished
+
+pub remove_joints-requires-clause-within : goal.remove_joints-requires-clause-within
+remove_joints-requires-clause-within c = c.store.invariant.1.within
+
+pub remove_joints-requires-clause-stay : goal.remove_joints-requires-clause-stay
+remove_joints-requires-clause-stay c =
+    let first = take c.store.inside.settled c.store.inside.joints.items in
+    subst (λ (numbers : List ℕ). filter (is_joint_of_others numbers) first ≡ first) (sym c.numbers-numbers.ensures)
+    (stay (goal.at.remove_joints-requires-clause-stay c).After-remove-run_attempts)
+
 pub invariant_of-store : goal.invariant_of-store
 invariant_of-store c =
     let inside = c.store.inside in
@@ -84,19 +102,30 @@ invariant_of-store c =
     let run = c.remove-run_attempts.new.self in
     let cause = cause_seen c.args.cause in
     let may = leaving (goal.at.invariant_of-store c).After-remove-run_attempts in
-    kept_taken inside.catalogue.tables inside.opening inside.submitted.items inside.transaction_table c.leave.new.self
-    inside.running inside.run run inside.tables c.roll_back.new.self inside.pool c.withdraw_each.new.pool
-    run_attempts cause (is_not_of (numbers_in run_attempts)) c.store.invariant may.arrived may.distinct
-    (c.leave.ensures.dormant (map as_member run_attempts) (c.as_slice.ensures.list ∙ as_run_attempts run_attempts)
-    ∙ (λ i. inside.transaction_table.dormant
-    ++ filter_map (dormant_by (c.as_slice-2.ensures.value i) cause) (map as_member run_attempts)))
-    c.leave.ensures.known c.remove-run_attempts.ensures.prepared c.remove-run_attempts.ensures.active
-    (ap (λ (stored : Stored). stored.kinds) c.roll_back.ensures.numbers)
-    (subst (IsPoolOf inside.submitted.items run.active) (sym c.withdraw_each.ensures)
-    (subst (λ (numbers : List ℕ). IsPoolOf inside.submitted.items run.active
-    (filter (is_of_none numbers) inside.pool)) (sym (c.as_slice-3.ensures.list ∙ c.numbers-numbers.ensures))
-    (kept_gone inside.submitted.items inside.run.active inside.pool c.store.invariant.posted (numbers_in run_attempts)
-    run.active c.remove-run_attempts.ensures.active)))
+    let are = c.as_slice.ensures.list ∙ as_run_attempts run_attempts in
+    let first = take inside.settled inside.joints.items in
+    let first_ones = subst (λ (numbers : List ℕ). filter (is_joint_of_others numbers) first ≡ first)
+    (sym c.numbers-numbers.ensures) (stay (goal.at.invariant_of-store c).After-remove-run_attempts) in (
+      kept_taken inside.catalogue.tables inside.opening inside.submitted.items inside.transaction_table
+          c.leave.new.self inside.running inside.run run inside.tables c.roll_back.new.self inside.pool
+          c.withdraw_each.new.pool run_attempts cause (is_not_of (numbers_in run_attempts)) c.store.invariant.0
+          may.arrived may.distinct
+          (c.leave.ensures.dormant (map as_member run_attempts) are
+          ∙ (λ i. inside.transaction_table.dormant
+          ++ filter_map (dormant_by (c.as_slice-2.ensures.value i) cause) (map as_member run_attempts)))
+          c.leave.ensures.known c.remove-run_attempts.ensures.prepared c.remove-run_attempts.ensures.active
+          (ap (λ (stored : Stored). stored.kinds) c.roll_back.ensures.numbers)
+          (subst (IsPoolOf inside.submitted.items run.active) (sym c.withdraw_each.ensures)
+          (subst (λ (numbers : List ℕ). IsPoolOf inside.submitted.items run.active
+          (filter (is_of_none numbers) inside.pool)) (sym (c.as_slice-3.ensures.list ∙ c.numbers-numbers.ensures))
+          (kept_gone inside.submitted.items inside.run.active inside.pool c.store.invariant.0.posted
+          (numbers_in run_attempts) run.active c.remove-run_attempts.ensures.active))),
+      settled_on inside.settled c.remove_joints.new.joints.items inside.transaction_table.fates _
+          c.leave.new.self.fates (c.leave.ensures.fates (map as_member run_attempts) are)
+          (settled_left inside.settled inside.joints.items c.remove_joints.new.joints.items
+          inside.transaction_table.fates (is_joint_of_others c.numbers-numbers.result) first_ones
+          c.remove_joints.ensures c.store.invariant.1),
+    )
 
 pub returns-clause-members : goal.returns-clause-members
 returns-clause-members c =
