@@ -6,7 +6,8 @@ use Rattle.std.specs.List.{AllByRecursion, IsDistinct, list_any}
 use Rattle.std.proofs.lemmas.List.{length-append, length-take-le, take-append-drop, take-append-le, take_all}
 use Rattle.std.proofs.lemmas.List.Elements.{Contains-append_left}
 use Rattle.std.proofs.lemmas.Option.{slice_get_read}
-use Rattle.ent_lists.specs.Elements.{In, all_by, any_some, contains_in, filter_joined, filter_whole, in_contains, map_joined}
+use Rattle.ent_lists.specs.Elements.{In, all_by, any_some, contains_in, filter_joined, filter_whole, in_contains}
+use Rattle.ent_lists.specs.Elements.{map_joined}
 use Rattle.ent_lists.specs.Elements.{not_so, of_all, same_number, to_all, to_map}
 use Rattle.ent_semantics.specs.Book.{HasCommitted, JournalIsRight}
 use Rattle.ent_semantics.specs.declared.book.Entry.{Entry}

@@ -24,34 +24,11 @@ pub(crate) enum LookUp<'a> {
     Entry(usize),
 }
 
-/// An event that says all itself.
-#[derive(Clone, Copy)]
-pub(crate) enum Call {
-    StartRun,
-    Begin(Tx),
-    Pick,
-    BreakCycle,
-    EndRun,
-    Recall,
-}
-
-impl Call {
-    pub(crate) fn event(self) -> Event {
-        match self {
-            Call::StartRun => Event::StartRun,
-            Call::Begin(tx) => Event::Begin(tx),
-            Call::Pick => Event::Pick,
-            Call::BreakCycle => Event::BreakCycle,
-            Call::EndRun => Event::EndRun,
-            Call::Recall => Event::Recall,
-        }
-    }
-}
-
 /// What a line asks for.
-#[derive(Clone, Copy)]
+#[derive(Drop)]
 pub(crate) enum Line<'a> {
-    Call(Call),
+    /// An event that says all itself.
+    Event(Event),
     Finish(Handed),
     JoinAnswer(Handed),
     Submit(&'a str),
@@ -61,11 +38,11 @@ pub(crate) enum Line<'a> {
 
 pub(crate) fn read_line(line: &str) -> Result<Line<'_>, Stop> {
     match line {
-        "start_run" => Ok(Line::Call(Call::StartRun)),
-        "pick" => Ok(Line::Call(Call::Pick)),
-        "break_cycle" => Ok(Line::Call(Call::BreakCycle)),
-        "end_run" => Ok(Line::Call(Call::EndRun)),
-        "recall" => Ok(Line::Call(Call::Recall)),
+        "start_run" => Ok(Line::Event(Event::StartRun)),
+        "pick" => Ok(Line::Event(Event::Pick)),
+        "break_cycle" => Ok(Line::Event(Event::BreakCycle)),
+        "end_run" => Ok(Line::Event(Event::EndRun)),
+        "recall" => Ok(Line::Event(Event::Recall)),
         "close" => Ok(Line::Close),
         "running" => Ok(Line::LookUp(LookUp::Running)),
         "members" => Ok(Line::LookUp(LookUp::Members)),
@@ -80,7 +57,7 @@ pub(crate) fn read_line(line: &str) -> Result<Line<'_>, Stop> {
 /// A line of a word and what it is about.
 fn read_words<'a>(word: &str, about: &'a str) -> Result<Line<'a>, Stop> {
     match word {
-        "begin" => Ok(Line::Call(Call::Begin(number(about)?))),
+        "begin" => Ok(Line::Event(Event::Begin(number(about)?))),
         "finish" => Ok(Line::Finish(read_handed(about)?)),
         "join_answer" => Ok(Line::JoinAnswer(read_handed(about)?)),
         "submit" => Ok(Line::Submit(about)),

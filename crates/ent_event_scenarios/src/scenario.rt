@@ -100,7 +100,7 @@ impl Stage<'_> {
     fn take(&mut self, core: Core, line: Line<'_>, out: &mut Out) -> Option<Core> {
         let mut core = core;
         match line {
-            Line::Call(call) => self.make(&mut core, call.event(), out),
+            Line::Event(event) => self.make(&mut core, event, out),
             Line::Finish(handed) => self.finish(&mut core, handed, out),
             Line::JoinAnswer(handed) => self.join_answer(&mut core, handed, out),
             Line::Submit(text) => self.submit(&mut core, text, out),

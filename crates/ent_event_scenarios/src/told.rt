@@ -1,6 +1,7 @@
 //! Look-ups, each as a line has it.
 use crate::line::LookUp;
 use crate::out::{Out, Stop};
+use ent_book::append_fate;
 use ent_core::{Core, Standing};
 use ent_group::Tx;
 use ent_next::Turn;
@@ -18,7 +19,7 @@ pub(crate) fn put_look_up(alloc: Global, out: &mut Out, core: &Core, look_up: Lo
         LookUp::Members => out.put_members("members", &core.members()),
         LookUp::Dormant => put_dormant(out, core),
         LookUp::Group(tx) => out.put_members("group", &core.group(tx)),
-        LookUp::Standing(tx) => put_standing(out, core.standing(tx)),
+        LookUp::Standing(tx) => put_standing(alloc, out, core.standing(tx)),
         LookUp::Answers(tx) => put_answers_of(alloc, out, core, tx),
         LookUp::Table(name) => put_table_of(alloc, out, core, name),
         LookUp::Entry(number) => put_entry(alloc, out, core, number),
@@ -45,7 +46,7 @@ fn put_dormant(out: &mut Out, core: &Core) {
     }
 }
 
-fn put_standing(out: &mut Out, standing: Option<Standing>) {
+fn put_standing(alloc: Global, out: &mut Out, standing: Option<Standing>) {
     match standing {
         None => out.put("standing none"),
         Some(Standing::Dormant(runs)) => out.put_number("standing dormant", runs),
@@ -53,7 +54,7 @@ fn put_standing(out: &mut Out, standing: Option<Standing>) {
         Some(Standing::Out) => out.put("standing out"),
         Some(Standing::Posted) => out.put("standing posted"),
         Some(Standing::Prepared) => out.put("standing prepared"),
-        Some(Standing::Finished(fate)) => put_fate(out, fate),
+        Some(Standing::Finished(fate)) => put_fate(alloc, out, fate),
     }
 }
 
@@ -67,20 +68,12 @@ fn put_turn(out: &mut Out, turn: Turn) {
 }
 
 /// A fate as a report has it.
-fn put_fate(out: &mut Out, fate: Fate) {
+fn put_fate(alloc: Global, out: &mut Out, fate: Fate) {
     out.put("standing finished ");
-    match fate {
-        Fate::Committed { number, runs } => {
-            out.put_number("committed", number);
-            out.put_number(" after", runs);
-        }
-        Fate::GaveUp { runs } => out.put_number("gave up after", runs),
-        Fate::RolledBack { runs } => out.put_number("rolled back after", runs),
-        Fate::Failed { failure, runs } => {
-            out.put("failed ");
-            out.put(failure.name());
-            out.put_number(" after", runs);
-        }
+    let mut words = Vec::new(alloc);
+    match append_fate(alloc, &mut words, fate) {
+        Ok(()) => out.put_bytes(words.as_slice()),
+        Err(_) => out.stop(Stop::Memory),
     }
 }
 

@@ -27,7 +27,6 @@ use Rattle.ent_semantics.specs.declared.book.JointAnswer.{JointAnswer}
 use Rattle.ent_semantics.specs.declared.book.Member.{Member}
 use Rattle.ent_semantics.specs.Database.{Database}
 use Rattle.ent_book.specs.Report2.{report_2_text}
-use Rattle.ent_history_form.specs.Answers.{AreRuns}
 use Rattle.ent_protocol.specs.Reached.{IsFinished, IsFinishedBook, IsReached, book_of, committed_joints, scripts_of}
 use Rattle.ent_protocol.specs.State.{State, Submitted}
 use Rattle.ent_protocol_laws.specs.Attempts.{AskForMost, AsksForRun}
@@ -37,7 +36,7 @@ use Rattle.ent_headline.specs.Resolved.{resolved_forms}
 use Rattle.ent_lists.specs.Elements.{In, all_map, contains_in, in_contains, of_all, of_filter, to_all, to_map}
 use Rattle.ent_answer_laws.specs.Answered.{CanRun}
 use Rattle.ent_opening_laws.specs.Read.{IsOpeningRead}
-use Rattle.ent_right_report_laws.specs.Reportable.{CanBeReported, runs_of}
+use Rattle.ent_right_report_laws.specs.Reportable.{CanBeReported, CountsRuns}
 
 -- ---- scripts
 
@@ -56,7 +55,7 @@ pub record Laws : Type 0 where
       → AllPairs (λ (first second : Member). first.tx < second.tx) joint.members
   pub runs : (s : State) (most : ℕ) (fated : Fated) → IsReached resolved_forms s
       → AllByRecursion AsksForRun s.submitted → AskForMost most s → Contains s.fates fated
-      → (1 ≤ runs_of fated.fate) × (runs_of fated.fate ≤ most)
+      → CountsRuns most fated.fate
   pub fates : (s : State) → IsFinished resolved_forms s → HaveFates (book_of s)
 
 -- scripts within the limits of an input, of words that can stand in a text
@@ -102,9 +101,9 @@ module _ (laws : Laws) (s : State) (finished : IsFinished resolved_forms s)
   few_runs =
       to_all (λ (own : Submitted). own.script.within ≤ MOST_RUNS) s.submitted (λ own at. (its own at).0.1)
 
-  runs : AllByRecursion (λ fated. AreRuns (runs_of fated.fate)) (book_of s).fates
+  runs : AllByRecursion (λ fated. CountsRuns MOST_RUNS fated.fate) (book_of s).fates
   runs =
-      to_all (λ (fated : Fated). AreRuns (runs_of fated.fate)) (book_of s).fates (λ fated at.
+      to_all (λ (fated : Fated). CountsRuns MOST_RUNS fated.fate) (book_of s).fates (λ fated at.
       laws.runs s MOST_RUNS fated finished.reached asked few_runs
       (in_contains s.fates fated (from_by_number (λ (f : Fated). f.tx) s.fates fated at)))
 

@@ -11,12 +11,8 @@ use Rattle.ent_protocol.specs.Step.{Step}
 use Rattle.ent_protocol_laws.specs.Attempts.{AskForMost, AsksForRun, MayTakePart, StayBelow, StayWithin}
 use Rattle.ent_protocol_laws.specs.Standing.{GoesOn}
 use Rattle.ent_lists.specs.Elements.{In, all_first, of_all, to_all}
-use Rattle.ent_right_report_laws.specs.Reportable.{runs_of}
+use Rattle.ent_right_report_laws.specs.Reportable.{CountsRuns}
 use Rattle.ent_finished_report_laws.proofs.Fated.{fates_from}
-
--- from 1 to so many
-abbrev pub CountsRuns : ℕ → Fated → Type 0
-CountsRuns most fated = (1 ≤ runs_of fated.fate) × (runs_of fated.fate ≤ most)
 
 -- what is known of reached states
 pub record Laws {F : Type 0} (forms : Forms F) : Type 0 where
@@ -32,6 +28,9 @@ module _ {F : Type 0} (forms : Forms F) (laws : Laws forms) (most : ℕ) where
   abbrev Asked : State → Type 0
   Asked s = AllByRecursion AsksForRun s.submitted
 
+  abbrev Counts : Fated → Type 0
+  Counts fated = CountsRuns most fated.fate
+
   member_counts : (s : State) → IsReached forms s → Asked s → AskForMost most s → (m : Member) → In m (members s)
       → (1 ≤ m.attempt) × (m.attempt ≤ most)
   member_counts s reached asked few m at = (
@@ -40,21 +39,21 @@ module _ {F : Type 0} (forms : Forms F) (laws : Laws forms) (most : ℕ) where
   )
 
   one_step : (s : State) (event : Event) (reply : Reply F) (new : State) → Step forms s event reply new
-      → IsReached forms s → Asked s → AskForMost most s → AllByRecursion (CountsRuns most) s.fates
-      → AllByRecursion (CountsRuns most) new.fates
+      → IsReached forms s → Asked s → AskForMost most s → AllByRecursion Counts s.fates
+      → AllByRecursion Counts new.fates
   one_step s event reply new step reached asked few counts =
-      to_all (CountsRuns most) new.fates (λ fated at.
+      to_all Counts new.fates (λ fated at.
       elim (fates_from forms s event reply new step fated at) [
-        | inl old ↦ of_all (CountsRuns most) s.fates fated counts old
+        | inl old ↦ of_all Counts s.fates fated counts old
         | inr w ↦
             let c = member_counts s reached asked few w.0 w.1 in
             subst (λ n. (1 ≤ n) × (n ≤ most)) (sym w.2) c
       ])
 
   led_on : (n : ℕ) (opening : Opening) (last : State) → LeadsTo forms n (opened opening) last → Asked last
-      → AskForMost most last → AllByRecursion (CountsRuns most) last.fates
+      → AskForMost most last → AllByRecursion Counts last.fates
   led_on zero opening last leads asked few =
-      subst (λ (s : State). AllByRecursion (CountsRuns most) s.fates) (sym leads) tt
+      subst (λ (s : State). AllByRecursion Counts s.fates) (sym leads) tt
   led_on (suc n) opening last leads asked few =
       let before = leads.0 in
       let on = laws.goes_on before leads.1 leads.2 last leads.4 in
@@ -66,5 +65,5 @@ module _ {F : Type 0} (forms : Forms F) (laws : Laws forms) (most : ℕ) where
       few_before (led_on n opening before leads.3 asked_before few_before)
 
   pub fates_count : (s : State) → IsReached forms s → Asked s → AskForMost most s
-      → AllByRecursion (CountsRuns most) s.fates
+      → AllByRecursion Counts s.fates
   fates_count s reached = led_on reached.0 s.opening s reached.1

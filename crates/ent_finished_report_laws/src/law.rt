@@ -2,6 +2,7 @@
 ghost use Rattle.std.specs.Prelude.{◌≡◌, ◌≤◌, ◌<◌, ℕ, [], AllPairs, Contains, List, None, Ok, length};
 ghost use Rattle.std.specs.List.{AllByRecursion};
 ghost use Rattle.std.specs.Str.{IsUtf8};
+ghost use Rattle.ent_tree.specs.declared.limits.TheConstants.{MOST_RUNS};
 ghost use Rattle.ent_tree.specs.declared.script.Input.{Input};
 ghost use Rattle.ent_sql.specs.Reading.{reading};
 ghost use Rattle.ent_form.specs.Catalogue.{schemas_of};
@@ -13,7 +14,6 @@ ghost use Rattle.ent_semantics.specs.declared.book.JointAnswer.{JointAnswer};
 ghost use Rattle.ent_semantics.specs.declared.book.Member.{Member};
 ghost use Rattle.ent_semantics.specs.Database.{Database};
 ghost use Rattle.ent_book.specs.Report2.{report_2_text};
-ghost use Rattle.ent_history_form.specs.Answers.{AreRuns};
 ghost use Rattle.ent_termination.specs.Fates.{HaveFates};
 ghost use Rattle.ent_protocol.specs.Reached.{IsFinishedBook, IsReached};
 ghost use Rattle.ent_protocol.specs.Run.{Forms};
@@ -23,7 +23,7 @@ ghost use Rattle.ent_headline.specs.Resolved.{resolved_forms};
 ghost use Rattle.ent_check_report.specs.Verdicts.{IsVerdict};
 ghost use Rattle.ent_check_report.specs.declared.verdict.Verdict.TheVariants.{Yes};
 ghost use Rattle.ent_opening_laws.specs.Read.{IsOpeningRead};
-ghost use Rattle.ent_right_report_laws.specs.Reportable.{CanBeReported, runs_of};
+ghost use Rattle.ent_right_report_laws.specs.Reportable.{CanBeReported, CountsRuns};
 
 use crate::characters::reports_over_texts_are_of_characters;
 use ent_form::FormFault;
@@ -52,7 +52,7 @@ pub fn fates_count_runs<F>()
         → AllByRecursion AsksForRun s.submitted
         → AskForMost most s
         → Contains s.fates fated
-        → (1 ≤ runs_of fated.fate) × (runs_of fated.fate ≤ most) }
+        → CountsRuns most fated.fate }
 {
     steps_go_on::<F>();
     events_lead_on::<F>();
@@ -77,7 +77,7 @@ pub fn books_over_texts_can_be_reported()
         → opening_fault book.opening ≡ None
         → AllByRecursion (λ script. script_faults (schemas_of book.opening.tables) script ≡ []) book.scripts
         → HaveFates book
-        → AllByRecursion (λ fated. AreRuns (runs_of fated.fate)) book.fates
+        → AllByRecursion (λ fated. CountsRuns MOST_RUNS fated.fate) book.fates
         → ((joint : JointAnswer) → Contains book.joint_answers joint
         → AllPairs (λ (first second : Member). first.tx < second.tx) joint.members)
         → length (report_2_text book) ≤ 1099511627776

@@ -1,17 +1,17 @@
 -- The transactions that a report tells, in order of the scripts: all but the last have all their answers.
-use Rattle.std.proofs.Common.{◌≡◌, ℕ, zero, suc, ◌≤◌, ◌<◌, Bool, true, false, cond, List, [], ◌∷◌, ◌++◌, length, refl}
-use Rattle.std.proofs.Common.{sym, ap, subst, ◌∙◌, arith, inl, inr, Some, None, is_some, slice_get}
+use Rattle.std.proofs.Common.{◌≡◌, ℕ, zero, suc, ◌≤◌, ◌<◌, Bool, true, false, cond, List, [], ◌∷◌, ◌++◌, length}
+use Rattle.std.proofs.Common.{sym, ap, subst, ◌∙◌, arith, inl, inr, Some, None, slice_get}
 use Rattle.ent_tree.specs.declared.script.Script.{Script}
 use Rattle.ent_tree.specs.declared.script.Statement.{Statement}
 use Rattle.ent_semantics.specs.declared.answer.Answer.{Answer}
 use Rattle.ent_semantics.specs.declared.book.Fate.{Fate}
-use Rattle.ent_semantics.specs.declared.book.Fate.TheVariants as fates
 use Rattle.ent_history.specs.declared.history.Told.{Told}
 use Rattle.ent_history.specs.Told.{has_committed as is_said_to_have}
 use Rattle.ent_history_form.specs.Answers.{with_answer}
 use Rattle.ent_history_form.specs.Draft.{answer_due, on_last, unanswered}
 use Rattle.ent_lists.specs.Elements.{In}
-use Rattle.ent_rules.specs.Account.{Account, accounts_from, commit_number, has_committed}
+use Rattle.ent_rules.specs.Account.{Account, accounts_from, has_committed}
+use Rattle.ent_rules.proofs.Bridge.{committed_same}
 use Rattle.ent_report_laws.proofs.Begun.{told_of}
 use Rattle.ent_report_laws.proofs.Lists.{longer}
 
@@ -98,12 +98,6 @@ kept_answered change same (script ∷ scripts) (told ∷ next ∷ other ∷ more
 
 -- ---- where no answer is due
 
-same_commit : (fate : Fate) → is_some (commit_number fate) ≡ is_said_to_have fate
-same_commit (fates.Committed number runs) = refl
-same_commit (fates.GaveUp runs) = refl
-same_commit (fates.RolledBack runs) = refl
-same_commit (fates.Failed failure runs) = refl
-
 no_account : (tx : ℕ) (scripts : List Script) (account : Account) → In account (accounts_from tx scripts []) → ⊥
 no_account tx [] account at = at
 no_account tx (script ∷ scripts) account at = at
@@ -115,7 +109,7 @@ whole_account : (tx : ℕ) (script : Script) (told : Told) (account : Account)
     → account ≡ record { tx = tx; script = script; fate = told.fate; answers = told.answers } → IsComplete script told
     → IsWhole account
 whole_account tx script told account same is =
-    subst IsWhole (sym same) (λ committed. is (sym (same_commit told.fate) ∙ committed))
+    subst IsWhole (sym same) (λ committed. is (committed_same told.fate ∙ committed))
 
 pub all_answered : (tx : ℕ) (scripts : List Script) (told : List Told) → AreAnswered scripts told
     → answer_due scripts told ≡ None → (account : Account) → In account (accounts_from tx scripts told)

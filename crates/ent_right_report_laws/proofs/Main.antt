@@ -7,7 +7,7 @@ use Rattle.std.proofs.lemmas.List.FromFn.{length-range_with_len}
 use Rattle.ent_set.specs.Sets as set
 use Rattle.ent_tree.specs.declared.declaration.Create.{Create}
 use Rattle.ent_tree.specs.declared.declaration.Opening.{Opening}
-use Rattle.ent_tree.specs.declared.limits.TheConstants.{MOST_SCRIPTS}
+use Rattle.ent_tree.specs.declared.limits.TheConstants.{MOST_RUNS, MOST_SCRIPTS}
 use Rattle.ent_tree.specs.declared.script.Script.{Script}
 use Rattle.ent_tree.specs.Places.{unplaced_script}
 use Rattle.ent_print.specs.Lexeme.{Lexeme}
@@ -26,7 +26,6 @@ use Rattle.ent_form.specs.OpeningFault.{declarations_fault, opening_fault}
 use Rattle.ent_form.specs.ScriptFaults.{script_faults}
 use Rattle.ent_history.specs.Text.{history_text}
 use Rattle.ent_history.specs.Told.{book_of, told_by, told_opening}
-use Rattle.ent_history_form.specs.Answers.{AreRuns}
 use Rattle.ent_history_form.specs.Stands.{Tells}
 use Rattle.ent_lists.specs.Elements.{all_by, all_map, of_all, to_all}
 use Rattle.ent_report_laws.specs.Tellable.{AreTablesOf, CanBeTold, IsOpeningTold}
@@ -40,7 +39,7 @@ use Rattle.ent_answer_laws.specs.Answered.{AreGrounded, CanBeCounted, CanRun}
 use Rattle.ent_answer_laws.specs.Held.{HoldsRowsOf}
 use Rattle.ent_answer_laws.specs.Runs.{ReadViewsAreTold, RunsAreAnswered, RunsHoldRows}
 use Rattle.ent_unplaced_laws.specs.Unplaced.{unplaced_book, unplaced_create, unplaced_opening}
-use Rattle.ent_right_report_laws.specs.Reportable.{CanBeReported, runs_of}
+use Rattle.ent_right_report_laws.specs.Reportable.{CanBeReported, CountsRuns}
 use Rattle.ent_right_report_laws.proofs.Again.{book_again}
 use Rattle.ent_right_report_laws.proofs.Bare.{none_placed, opening_bare}
 use Rattle.ent_right_report_laws.proofs.Counted.{entry_counted}
@@ -100,7 +99,7 @@ record IsBare (book : Book Database) : Type 0 where
   can_run : AllByRecursion (CanRun book.opening.tables) book.scripts
   from : AreFrom 1 book.fates
   counts : length book.fates ≡ length book.scripts
-  runs : AllByRecursion (λ fated. AreRuns (runs_of fated.fate)) book.fates
+  runs : AllByRecursion (λ fated. CountsRuns MOST_RUNS fated.fate) book.fates
   rising : (joint : JointAnswer) → Contains book.joint_answers joint → AllPairs Rising joint.members
   short : length (report_2_text book) ≤ 1099511627776
 

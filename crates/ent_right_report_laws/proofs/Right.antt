@@ -1,7 +1,7 @@
 -- What the report of a legal book tells can be told.
 use Rattle.std.proofs.Common.{◌≡◌, ◌≤◌, zero, suc, List, [], ◌∷◌, map, length, subst, Contains, AllPairs}
 use Rattle.std.specs.List.{AllByRecursion}
-use Rattle.ent_tree.specs.declared.limits.TheConstants.{MOST_SCRIPTS, MOST_STATEMENTS}
+use Rattle.ent_tree.specs.declared.limits.TheConstants.{MOST_RUNS, MOST_SCRIPTS, MOST_STATEMENTS}
 use Rattle.ent_tree.specs.declared.script.Script.{Script}
 use Rattle.ent_tree.specs.Places.{unplaced_script}
 use Rattle.ent_semantics.specs.declared.book.Book.{Book}
@@ -12,12 +12,11 @@ use Rattle.ent_semantics.specs.Database.{Database}
 use Rattle.ent_semantics.specs.Joint.{member_of}
 use Rattle.ent_semantics.specs.Serial.{ReadView, Turn}
 use Rattle.ent_history.specs.Told.{told_by, told_member, told_opening}
-use Rattle.ent_history_form.specs.Answers.{AreRuns}
 use Rattle.ent_history_form.specs.Scripts.{IsScript}
 use Rattle.ent_lists.specs.Elements.{In, all_by, of_all, to_all}
 use Rattle.ent_report_laws.specs.Tellable.{AreAnswersTo, AreTablesOf, CanBeTold, IsMemberTold, IsOpeningTold}
 use Rattle.ent_answer_laws.specs.Answered.{AreTurnsAnswered, CanRun}
-use Rattle.ent_right_report_laws.specs.Reportable.{runs_of}
+use Rattle.ent_right_report_laws.specs.Reportable.{CountsRuns}
 use Rattle.ent_right_report_laws.proofs.Entries.{AreFrom}
 use Rattle.ent_right_report_laws.proofs.Joints.{Rising, joints_told}
 use Rattle.ent_right_report_laws.proofs.Tables.{shown_create, tables_by_name}
@@ -49,7 +48,7 @@ pub record IsReady (book : Book Database) : Type 0 where
   pub can_run : AllByRecursion (CanRun (told_opening book.opening).tables) book.scripts
   pub from : AreFrom 1 book.fates
   pub counts : length book.fates ≡ length book.scripts
-  pub runs : AllByRecursion (λ fated. AreRuns (runs_of fated.fate)) book.fates
+  pub runs : AllByRecursion (λ fated. CountsRuns MOST_RUNS fated.fate) book.fates
   pub rising : (joint : JointAnswer) → Contains book.joint_answers joint → AllPairs Rising joint.members
   pub answered : AreTurnsAnswered legal.turns (map (λ (entry : Entry). entry.answers) book.journal)
   pub shown : AreTablesOf (told_opening book.opening).tables

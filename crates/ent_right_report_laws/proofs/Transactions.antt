@@ -4,7 +4,7 @@ use Rattle.std.proofs.Common.{subst, ◌∙◌, inl, inr, arith, Some, slice_get
 use Rattle.std.specs.List.{AllByRecursion}
 use Rattle.std.proofs.lemmas.Bool.{ltb-true, ltb-false}
 use Rattle.std.proofs.lemmas.List.{length-map}
-use Rattle.ent_tree.specs.declared.limits.TheConstants.{MOST_SCRIPTS}
+use Rattle.ent_tree.specs.declared.limits.TheConstants.{MOST_RUNS, MOST_SCRIPTS}
 use Rattle.ent_tree.specs.declared.script.Script.{Script}
 use Rattle.ent_semantics.specs.declared.book.Book.{Book}
 use Rattle.ent_semantics.specs.declared.book.Entry.{Entry}
@@ -16,12 +16,12 @@ use Rattle.ent_semantics.specs.Database.{Database}
 use Rattle.ent_semantics.specs.Serial.{Turn, numbered}
 use Rattle.ent_book.specs.Report.{entry_answers, fate_answers}
 use Rattle.ent_history.specs.Told.{has_committed, told_fate}
-use Rattle.ent_history_form.specs.Answers.{AreRuns, IsFate}
+use Rattle.ent_history_form.specs.Answers.{IsFate}
 use Rattle.ent_history_form.specs.Parts.{IsNumber}
 use Rattle.ent_lists.specs.Elements.{In, got_in, in_contains, of_all, of_map}
 use Rattle.ent_semantics.proofs.Numbered.{numbered_low}
 use Rattle.ent_report_laws.specs.Tellable.{AreAnswersTo, AreTransactionsOf, IsTransactionTold}
-use Rattle.ent_right_report_laws.specs.Reportable.{runs_of}
+use Rattle.ent_right_report_laws.specs.Reportable.{CountsRuns}
 use Rattle.ent_right_report_laws.proofs.Entries.{AreFrom, entries_apart, first_tx, head_of, its_entry, more_tx, no_more}
 use Rattle.ent_right_report_laws.proofs.Entries.{tail_of}
 
@@ -143,7 +143,7 @@ module _ (book : Book Database) (legal : IsLegal book) where
 
   is_fate : length book.scripts ≤ MOST_SCRIPTS → (tx : ℕ) (fate : Fate)
       → ((number runs : ℕ) → fate ≡ fates.Committed number runs → IsEntryOf book.journal tx number)
-      → AreRuns (runs_of fate) → IsFate fate
+      → CountsRuns MOST_RUNS fate → IsFate fate
   is_fate few tx (fates.Committed number runs) entry are =
       let one = entry number runs refl in
       (few_entries few number one.0 one.1, are)
@@ -169,7 +169,7 @@ module _ (book : Book Database) (legal : IsLegal book) where
 
   pub transactions_told : length book.scripts ≤ MOST_SCRIPTS → AreFrom 1 book.fates
       → length book.fates ≡ length book.scripts
-      → AllByRecursion (λ fated. AreRuns (runs_of fated.fate)) book.fates
+      → AllByRecursion (λ fated. CountsRuns MOST_RUNS fated.fate) book.fates
       → AnswersAreRight legal.turns book.journal
       → AreTransactionsOf book.scripts (map (told_fate book.journal) book.fates)
   transactions_told few from counts runs right =
@@ -180,7 +180,7 @@ module _ (book : Book Database) (legal : IsLegal book) where
       let entry = its_entry book legal.journal fated among in
       record {
         fate = is_fate few fated.tx fated.fate entry
-            (of_all (λ (f : Fated). AreRuns (runs_of f.fate)) book.fates fated runs among);
+            (of_all (λ (f : Fated). CountsRuns MOST_RUNS f.fate) book.fates fated runs among);
         committed = answers_of right script fated.tx fated.fate own entry;
         otherwise = no_answers fated.fate;
       })

@@ -1,7 +1,7 @@
 -- Books whose version 2 report can be read again: over what an input can say, run until each script has its fate.
 use Rattle.std.specs.Prelude.{◌≡◌, ◌≤◌, ◌<◌, ℕ, length, map, AllPairs, Contains, None}
 use Rattle.std.specs.List.{AllByRecursion, range_with_len}
-use Rattle.ent_tree.specs.declared.limits.TheConstants.{MOST_SCRIPTS}
+use Rattle.ent_tree.specs.declared.limits.TheConstants.{MOST_RUNS, MOST_SCRIPTS}
 use Rattle.ent_form.specs.OpeningFault.{opening_fault}
 use Rattle.ent_semantics.specs.declared.book.Book.{Book}
 use Rattle.ent_semantics.specs.declared.book.Fate.{Fate}
@@ -10,7 +10,6 @@ use Rattle.ent_semantics.specs.declared.book.JointAnswer.{JointAnswer}
 use Rattle.ent_semantics.specs.declared.book.Member.{Member}
 use Rattle.ent_semantics.specs.Database.{Database}
 use Rattle.ent_book.specs.Report2.{report_2_text}
-use Rattle.ent_history_form.specs.Answers.{AreRuns}
 use Rattle.ent_answer_laws.specs.Answered.{CanRun}
 use Rattle.ent_opening_laws.specs.Read.{IsOpeningRead}
 
@@ -21,6 +20,10 @@ runs_of (fates.GaveUp runs) = runs
 runs_of (fates.RolledBack runs) = runs
 runs_of (fates.Failed failure runs) = runs
 
+-- a fate counts one run at least, and no more than so many
+abbrev pub CountsRuns : ℕ → Fate → Type 0
+CountsRuns most fate = (1 ≤ runs_of fate) × (runs_of fate ≤ most)
+
 pub record CanBeReported (book : Book Database) : Type 0 where
   -- an opening and scripts such as an input has, without a fault of form
   pub opening : IsOpeningRead book.opening
@@ -29,7 +32,7 @@ pub record CanBeReported (book : Book Database) : Type 0 where
   pub scripts : AllByRecursion (CanRun book.opening.tables) book.scripts
   -- a fate for each script, by number from 1, after 1 to 1,000 runs
   pub fates : map (λ fated. fated.tx) book.fates ≡ range_with_len 1 (length book.scripts)
-  pub runs : AllByRecursion (λ fated. AreRuns (runs_of fated.fate)) book.fates
+  pub runs : AllByRecursion (λ fated. CountsRuns MOST_RUNS fated.fate) book.fates
   -- each joint answer names its members by number
   pub rising : (joint : JointAnswer) → Contains book.joint_answers joint
       → AllPairs (λ (first second : Member). first.tx < second.tx) joint.members

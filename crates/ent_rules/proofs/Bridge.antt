@@ -63,7 +63,7 @@ entries_same number tx (script ∷ scripts) (one ∷ told) e =
     (ap (λ n. entries_of number n told) (next tx)
     ∙ entries_same number (suc tx) scripts told (less (length told) (length scripts) e))
 
-committed_same : (fate : Fate) → has_committed fate ≡ is_some (commit_number fate)
+pub committed_same : (fate : Fate) → has_committed fate ≡ is_some (commit_number fate)
 committed_same (fates.Committed n runs) = refl
 committed_same (fates.GaveUp runs) = refl
 committed_same (fates.RolledBack runs) = refl

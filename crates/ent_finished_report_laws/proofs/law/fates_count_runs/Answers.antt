@@ -1,5 +1,7 @@
+use Rattle.ent_semantics.specs.declared.book.Fated.{Fated}
 use Rattle.ent_lists.specs.Elements.{contains_in, of_all}
-use Rattle.ent_finished_report_laws.proofs.Runs.{CountsRuns, Laws, fates_count}
+use Rattle.ent_right_report_laws.specs.Reportable.{CountsRuns}
+use Rattle.ent_finished_report_laws.proofs.Runs.{Laws, fates_count}
 use Rattle.ent_finished_report_laws.proofs.law.fates_count_runs.Goals as goal
 
 pub returns : goal.returns
@@ -10,5 +12,5 @@ returns g c forms s most fated reached asked few there =
       own = c.attempts_stay_within.ensures.own forms;
       most = c.attempts_stay_within.ensures.bound forms;
     } in
-    of_all (CountsRuns most) s.fates fated (fates_count forms laws most s reached asked few)
+    of_all (λ (f : Fated). CountsRuns most f.fate) s.fates fated (fates_count forms laws most s reached asked few)
     (contains_in s.fates fated there)
