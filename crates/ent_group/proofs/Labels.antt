@@ -83,16 +83,16 @@ in_order ms by_number i j d to within =
 
 -- ---- members by number
 
-by_number_tail : (m : Membership) (ms : List Membership) → IsByNumber (m ∷ ms) → IsByNumber ms
+pub by_number_tail : (m : Membership) (ms : List Membership) → IsByNumber (m ∷ ms) → IsByNumber ms
 by_number_tail m ms h i j d below within = h (suc i) (suc j) d (omega arith) (omega arith)
 
-by_number_head : (m : Membership) (ms : List Membership) → IsByNumber (m ∷ ms) → All (λ n. m.member < n.member) ms
+pub by_number_head : (m : Membership) (ms : List Membership) → IsByNumber (m ∷ ms) → All (λ n. m.member < n.member) ms
 by_number_head m ms h k d within = h 0 (suc k) d (omega arith) (omega arith)
 
 below_head : (x k g : ℕ) (o : Option ℕ) → x < k → o ≡ None → (if k == x then Some g else o) ≡ None
 below_head x k g o below none = grind (arith, nat_tests)
 
-none_above : (x : ℕ) (ms : List Membership) → All (λ n. x < n.member) ms → group_of ms x ≡ None
+pub none_above : (x : ℕ) (ms : List Membership) → All (λ n. x < n.member) ms → group_of ms x ≡ None
 none_above x [] h = refl
 none_above x (m ∷ ms) h =
     below_head x m.member m.group (group_of ms x) (All-head (λ n. x < n.member) m ms h)
@@ -129,7 +129,7 @@ count_below-cons tx m ms = sum_by-cons (λ n. if nat_lt n.member tx then 1 else 
 count_none : (k tx c : ℕ) → tx < k → c ≡ 0 → (if nat_lt k tx then 1 else 0) + c ≡ 0
 count_none k tx c above none = grind (arith, nat_tests)
 
-none_below : (tx : ℕ) (ms : List Membership) → All (λ n. tx < n.member) ms → count_by (λ n. nat_lt n.member tx) ms ≡ 0
+pub none_below : (tx : ℕ) (ms : List Membership) → All (λ n. tx < n.member) ms → count_by (λ n. nat_lt n.member tx) ms ≡ 0
 none_below tx [] h = refl
 none_below tx (m ∷ ms) h =
     count_below-cons tx m ms ∙ count_none m.member tx (count_by (λ n. nat_lt n.member tx) ms)

@@ -1,3 +1,4 @@
 pub mod Labels
+pub mod LabelAt
 pub mod CycleWalk
 pub mod Walks

@@ -145,15 +145,16 @@ impl Groups {
     }
 }
 
+/// The label of a transaction's group, where it is among members that stand by number.
 fn label_of(memberships: &[Membership], tx: Tx) -> Option<Tx>
+    requires { IsByNumber memberships.now }
     ensures { result ≡ group_of memberships.now tx }
 {
-    for membership in memberships {
-        if membership.member == tx {
-            return Some(membership.group);
-        }
+    let at = count_below(memberships, tx);
+    match memberships.get(at) {
+        Some(own) if own.member == tx => Some(own.group),
+        _ => None,
     }
-    None
 }
 
 /// The members of the group with a label.

@@ -11,7 +11,7 @@ mod mode;
 mod table_key;
 mod table_uses;
 
-pub use holders::lesser;
+pub use holders::{Holder, lesser};
 pub use lock_table::{Answer, LockTable};
 pub use mode::Mode;
 pub use table_key::TableKey;

@@ -94,7 +94,7 @@ impl<T: TableKey> LockTable<T> {
     }
 
     /// The transactions that hold a table, and how, in no order.
-    fn holders(&self, table: &T) -> &[Holder]
+    pub fn holders(&self, table: &T) -> &[Holder]
         ensures { (tx : ℕ) (mode : Mode)
             → Contains result.now (record { holder = tx; mode = mode }) ↔ Holds self.now tx (T.key table.now) mode }
     {
