@@ -2,10 +2,15 @@
 use Rattle.std.proofs.Common.{◌≡◌, ◌≤◌, ℕ, suc, Bool, true, false, not, List, [], ◌∷◌, ◌++◌, length, map, refl}
 use Rattle.std.proofs.Common.{sym, ap, subst, ◌∙◌, arith, filter, Some, None}
 use Rattle.std.specs.List.{AllByRecursion}
-use Rattle.std.proofs.lemmas.List.{length-append}
+use Rattle.std.proofs.lemmas.List.{length-append, length-map}
 use Rattle.ent_lists.specs.Elements.{all_filtered, all_joined, shorter}
 use Rattle.ent_semantics.specs.declared.book.Entry.{Entry}
 use Rattle.ent_semantics.specs.declared.book.Fated.{Fated}
+use Rattle.ent_semantics.specs.declared.book.Fate.TheVariants as Fates
+use Rattle.ent_members.specs.Order.{tx_of}
+use Rattle.ent_members.specs.RunAttempts.{numbers_in, run_attempt_of}
+use Rattle.ent_members.specs.declared.run_attempts.RunAttempt.{RunAttempt}
+use Rattle.ent_members.proofs.ByNumber.{run_attempt_numbers}
 use Rattle.ent_run.specs.Moves.{PreparesMember, is_of_another, run_of}
 use Rattle.ent_run.specs.Places.{found}
 use Rattle.ent_run.specs.Run.{Run, with_run}
@@ -82,6 +87,45 @@ first_part P (x ∷ xs) ys all = (all.0, first_part P xs ys all.1)
 pub last_part : (P : Member → Type 0) (xs ys : List Member) → AllByRecursion P (xs ++ ys) → AllByRecursion P ys
 last_part P [] ys all = all
 last_part P (x ∷ xs) ys all = last_part P xs ys all.1
+
+-- ---- what each had itself tells the same
+
+abbrev fates_from : ℕ → List RunAttempt → List Fated
+fates_from number [] = []
+fates_from number (own ∷ more) =
+    record { tx = own.tx; fate = Fates.Committed number own.attempt } ∷ fates_from (suc number) more
+
+fates_are : (number : ℕ) (ms : List Member) → commit_fates number ms ≡ fates_from number (map run_attempt_of ms)
+fates_are number [] = refl
+fates_are number (m ∷ ms) =
+    ap (λ fates. record { tx = m.tx; fate = Fates.Committed number m.attempt } ∷ fates) (fates_are (suc number) ms)
+
+module _ (xs ys : List Member) (same : map run_attempt_of xs ≡ map run_attempt_of ys) where
+  pub same_fates : (number : ℕ) → commit_fates number xs ≡ commit_fates number ys
+  same_fates number = fates_are number xs ∙ ap (fates_from number) same ∙ sym (fates_are number ys)
+
+  pub same_numbers : map tx_of xs ≡ map tx_of ys
+  same_numbers = sym (run_attempt_numbers xs) ∙ ap numbers_in same ∙ run_attempt_numbers ys
+
+  pub same_length : length xs ≡ length ys
+  same_length = omega (
+    arith,
+    ap length same,
+    length-map xs run_attempt_of,
+    length-map ys run_attempt_of,
+  )
+
+  pub same_all : (P : ℕ → Type 0) → AllByRecursion (λ (m : Member). P m.tx) ys
+      → AllByRecursion (λ (m : Member). P m.tx) xs
+  same_all P all = of_numbers xs (subst (AllByRecursion P) (sym same_numbers) (to_numbers ys all))
+    where
+      to_numbers : (ms : List Member) → AllByRecursion (λ (m : Member). P m.tx) ms → AllByRecursion P (map tx_of ms)
+      to_numbers [] all = tt
+      to_numbers (m ∷ ms) all = (all.0, to_numbers ms all.1)
+
+      of_numbers : (ms : List Member) → AllByRecursion P (map tx_of ms) → AllByRecursion (λ (m : Member). P m.tx) ms
+      of_numbers [] all = tt
+      of_numbers (m ∷ ms) all = (all.0, of_numbers ms all.1)
 
 -- ---- the event
 

@@ -1,5 +1,5 @@
 -- Joint answers that were made before the present run began: nobody of the run is a member of one.
-use Rattle.std.proofs.Common.{◌≡◌, ◌==◌, ℕ, suc, true, false, not, List, [], ◌∷◌, ◌++◌, Some, length, map, take, drop}
+use Rattle.std.proofs.Common.{◌≡◌, ◌==◌, ℕ, suc, true, false, not, List, [], ◌∷◌, ◌++◌, length, take, drop}
 use Rattle.std.proofs.Common.{filter, inl, inr, refl, sym, ap, subst, ◌∙◌, arith, nat_eq, true≢false}
 use Rattle.std.specs.Prelude.{Bool, Contains}
 use Rattle.std.specs.List.{AllByRecursion, IsDistinct, list_any}
@@ -17,8 +17,8 @@ use Rattle.ent_semantics.specs.declared.book.JointAnswer.{JointAnswer}
 use Rattle.ent_semantics.specs.declared.book.Member.{Member as Partner}
 use Rattle.ent_protocol.specs.Reached.{book_of}
 use Rattle.ent_protocol.specs.State.{State, Member, by_number}
-use Rattle.ent_protocol_laws.proofs.Times.{count, count_by_number, count_in, in_count, stands, times, times_joined}
-use Rattle.ent_serializability.specs.Answered.{HasAsked, IsPast, NothingElse}
+use Rattle.ent_protocol_laws.proofs.Times.{count_by_number, count_in, in_count, stands, times_joined}
+use Rattle.ent_serializability.specs.Answered.{IsPast, NothingElse}
 use Rattle.ent_core.specs.Settled.{AreSettled, IsFated, finished}
 use Rattle.ent_core.specs.TakeOut.{is_joint_of_any, is_joint_of_others}
 use Rattle.ent_core.proofs.Sorted.{once}

@@ -79,11 +79,11 @@ impl FreeMember {
     }
 
     /// The member itself.
-    pub(crate) fn member(self, store: &Store) -> &Member
+    pub(crate) fn member(self, store: &Store) -> Member<'_>
         requires { IsFreeMember store.now self }
-        ensures there { active_member store.now self.tx ≡ Some result.now }
-        ensures number { result.now.tx ≡ self.tx }
-        ensures free { IsFree store.now result.now }
+        ensures there { active_member store.now self.tx ≡ Some result }
+        ensures number { result.tx ≡ self.tx }
+        ensures free { IsFree store.now result }
     {
         store.run.at(self.place)
     }
@@ -161,7 +161,7 @@ pub(crate) fn free_member(store: &Store, tx: Tx) -> Result<FreeMember, BeginRefu
     ensures refused { IfErr result (λ refusal. Begins store.now tx (begin_refusal_seen refusal) store.now) }
 {
     let place = place_at_turn(store, tx)?;
-    match blocker_of(store, store.run.at(place)) {
+    match blocker_of(store, &store.run.at(place)) {
         Some(holder) => Err(BeginRefusal::Blocked(holder)),
         None => Ok(FreeMember { tx, place }),
     }
@@ -270,13 +270,13 @@ pub(crate) fn begin_free(store: &mut Store, found: FreeMember) -> Result<Reply, 
     transactions_stand_once::<FormFault>();
     store.asks_for_runs();
     let member = found.member(store);
-    match next_of(store, member)? {
+    match next_of(store, &member)? {
         Next::Ordinary(statement) => {
-            let job = job_of(store, member, statement)?;
+            let job = job_of(store, &member, statement)?;
             lend(store, found, job)
         }
         Next::Asks(statement) => {
-            let query = query_of(member, statement);
+            let query = query_of(&member, statement);
             post(store, found, query)
         }
         Next::Commits => commit(store, found),

@@ -13,14 +13,14 @@ use crate::begin::FreeMember;
 use crate::reply::Reply;
 use crate::store::Store;
 use ent_group::MOST_MEMBERS;
-use ent_members::Member;
+use ent_members::Progress;
 use ent_run::member_numbers;
 use ent_semantics::Entry;
 use ent_value::Sequence;
 use std::alloc::AllocError;
 
 /// The entries of members that commit stand last in the journal, in their order; there is room for them.
-fn enter(journal: &mut Vec<Entry>, committed: &mut Vec<Member>)
+fn enter(journal: &mut Vec<Entry>, committed: &mut Vec<Progress>)
     requires { vec_len journal.old + vec_len committed.old ≤ vec_capacity journal.old }
     ensures entries { journal.new.items ≡ journal.old.items ++ map entry_of committed.old.items }
     ensures more { vec_len journal.new ≡ vec_len journal.old + vec_len committed.old }

@@ -15,7 +15,7 @@ use ent_components::post_fault;
 use ent_form::FormFault;
 use ent_group::Tx;
 use ent_match::{Demand, Posted, Unsafe, demand_of};
-use ent_members::{Conflict, Member, first_conflict, statement_uses};
+use ent_members::{Conflict, Member, statement_uses};
 use ent_next::{Next, next_form};
 use ent_protocol_laws::members_stand_by_number;
 use std::alloc::AllocError;
@@ -71,13 +71,13 @@ fn held_back(store: &Store, found: FreeMember) -> Result<Option<Unsafe>, AllocEr
 {
     members_stand_by_number::<FormFault>();
     let member = found.member(store);
-    match next_of(store, member)? {
+    match next_of(store, &member)? {
         Next::Ordinary(statement) => {
             drop(statement);
             Ok(None)
         }
         Next::Asks(statement) => {
-            let query = query_of(member, statement);
+            let query = query_of(&member, statement);
             post_fault(store.alloc, &store.pool, &query)
         }
         Next::Commits => Ok(None),
@@ -106,7 +106,7 @@ fn conflict_of(store: &Store, asker: &Member, holder: &Member) -> Option<Conflic
     ensures { AreBetween (next_uses (next_of store.now asker.now)) holder.now.uses result }
 {
     match next_form(store.submitted.as_slice(), asker) {
-        Some(form) => first_conflict(statement_uses(form).as_slice(), holder.uses()),
+        Some(form) => holder.first_conflict(statement_uses(form).as_slice()),
         None => None,
     }
 }
@@ -117,7 +117,7 @@ pub(crate) fn conflict_between(store: &Store, asker: Tx, holder: Tx) -> Option<C
 {
     match store.run.active_member(asker) {
         Some(member) => match store.run.member(holder) {
-            Some(other) => conflict_of(store, member, other),
+            Some(other) => conflict_of(store, &member, &other),
             None => None,
         },
         None => None,

@@ -52,7 +52,7 @@ pub(crate) fn next_turn(store: &Store, found: FreeMember) -> Turn
     ensures { (member : Seen) → active_member store.now found.tx ≡ Some member
         → turn_seen result ≡ lookups.turn_of (next_of store.now member) }
 {
-    turn_of(store.submitted.as_slice(), found.member(store))
+    turn_of(store.submitted.as_slice(), &found.member(store))
 }
 
 /// Where a transaction stands: as a member, else as it is dormant, else by its fate. It stands in one of these places,
@@ -67,7 +67,7 @@ pub(crate) fn standing_of(store: &Store, tx: Tx) -> Option<Standing>
         return Some(Standing::Prepared);
     }
     if let Some(member) = store.run.active_member(tx) {
-        return Some(active_standing(store, member));
+        return Some(active_standing(store, &member));
     }
     if let Some(own) = store.transaction_table.dormant_of(tx) {
         return Some(Standing::Dormant(own.runs()));

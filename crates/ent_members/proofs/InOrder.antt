@@ -1,6 +1,6 @@
 -- A list of members that is in order already.
 use Rattle.std.proofs.Common.{ℕ, Bool, true, false, if◌then◌else◌, List, [], ◌∷◌, map, ◌≡◌, ◌<◌, nat_lt, length, refl}
-use Rattle.std.proofs.Common.{sym, ap, subst, ◌∙◌, arith}
+use Rattle.std.proofs.Common.{sym, ap, subst, ◌∙◌, ◌++◌, append_assoc, arith}
 use Rattle.std.specs.List.{filter, AllByRecursion}
 use Rattle.std.specs.Prelude.{Option}
 use Rattle.std.proofs.lemmas.Bool.Decides.{nat_tests}
@@ -52,3 +52,20 @@ gathered_in_order group (x ∷ xs) ascending =
 pub none_left : (xs : List Member) → length xs ≡ 0 → [] ≡ xs
 none_left [] is = refl
 none_left (x ∷ xs) is = absurd (omega (arith, is))
+
+-- one more of a list is told, or passed over
+pub one_told : (group : Option ℕ) (x : Member) (xs : List Member) (told : List RunAttempt) → is_within group x ≡ true
+    → (told ++ run_attempt_of x ∷ []) ++ map run_attempt_of (filter (is_within group) xs)
+    ≡ told ++ map run_attempt_of (filter (is_within group) (x ∷ xs))
+one_told group x xs told within =
+    append_assoc told (run_attempt_of x ∷ []) (map run_attempt_of (filter (is_within group) xs))
+    ∙ ap (λ b. told
+    ++ map run_attempt_of (if b then x ∷ filter (is_within group) xs else filter (is_within group) xs)) (sym within)
+
+pub one_passed : (group : Option ℕ) (x : Member) (xs : List Member) (told : List RunAttempt)
+    → is_within group x ≡ false
+    → told ++ map run_attempt_of (filter (is_within group) xs)
+    ≡ told ++ map run_attempt_of (filter (is_within group) (x ∷ xs))
+one_passed group x xs told other =
+    ap (λ b. told
+    ++ map run_attempt_of (if b then x ∷ filter (is_within group) xs else filter (is_within group) xs)) (sym other)

@@ -7,17 +7,13 @@ use Rattle.ent_protocol.specs.Begin.{holding}
 use Rattle.ent_protocol.specs.Finish.{stepped}
 use Rattle.ent_protocol.specs.State.{Member, Use}
 
+-- its statement is posted
+abbrev pub posted : Member → Member
+posted member = record member { posted = true }
+
 -- it holds the uses that are asked for, and its statement is posted
 abbrev pub posting : List Use → Member → Member
-posting asked member = record (holding member asked) { posted = true }
-
--- it holds these uses
-abbrev pub holding_all : List Use → Member → Member
-holding_all uses member = record member { uses = uses }
-
--- it holds these uses, and its statement is posted
-abbrev pub posting_all : List Use → Member → Member
-posting_all uses member = record member { uses = uses; posted = true }
+posting asked member = posted (holding member asked)
 
 -- it takes an answer that binds host variables
 abbrev pub stepping : Answer → List (Name × Value) → Member → Member

@@ -1,5 +1,7 @@
 -- Uses that are asked for and uses that are held, in conflict.
-use Rattle.std.specs.Prelude.{◌≡◌, true, false, List, Contains}
+use Rattle.std.specs.Prelude.{◌≡◌, ℕ, true, false, List, Contains}
+use Rattle.ent_lock.specs.declared.holders.Holder.{Holder}
+use Rattle.ent_lock.specs.declared.mode.Mode.{Mode}
 use Rattle.ent_lock.specs.Mode.{in_conflict}
 use Rattle.ent_members.specs.declared.conflict.Conflict.{Conflict}
 use Rattle.ent_protocol.specs.State.{Use}
@@ -8,8 +10,13 @@ use Rattle.ent_protocol.specs.Uses.{uses_conflict}
 abbrev pub NoneInConflict : Use → List Use → Type 0
 NoneInConflict own held = (other : Use) → Contains held other → uses_conflict own other ≡ false
 
-abbrev pub IsInConflict : Use → List Use → Use → Type 0
-IsInConflict own held other = Contains held other × (uses_conflict own other ≡ true)
+-- a transaction is among the holders of a table in a mode that is in conflict with one that is asked for
+abbrev pub IsHeldAgainst : List Holder → ℕ → Mode → Mode → Type 0
+IsHeldAgainst holders tx asked held =
+    (in_conflict asked held ≡ true) × Contains holders (record { holder = tx; mode = held })
+
+abbrev pub NoneHeldAgainst : List Holder → ℕ → Mode → Type 0
+NoneHeldAgainst holders tx asked = (held : Mode) → ¬ IsHeldAgainst holders tx asked held
 
 -- no use that is asked for is in conflict with one that is held
 abbrev pub NoConflict : List Use → List Use → Type 0

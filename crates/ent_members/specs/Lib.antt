@@ -3,3 +3,4 @@ pub mod RunAttempts
 pub mod Changes
 pub mod Answered
 pub mod Conflict
+pub mod InRun

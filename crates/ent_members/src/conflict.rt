@@ -1,12 +1,12 @@
 //! Uses that are in conflict.
-ghost use Rattle.std.specs.Prelude.{◌≡◌, false, true, Contains, MatchOption};
-ghost use Rattle.ent_protocol.specs.Uses.{uses_conflict, is_conflicting};
-ghost use Rattle.std.specs.List.{list_any};
-ghost use Rattle.ent_members.specs.Conflict.{IsConflict, NoConflict, IsInConflict, NoneInConflict};
+ghost use Rattle.std.specs.Prelude.{◌≡◌, ◌↔◌, true, Contains, IsTrue, MatchOption};
+ghost use Rattle.ent_lock.specs.Mode.{in_conflict};
+ghost use Rattle.ent_members.specs.Conflict.{IsConflict, NoConflict, IsHeldAgainst, NoneHeldAgainst};
+ghost use Rattle.ent_members.specs.InRun.{AreByNumber, uses_of};
 
-use crate::member::Member;
 use crate::table_use::Use;
-use ent_lock::Mode;
+use ent_group::Tx;
+use ent_lock::{Holder, LockTable, Mode};
 
 /// A table for which one asks in a mode that is in conflict with the one in which another holds it.
 #[derive(Clone, Copy, Debug, PartialEq, Eq)]
@@ -17,51 +17,45 @@ pub struct Conflict {
     pub held: Mode,
 }
 
-fn in_conflict(one: Use, other: Use) -> bool
-    ensures { result ≡ uses_conflict one other }
+/// Whether a transaction is among the holders of a table in a mode that is in conflict with one that is asked for.
+fn is_held_against(holders: &[Holder], tx: Tx, held: Mode, asked: Mode) -> bool
+    ensures { IsTrue result ↔ IsHeldAgainst holders.now tx asked held }
 {
-    one.table() == other.table() && one.mode().in_conflict(other.mode())
+    asked.in_conflict(held)
+        && holders.contains(&Holder {
+            holder: tx,
+            mode: held,
+        })
 }
 
-fn any_in_conflict(asked: Use, held: &[Use]) -> bool
-    ensures { result ≡ list_any (uses_conflict asked) held.now }
+/// The mode in which a transaction holds a table in conflict with one that is asked for, the shared one first.
+fn held_against(holders: &[Holder], tx: Tx, asked: Mode) -> Option<Mode>
+    ensures { MatchOption result (NoneHeldAgainst holders.now tx asked) (IsHeldAgainst holders.now tx asked) }
 {
-    held.iter().any(|other| in_conflict(asked, *other))
-}
-
-/// Whether a member holds a use in conflict with one that is asked for.
-pub fn is_conflicting(asked: &[Use], holder: &Member) -> bool
-    ensures { result ≡ is_conflicting asked.now holder.now }
-{
-    let held = holder.uses();
-    asked.iter().any(|own| any_in_conflict(*own, held))
-}
-
-/// The first of some uses that one is in conflict with.
-fn first_against(own: Use, held: &[Use]) -> Option<Use>
-    ensures { MatchOption result (NoneInConflict own held.now) (IsInConflict own held.now) }
-{
-    for other in held {
-        if in_conflict(own, *other) {
-            return Some(*other);
-        }
+    if is_held_against(holders, tx, Mode::Shared, asked) {
+        return Some(Mode::Shared);
+    }
+    if is_held_against(holders, tx, Mode::Exclusive, asked) {
+        return Some(Mode::Exclusive);
     }
     None
 }
 
-/// The first of the uses that are asked for which is in conflict with one that is held, with the first such that is
-/// held. It takes no memory.
-pub fn first_conflict(asked: &[Use], held: &[Use]) -> Option<Conflict>
-    ensures { MatchOption result (NoConflict asked.now held.now) (IsConflict asked.now held.now) }
+/// The first of the uses that are asked for which is in conflict with one that a transaction holds, with the first such
+/// that it holds. It takes no memory.
+pub(crate) fn first_conflict(locks: &LockTable<usize>, tx: Tx, asked: &[Use]) -> Option<Conflict>
+    requires { AreByNumber locks.now }
+    ensures { MatchOption result (NoConflict asked.now (uses_of locks.now tx))
+        (IsConflict asked.now (uses_of locks.now tx)) }
 {
-    for own in asked {
-        if let Some(other) = first_against(*own, held) {
-            return Some(Conflict {
-                table: own.table(),
-                asked: own.mode(),
-                held: other.mode(),
-            });
-        }
+    let (first, rest) = asked.split_first()?;
+    let holders = locks.holders(&first.table());
+    match held_against(holders, tx, first.mode()) {
+        Some(held) => Some(Conflict {
+            table: first.table(),
+            asked: first.mode(),
+            held,
+        }),
+        None => first_conflict(locks, tx, rest),
     }
-    None
 }

@@ -1,4 +1,4 @@
-//! Uses that are held.
+//! Uses put together: each once, by table.
 ghost use Rattle.std.specs.Prelude.{◌≡◌, ◌<◌, IsTrue, IfOk, OnOk, nat_lt, if◌then◌else◌};
 ghost use Rattle.std.specs.List.{list_any};
 ghost use Rattle.ent_protocol.specs.Begin.{same_use, use_rank, with_uses};

@@ -1,189 +1,110 @@
-//! One member.
-ghost use Rattle.std.specs.Prelude.{◌≡◌, List, OnOk, OnErr, length};
-ghost use Rattle.ent_value.specs.declared.value.Value.{Value as Bound};
-ghost use Rattle.ent_semantics.specs.Database.{Name as Variable};
-ghost use Rattle.ent_semantics.specs.declared.answer.Answer.{Answer as Answered};
-ghost use Rattle.ent_protocol.specs.Finish.{stepped};
-ghost use Rattle.ent_protocol.specs.Run.{fresh};
-ghost use Rattle.ent_protocol.specs.State.{Member as Before};
-ghost use Rattle.ent_members.specs.Changes.{holding_all, posting_all, stepping};
+//! A member as it is in a run.
+ghost use Rattle.std.specs.Prelude.{◌≡◌, MatchOption};
+ghost use Rattle.ent_group.specs.Groups.{group_of};
+ghost use Rattle.ent_members.specs.Conflict.{IsConflict, NoConflict};
+ghost use Rattle.ent_members.specs.InRun.{AreByNumber, in_run, label_or};
 
-use crate::entrant::Entrant;
+use crate::conflict::{Conflict, first_conflict};
+use crate::progress::Progress;
 use crate::table_use::Use;
 use ent_closing::Environment;
-use ent_group::Tx;
+use ent_group::{Groups, Tx};
+use ent_lock::LockTable;
 use ent_semantics::Answer;
-use ent_value::{Name, Value};
-use std::alloc::{AllocError, Global};
 use std::marker::Model;
 
-/// A member of the present run. Its place is the number of its next statement, from 1.
+/// A member of the present run: what it has itself, the locks that the run's lock table shows for it, and the label of
+/// its group. It owns nothing.
 #[derive(Drop)]
-pub struct Member {
-    tx: Tx,
-    attempt: u64,
-    group: Tx,
-    environment: Environment,
-    /// One for each statement before its next one.
-    answers: Vec<Answer>,
-    uses: Vec<Use>,
-    is_posted: bool,
+pub struct Member<'a> {
+    own: &'a Progress,
+    locks: &'a LockTable<usize>,
+    groups: &'a Groups,
 }
 
-impl Model for Member {
-    ghost use Rattle.std.specs.Prelude.{suc, length};
+impl<'a> Model for Member<'a> {
     ghost use Rattle.ent_protocol.specs.State.{Member as Seen};
+    ghost use Rattle.ent_members.specs.InRun.{AreByNumber, in_run};
 
     ghost Value = { Seen };
 
-    ghost view = { λ m. record {
-      tx = m.tx;
-      attempt = m.attempt;
-      group = m.group;
-      place = suc (length m.answers.items);
-      bound = m.environment;
-      answers = m.answers.items;
-      uses = m.uses.items;
-      posted = m.is_posted;
-    } };
+    ghost view = { λ m. in_run m.locks.now m.groups.now m.own.now };
+
+    ghost invariant = { λ m. AreByNumber m.locks.now };
 }
 
-impl Member {
-    /// A member of a run that starts, in a group of its own, at its first statement. It takes no memory.
-    pub fn fresh(alloc: Global, entrant: Entrant) -> Self
-        ensures { result ≡ fresh entrant }
+/// The label of a transaction's group; its own number, where it is in none.
+pub fn label_in(groups: &Groups, tx: Tx) -> Tx
+    ensures { result ≡ label_or tx (group_of groups.now tx) }
+{
+    match groups.group_of(tx) {
+        Some(group) => group,
+        None => tx,
+    }
+}
+
+impl<'a> Member<'a> {
+    /// A member of a run with this lock table and these groups.
+    pub fn new(own: &'a Progress, locks: &'a LockTable<usize>, groups: &'a Groups) -> Self
+        requires { AreByNumber locks.now }
+        ensures { result ≡ in_run locks.now groups.now own.now }
     {
-        Member {
-            tx: entrant.tx(),
-            attempt: entrant.runs() + 1,
-            group: entrant.tx(),
-            environment: Environment::new(alloc),
-            answers: Vec::new(alloc),
-            uses: Vec::new(alloc),
-            is_posted: false,
-        }
+        Member { own, locks, groups }
     }
 
     pub fn tx(&self) -> Tx
         ensures { result ≡ self.now.tx }
     {
-        self.tx
+        self.own.tx()
     }
 
     /// The runs that it took part in, this one counted.
     pub fn attempt(&self) -> u64
         ensures { result ≡ self.now.attempt }
     {
-        self.attempt
+        self.own.attempt()
     }
 
     /// The label of its group: members of one label are of one group.
     pub fn group(&self) -> Tx
         ensures { result ≡ self.now.group }
     {
-        self.group
+        label_in(self.groups, self.own.tx())
     }
 
     /// The number of its next statement, from 1.
     pub fn place(&self) -> usize
         ensures { result ≡ self.now.place }
     {
-        self.answers.len() + 1
+        self.own.place()
     }
 
     /// What its host variables are bound to.
-    pub fn environment(&self) -> &Environment
+    pub fn environment(&self) -> &'a Environment
         ensures { result.now ≡ self.now.bound }
     {
-        &self.environment
+        self.own.environment()
     }
 
     /// The answers of its statements so far.
-    pub fn answers(&self) -> &[Answer]
+    pub fn answers(&self) -> &'a [Answer]
         ensures { result.now ≡ self.now.answers }
     {
-        self.answers.as_slice()
-    }
-
-    /// The answers, moved and not copied.
-    pub fn into_answers(self) -> Vec<Answer>
-        ensures { result.items ≡ self.answers }
-    {
-        let Member { answers, .. } = self;
-        answers
-    }
-
-    /// The uses that it holds.
-    pub fn uses(&self) -> &[Use]
-        ensures { result.now ≡ self.now.uses }
-    {
-        self.uses.as_slice()
+        self.own.answers()
     }
 
     /// Whether its next statement is in the pool.
     pub fn is_posted(&self) -> bool
         ensures { result ≡ self.now.posted }
     {
-        self.is_posted
+        self.own.is_posted()
     }
 
-    /// It holds these uses.
-    pub fn hold(&mut self, uses: Vec<Use>)
-        ensures { self.new ≡ holding_all uses.items self.old }
+    /// The first of the uses that are asked for which is in conflict with one that it holds, with the first such that
+    /// it holds. It takes no memory.
+    pub fn first_conflict(&self, asked: &[Use]) -> Option<Conflict>
+        ensures { MatchOption result (NoConflict asked.now self.now.uses) (IsConflict asked.now self.now.uses) }
     {
-        self.uses = uses;
-    }
-
-    /// It holds these uses, and its next statement is in the pool.
-    pub fn post(&mut self, uses: Vec<Use>)
-        ensures { self.new ≡ posting_all uses.items self.old }
-    {
-        self.uses = uses;
-        self.is_posted = true;
-    }
-
-    /// Its group has another label.
-    pub fn set_group(&mut self, group: Tx)
-        ensures { self.new ≡ record self.old { group = group } }
-    {
-        self.group = group;
-    }
-
-    /// It takes the answer of its statement, and is at the next one.
-    pub fn step(&mut self, answer: Answer) -> Result<(), AllocError>
-        ensures ok { OnOk result (self.new ≡ stepped answer self.old) }
-        ensures err { OnErr result (self.new ≡ self.old) }
-    {
-        self.answers.push(answer)?;
-        self.is_posted = false;
-        Ok(())
-    }
-
-    /// It takes the answer of its statement, which binds host variables, and is at the next one.
-    pub fn step_bound(
-        &mut self,
-        answer: Answer,
-        bound: Vec<(Name, Value)>,
-    ) -> Result<(), AllocError>
-        ensures ok { OnOk result (self.new ≡ stepping answer bound.items self.old) }
-        ensures err { OnErr result (self.new ≡ self.old) }
-    {
-        self.answers.reserve(1)?;
-        self.environment.bind_all(bound)?;
-        self.answers.push_reserved(answer);
-        self.is_posted = false;
-        Ok(())
-    }
-
-    /// It is as before it took its last answer: it had so many bindings, and its statement was posted or not.
-    pub fn step_back(&mut self, bindings: usize, was_posted: bool)
-        ensures back { (answer : Answered) (bound : List (Variable × Bound)) (before : Before)
-            → self.old ≡ stepping answer bound before → length before.bound ≡ bindings
-            → before.posted ≡ was_posted → self.new ≡ before }
-        ensures tx { self.new.tx ≡ self.old.tx }
-    {
-        self.answers.pop();
-        self.environment.truncate(bindings);
-        self.is_posted = was_posted;
+        first_conflict(self.locks, self.own.tx(), asked)
     }
 }

@@ -1,12 +1,15 @@
 //! A few members by number, in a fixed array.
 ghost use Rattle.std.specs.Prelude.{◌≡◌, ◌<◌, ◌≤◌, ◌+◌, ◌++◌, ◌∷◌, [], length, map, take, insert};
+ghost use Rattle.ent_lock.specs.Use.{Uses};
 ghost use Rattle.ent_protocol.specs.State.{inserted};
+ghost use Rattle.ent_members.specs.InRun.{in_run};
 ghost use Rattle.ent_members.specs.RunAttempts.{gathered, is_within, run_attempt_of, run_attempts_in, number_of};
 ghost use Rattle.ent_members.specs.RunAttempts.{numbers_in};
 ghost use Rattle.ent_members.specs.Order.{IsAscending, place_in, tx_of};
 
-use crate::member::Member;
-use ent_group::{MOST_MEMBERS, Members, Tx};
+use crate::member::label_in;
+use crate::progress::Progress;
+use ent_group::{Groups, MOST_MEMBERS, Members, Tx};
 use std::marker::Model;
 
 /// A member that is to leave the run: its number, and the runs that it took part in.
@@ -115,16 +118,17 @@ fn numbers_of(run_attempts: &[RunAttempt]) -> Members
     numbers
 }
 
-fn is_within(member: &Member, group: Option<Tx>) -> bool
-    ensures { result ≡ is_within group member.now }
+/// Whether a member is of the group with a label, where one is named.
+fn is_within(member: &Progress, groups: &Groups, group: Option<Tx>) -> bool
+    ensures { (locks : Uses) → result ≡ is_within group (in_run locks groups.now member.now) }
 {
     match group {
-        Some(label) => member.group() == label,
+        Some(label) => label_in(groups, member.tx()) == label,
         None => true,
     }
 }
 
-fn run_attempt_of(member: &Member) -> RunAttempt
+fn run_attempt_of(member: &Progress) -> RunAttempt
     ensures { result ≡ run_attempt_of member.now }
 {
     RunAttempt {
@@ -134,16 +138,16 @@ fn run_attempt_of(member: &Member) -> RunAttempt
 }
 
 /// The members of the group with a label, where one is named, else all, of a list by number.
-pub fn gather_by_number(members: &[Member], group: Option<Tx>) -> RunAttempts
+pub fn gather_by_number(members: &[Progress], groups: &Groups, group: Option<Tx>) -> RunAttempts
     requires ascending { IsAscending (map tx_of members.now) }
     requires bound { length members.now ≤ MOST_MEMBERS }
-    ensures list { result ≡ run_attempts_in group members.now }
+    ensures list { (locks : Uses) → result ≡ run_attempts_in group (map (in_run locks groups.now) members.now) }
     ensures room { length result ≤ length members.now }
 {
     let mut run_attempts = RunAttempts::new();
     let mut rest = members;
     while let Some((first, later)) = rest.split_first() {
-        if is_within(first, group) {
+        if is_within(first, groups, group) {
             run_attempts.push(run_attempt_of(first));
         }
         rest = later;
@@ -152,16 +156,22 @@ pub fn gather_by_number(members: &[Member], group: Option<Tx>) -> RunAttempts
 }
 
 /// Puts in the members of the group with a label, where one is named, else all of a list.
-pub fn gather(members: &[Member], group: Option<Tx>, run_attempts: &mut RunAttempts)
+pub fn gather(
+    members: &[Progress],
+    groups: &Groups,
+    group: Option<Tx>,
+    run_attempts: &mut RunAttempts,
+)
     requires { length members.now + length run_attempts.old ≤ MOST_MEMBERS }
-    ensures list { run_attempts.new ≡ gathered group members.now run_attempts.old }
+    ensures list { (locks : Uses) → run_attempts.new
+        ≡ gathered group (map (in_run locks groups.now) members.now) run_attempts.old }
     ensures room { length run_attempts.new ≤ length members.now + length run_attempts.old }
 {
     let Some((first, rest)) = members.split_first() else {
         return;
     };
-    gather(rest, group, run_attempts);
-    if is_within(first, group) {
+    gather(rest, groups, group, run_attempts);
+    if is_within(first, groups, group) {
         run_attempts.insert(run_attempt_of(first));
     }
 }

@@ -12,10 +12,9 @@ use Rattle.ent_lock.specs.Mode.{in_conflict}
 use Rattle.ent_lock.specs.Use.{Uses, InConflictAt, IsLeastIfAny, key_of_number}
 use Rattle.ent_protocol.specs.State.{State, Member, Use}
 use Rattle.ent_protocol.specs.Uses.{is_conflicting, uses_conflict, least, blocker}
-use Rattle.ent_run.specs.declared.blockers.Passed.TheVariants.{Group, Itself}
 use Rattle.ent_run.specs.Locks.{BlocksUses, IsLockedRun, passed_numbers, use_of}
 use Rattle.ent_run.specs.Moves.{run_of}
-use Rattle.ent_run.specs.Passed.{is_passed}
+use Rattle.ent_protocol.specs.Member.{is_of, is_tx}
 use Rattle.ent_members.specs.Order.{tx_of}
 use Rattle.ent_run.specs.Run.{with_run}
 use Rattle.ent_run.proofs.LeastOf.{least_either, least_of_list, least_same, one_least}
@@ -84,7 +83,7 @@ way_of asked holder own theirs there held conflict =
 -- ---- who is passed
 
 module _ (locks : Uses) (prepared active : List Member) (run : IsLockedRun locks prepared active) (asker : Member) where
-  abbrev others : List Member
+  abbrev pub others : List Member
   others = filter (λ (holder : Member). not (holder.group == asker.group)) prepared
       ++ filter (λ (holder : Member). not (holder.tx == asker.tx)) active
 
@@ -92,20 +91,20 @@ module _ (locks : Uses) (prepared active : List Member) (run : IsLockedRun locks
       → ((m : Member) × Contains prepared m × ((m.group == asker.group) ≡ true) × (m.tx ≡ v))
       ⊎ ((m : Member) × Contains active m × ((m.tx == asker.tx) ≡ true) × (m.tx ≡ v))
   passing v there =
-      by_cases (Contains-append_cases (map tx_of (filter (is_passed (Group asker.group)) prepared))
-      (map tx_of (filter (is_passed (Itself asker.tx)) active)) v there)
+      by_cases (Contains-append_cases (map tx_of (filter (is_of asker.group) prepared))
+      (map tx_of (filter (is_tx asker.tx) active)) v there)
     where
-      by_cases : Contains (map tx_of (filter (is_passed (Group asker.group)) prepared)) v
-          ⊎ Contains (map tx_of (filter (is_passed (Itself asker.tx)) active)) v
+      by_cases : Contains (map tx_of (filter (is_of asker.group) prepared)) v
+          ⊎ Contains (map tx_of (filter (is_tx asker.tx) active)) v
           → ((m : Member) × Contains prepared m × ((m.group == asker.group) ≡ true) × (m.tx ≡ v))
           ⊎ ((m : Member) × Contains active m × ((m.tx == asker.tx) ≡ true) × (m.tx ≡ v))
       by_cases (inl h) =
-          let m = out_of_map tx_of (filter (is_passed (Group asker.group)) prepared) v h in
-          let inside = out_of_filter (is_passed (Group asker.group)) prepared m.0 m.1 in
+          let m = out_of_map tx_of (filter (is_of asker.group) prepared) v h in
+          let inside = out_of_filter (is_of asker.group) prepared m.0 m.1 in
           inl (m.0, inside.0, inside.1, m.2)
       by_cases (inr h) =
-          let m = out_of_map tx_of (filter (is_passed (Itself asker.tx)) active) v h in
-          let inside = out_of_filter (is_passed (Itself asker.tx)) active m.0 m.1 in
+          let m = out_of_map tx_of (filter (is_tx asker.tx) active) v h in
+          let inside = out_of_filter (is_tx asker.tx) active m.0 m.1 in
           inr (m.0, inside.0, inside.1, m.2)
 
   number_in : (ms : List Member) (m : Member) (v : ℕ) → Contains ms m → m.tx ≡ v → Contains (map tx_of ms) v
@@ -149,7 +148,7 @@ module _ (locks : Uses) (prepared active : List Member) (run : IsLockedRun locks
           let inside = out_of_filter (λ (holder : Member). not (holder.tx == asker.tx)) active m h in
           other_active m inside.0 inside.1
 
-  of_run : (m : Member) → Contains others m → Contains (prepared ++ active) m
+  pub of_run : (m : Member) → Contains others m → Contains (prepared ++ active) m
   of_run m there =
       by_cases (Contains-append_cases (filter (λ (holder : Member). not (holder.group == asker.group)) prepared)
       (filter (λ (holder : Member). not (holder.tx == asker.tx)) active) m there)
@@ -171,23 +170,23 @@ module _ (locks : Uses) (prepared active : List Member) (run : IsLockedRun locks
           (filter (λ (holder : Member). not (holder.tx == asker.tx)) active) m
           (into_filter (λ (holder : Member). not (holder.group == asker.group)) prepared m h
           (not_false (m.group == asker.group) (λ own. apart
-          (Contains-append_left (map tx_of (filter (is_passed (Group asker.group)) prepared))
-          (map tx_of (filter (is_passed (Itself asker.tx)) active)) m.tx
-          (into_map tx_of (filter (is_passed (Group asker.group)) prepared) m
-          (into_filter (is_passed (Group asker.group)) prepared m h own))))))
+          (Contains-append_left (map tx_of (filter (is_of asker.group) prepared))
+          (map tx_of (filter (is_tx asker.tx) active)) m.tx
+          (into_map tx_of (filter (is_of asker.group) prepared) m
+          (into_filter (is_of asker.group) prepared m h own))))))
       by_cases (inr h) = Contains-append_right
           (filter (λ (holder : Member). not (holder.group == asker.group)) prepared)
           (filter (λ (holder : Member). not (holder.tx == asker.tx)) active) m
           (into_filter (λ (holder : Member). not (holder.tx == asker.tx)) active m h
           (not_false (m.tx == asker.tx) (λ own. apart
-          (Contains-append_right (map tx_of (filter (is_passed (Group asker.group)) prepared))
-          (map tx_of (filter (is_passed (Itself asker.tx)) active)) m.tx
-          (into_map tx_of (filter (is_passed (Itself asker.tx)) active) m
-          (into_filter (is_passed (Itself asker.tx)) active m h own))))))
+          (Contains-append_right (map tx_of (filter (is_of asker.group) prepared))
+          (map tx_of (filter (is_tx asker.tx) active)) m.tx
+          (into_map tx_of (filter (is_tx asker.tx) active) m
+          (into_filter (is_tx asker.tx) active m h own))))))
 
   -- ---- who blocks
 
-  blocks_conflicting : (asked : List Use) (v : ℕ)
+  pub blocks_conflicting : (asked : List Use) (v : ℕ)
       → BlocksUses locks asked (passed_numbers asker (run_of prepared active)) v
       → Contains (map tx_of (filter (is_conflicting asked) others)) v
   blocks_conflicting asked v (apart, (own, there, (theirs, holds, conflict))) =
@@ -200,7 +199,7 @@ module _ (locks : Uses) (prepared active : List Member) (run : IsLockedRun locks
       (way_of asked m own theirs there held.3 conflict))
       held.2
 
-  conflicting_blocks : (asked : List Use) (v : ℕ) → Contains (map tx_of (filter (is_conflicting asked) others)) v
+  pub conflicting_blocks : (asked : List Use) (v : ℕ) → Contains (map tx_of (filter (is_conflicting asked) others)) v
       → BlocksUses locks asked (passed_numbers asker (run_of prepared active)) v
   conflicting_blocks asked v there =
       let m = out_of_map tx_of (filter (is_conflicting asked) others) v there in

@@ -1,20 +1,16 @@
 -- The uses that a member holds, with those that are asked for.
-use Rattle.std.proofs.Common.{◌≡◌, ◌⊎◌, inl, inr, ℕ, Bool, true, false, ◌==◌, nat_lt, if◌then◌else◌, List, [], ◌∷◌, map}
-use Rattle.std.proofs.Common.{refl, sym, ap, subst, ◌∙◌, arith}
-use Rattle.std.specs.Prelude.{Contains, Some, IsSome}
+use Rattle.std.proofs.Common.{◌≡◌, ◌⊎◌, inl, inr, ℕ, Bool, true, false, ◌==◌, nat_lt, if◌then◌else◌, List, [], ◌∷◌}
+use Rattle.std.proofs.Common.{refl, sym, subst, ◌∙◌, arith}
+use Rattle.std.specs.Prelude.{Contains}
 use Rattle.std.specs.List.{list_any}
 use Rattle.ent_lists.specs.Elements.{and_both, same_number}
 use Rattle.ent_lock.specs.declared.mode.Mode.{Mode}
 use Rattle.ent_lock.specs.declared.mode.Mode.TheVariants.{Shared, Exclusive}
 use Rattle.ent_lock.specs.Mode.{mode_rank}
-use Rattle.ent_lock.specs.Use.{Uses}
-use Rattle.ent_protocol.specs.Begin.{replaced, same_use, use_rank, with_uses}
-use Rattle.ent_protocol.specs.State.{Member, Use, inserted, by_number}
-use Rattle.ent_run.specs.Locks.{IsLockedRun, Locks, use_of}
-use Rattle.ent_run.specs.Places.{Changes, found}
-use Rattle.ent_members.specs.Order.{tx_of}
+use Rattle.ent_protocol.specs.Begin.{same_use, use_rank, with_uses}
+use Rattle.ent_protocol.specs.State.{Use, inserted, by_number}
+use Rattle.ent_run.specs.Locks.{use_of}
 use Rattle.ent_run.proofs.Lists.{contains_none, contains_cases, contains_first, contains_later, some_of}
-use Rattle.ent_run.proofs.Locked.{run_changed, some_value}
 
 same_mode : (a b : Mode) → mode_rank a ≡ mode_rank b → a ≡ b
 same_mode Shared Shared e = refl
@@ -156,28 +152,3 @@ into_by_number number [] own h = h
 into_by_number number (x ∷ xs) own h =
     into_inserted number x own (by_number number xs)
     (elim (contains_cases x own xs h) [ inl same ↦ inl same | inr later ↦ inr (into_by_number number xs own later) ])
-
--- ---- a member that holds them
-
-pub holds_asked : (change : List Use → Member → Member) (asked uses : List Use) (tx : ℕ) (old new : List Member)
-    → ((member : Member) → found old tx ≡ Some member → uses ≡ with_uses asked member.uses)
-    → Changes (change uses) tx old new → Changes (λ member. change (with_uses asked member.uses) member) tx old new
-holds_asked change asked uses tx old new are changes member there =
-    changes member there ∙ ap (λ us. map (replaced (change us member)) old) (are member there)
-
-pub run_held : (change : List Use → Member → Member) → ((us : List Use) (m : Member) → (change us m).tx ≡ m.tx)
-    → ((us : List Use) (m : Member) → (change us m).uses ≡ us) → (locks next : Uses)
-    → (prepared old new : List Member) (asked uses : List Use) (tx : ℕ) → IsLockedRun locks prepared old
-    → IsSome (found old tx) → ((member : Member) → found old tx ≡ Some member → uses ≡ with_uses asked member.uses)
-    → Changes (change uses) tx old new → map tx_of new ≡ map tx_of old → Locks tx asked locks next
-    → IsLockedRun next prepared new
-run_held change same sets locks next prepared old new asked uses tx run there are changes numbers more =
-    let one = some_value (found old tx) there in
-    let is : (change uses one.0).uses ≡ with_uses asked one.0.uses = sets uses one.0 ∙ are one.0 one.1 in
-    run_changed locks next prepared old new (change uses) asked tx one.0 run one.1 changes numbers
-    (record {
-      same = same uses one.0;
-      into = λ own h. subst (λ us. Contains us own) (sym is) (into_with_uses asked one.0.uses own h);
-      out_of = λ own h. out_of_with_uses asked one.0.uses own (subst (λ us. Contains us own) is h);
-    })
-    more

@@ -11,9 +11,16 @@ pub mod Answered
 pub mod Locked
 pub mod HeldUses
 pub mod LeastOf
+pub mod MadeToWait
+pub mod InRuns
+pub mod Lookups
 pub mod LockedRuns
 pub mod Distinct
 pub mod Grouped
 pub mod Merged
 pub mod RunWith
 pub mod Blocked
+pub mod Granted
+pub mod JoinedRuns
+pub mod PreparedRun
+pub mod Left

@@ -2,7 +2,7 @@
 use Rattle.std.proofs.Common.{◌≡◌, ◌⊎◌, inl, inr, ℕ, Bool, true, false, not, ◌==◌, if◌then◌else◌}
 use Rattle.std.proofs.Common.{List, [], ◌∷◌, ◌++◌, map, nat_eq, refl, sym, ap, subst, ◌∙◌, true≢false}
 use Rattle.std.specs.Prelude.{Contains, filter, Option, Some, None, IsSome, Result, Ok, Err, OnOk, OnErr}
-use Rattle.std.specs.List.{IsDistinct, AllByRecursion}
+use Rattle.std.specs.List.{IsDistinct, AllByRecursion, list_any}
 use Rattle.std.proofs.lemmas.List.Elements.{Contains-append_left, Contains-append_right, Contains-append_cases}
 use Rattle.ent_lists.specs.Elements.{number_itself, same_number}
 use Rattle.ent_lock.specs.declared.mode.Mode.{Mode}
@@ -12,8 +12,10 @@ use Rattle.ent_protocol.specs.Member.{is_tx}
 use Rattle.ent_protocol.specs.State.{Member, Use, first_of}
 use Rattle.ent_run.specs.Locks.{IsHeld, IsLockedRun, Locks, lock_of, use_of}
 use Rattle.ent_run.specs.Places.{Changes, found}
+use Rattle.ent_members.specs.InRun.{AreByNumber, number_of_key}
 use Rattle.ent_members.specs.Order.{tx_of}
 use Rattle.ent_run.proofs.Lists.{contains_none, contains_cases, contains_first, contains_later, into_map, out_of_map}
+use Rattle.ent_run.proofs.Lists.{some_of}
 use Rattle.ent_run.proofs.OneMember.{found_tx, run_kept, some_same}
 
 pub not_true : (b : Bool) → not b ≡ true → b ≡ true → ⊥
@@ -67,6 +69,20 @@ one_member [] distinct m n there also same = absurd (contains_none m there)
 one_member (x ∷ xs) distinct m n there also same =
     one_of_cons x xs distinct.0 (one_member xs distinct.1) m n same (contains_cases x m xs there)
     (contains_cases x n xs also)
+
+-- nobody is found of a number that no member has
+pub found_none : (xs : List Member) (tx : ℕ) → ¬ Contains (map tx_of xs) tx → found xs tx ≡ None
+found_none xs tx nobody = by_found (found xs tx) refl
+  where
+    by_found : (one : Option Member) → found xs tx ≡ one → found xs tx ≡ None
+    by_found None is = is
+    by_found (Some member) is = absurd (nobody (subst (Contains (map tx_of xs)) (found_tx xs tx member is)
+        (into_map tx_of xs member (found_there xs tx member is))))
+
+pub some_has : (xs : List Member) (tx : ℕ) → list_any (is_tx tx) xs ≡ true → Contains (map tx_of xs) tx
+some_has xs tx any =
+    let one = some_of (is_tx tx) xs any in
+    subst (Contains (map tx_of xs)) (same_number one.0.tx tx one.2) (into_map tx_of xs one.0 one.1)
 
 -- ---- who holds what
 
@@ -254,3 +270,20 @@ granted locks next tx asked uses is adds v table mode =
         | inr now ↦ inr (now.0, into_keyed asked table mode now.1)
       ]),
     )
+
+abbrev lock_key : ℕ × Mode → List ℕ × Mode
+lock_key u = (key_of_number u.0, u.1)
+
+-- uses that are granted are of tables that are known by their numbers
+pub granted_by_number : (locks next : Uses) (tx : ℕ) (uses : List (ℕ × Mode))
+    → AddsUses locks next tx (keyed key_of_number uses) → AreByNumber locks → AreByNumber next
+granted_by_number locks next tx uses adds by_number v table mode holds = elim ((adds v table mode).0 holds) [
+  | inl before ↦ by_number v table mode before
+  | inr now ↦ by_pair (out_of_map lock_key uses (table, mode) now.1)
+]
+  where
+    by_pair : (u : ℕ × Mode) × Contains uses u × (lock_key u ≡ (table, mode))
+        → table ≡ key_of_number (number_of_key table)
+    by_pair (u, there, is) =
+        let key : key_of_number u.0 ≡ table = ap (λ (k : List ℕ × Mode). k.0) is in
+        sym key ∙ ap (λ (k : List ℕ). key_of_number (number_of_key k)) key

@@ -12,12 +12,12 @@ use Rattle.ent_group.specs.Groups.{Relabels, group_of, moved_label}
 use Rattle.ent_lists.specs.Elements.{number_itself, same_number}
 use Rattle.ent_protocol.specs.PoolEvents.{in_joined_group, joined_label}
 use Rattle.ent_protocol.specs.State.{Member}
-use Rattle.ent_run.specs.Grouped.{AreGrouped, IsLabelled, labelled}
+use Rattle.ent_run.specs.Grouped.{AreGrouped, IsLabelled}
 use Rattle.ent_run.specs.Joined.{is_one_of, labels_in}
 use Rattle.ent_members.specs.Order.{tx_of}
 use Rattle.ent_run.proofs.Conflicting.{number_if}
 use Rattle.ent_run.proofs.Grouped.{label_of, none_is_some}
-use Rattle.ent_run.proofs.Lists.{contains_first, contains_later, into_among, into_map, out_of_among, out_of_map}
+use Rattle.ent_run.proofs.Lists.{contains_first, contains_later, into_map, out_of_map}
 use Rattle.ent_run.proofs.Locked.{some_value}
 use Rattle.ent_run.proofs.OneMember.{eq_turned, some_same}
 
@@ -242,18 +242,6 @@ labels_are groups numbers (x ∷ xs) own =
 
 -- ---- the members of the group that is made
 
-member_labelled : (first : ℕ) (more numbers : List ℕ) (m : Member)
-    → (is_one_of numbers m ≡ true → joined_label (first ∷ more) m.group ≡ first)
-    → (is_one_of numbers m ≡ false → joined_label (first ∷ more) m.group ≡ m.group)
-    → labelled numbers first m ≡ in_joined_group (first ∷ more) m
-member_labelled first more numbers m inside outside = by_test (is_one_of numbers m) refl
-  where
-    by_test : (b : Bool) → is_one_of numbers m ≡ b → labelled numbers first m ≡ in_joined_group (first ∷ more) m
-    by_test true is = ap (λ b. if b then record m { group = first } else m) is
-        ∙ ap (λ (group : ℕ). record m { group = group }) (sym (inside is))
-    by_test false is = ap (λ b. if b then record m { group = first } else m) is
-        ∙ ap (λ (group : ℕ). record m { group = group }) (sym (outside is))
-
 pub each_labelled : (f g : Member → Member) (xs : List Member) → ((m : Member) → Contains xs m → f m ≡ g m)
     → map f xs ≡ map g xs
 each_labelled f g [] same = refl
@@ -265,28 +253,6 @@ module _ (first : ℕ) (more : List ℕ) (old new : List Membership)
   pub joined_of : (x group : ℕ) → group_of old x ≡ Some group
       → group_of new x ≡ Some (joined_label (first ∷ more) group)
   joined_of x group is = joined x ∙ ap (option_map (joined_label (first ∷ more))) is
-
-  not_joined : (group : ℕ) → (joined_label (first ∷ more) group ≡ first → ⊥) → joined_label (first ∷ more) group ≡ group
-  not_joined group apart = by_test (list_any (λ label. label == group) (first ∷ more)) refl
-    where
-      by_test : (b : Bool) → list_any (λ label. label == group) (first ∷ more) ≡ b
-          → joined_label (first ∷ more) group ≡ group
-      by_test true is = absurd (apart (joined_if first more group true is))
-      by_test false is = joined_if first more group false is
-
-  -- the members of the group that is made get its label, and the others keep theirs
-  pub members_joined : (numbers : List ℕ) (members : List Member)
-      → ((x : ℕ) → Contains numbers x → group_of new x ≡ Some first)
-      → ((x : ℕ) → group_of new x ≡ Some first → Contains numbers x)
-      → ((m : Member) → Contains members m → group_of old m.tx ≡ Some m.group)
-      → map (labelled numbers first) members ≡ map (in_joined_group (first ∷ more)) members
-  members_joined numbers members into back own =
-      each_labelled (labelled numbers first) (in_joined_group (first ∷ more)) members
-      (λ m there. member_labelled first more numbers m
-      (λ is. some_same (joined_label (first ∷ more) m.group) first
-      (sym (joined_of m.tx m.group (own m there)) ∙ into m.tx (out_of_among numbers m.tx is)))
-      (λ is. not_joined m.group (λ same. absurd (true≢false (sym (into_among numbers m.tx
-      (back m.tx (joined_of m.tx m.group (own m there) ∙ ap Some same))) ∙ is)))))
 
   pub grouped_joined : (members : List Member) → group_of old first ≡ Some first → AreGrouped old members
       → AreGrouped new (map (in_joined_group (first ∷ more)) members)

@@ -1,47 +1,44 @@
 -- Changes of a run's members, with their locks and their groups.
-use Rattle.std.proofs.Common.{◌≡◌, ℕ, ◌<◌, ◌≤◌, Bool, true, false, not, ◌==◌, ◌||◌, if◌then◌else◌, nat_eq, List, []}
+use Rattle.std.proofs.Common.{◌≡◌, ℕ, ◌≤◌, Bool, true, false, not, ◌==◌, ◌||◌, if◌then◌else◌, nat_eq, List, []}
 use Rattle.std.proofs.Common.{◌∷◌, ◌++◌}
-use Rattle.std.proofs.Common.{map, length, get_or, refl, sym, ap, subst, ◌∙◌, true≢false}
-use Rattle.std.specs.Prelude.{Contains, Option, Some, None, IsSome, is_some, Result, Ok, Err, OnOk, OnErr, ◌↔◌, filter}
+use Rattle.std.proofs.Common.{map, length, refl, sym, ap, subst, ◌∙◌, true≢false}
+use Rattle.std.specs.Prelude.{Contains, Option, Some, None, IsSome, Result, Ok, Err, OnOk, OnErr, ◌↔◌, filter}
 use Rattle.std.specs.List.{IsDistinct, list_any}
 use Rattle.std.specs.List.Sorted.{IsStrictlyIncreasing}
 use Rattle.std.specs.Option.{option_map}
 use Rattle.std.specs.FinSet as finite
 use Rattle.std.proofs.lemmas.List.{map-append}
-use Rattle.std.proofs.lemmas.List.Elements.{Contains-append_left, Contains-append_right, filter-append}
+use Rattle.std.proofs.lemmas.List.Elements.{Contains-append_right, filter-append}
 use Rattle.ent_group.specs.declared.groups.Membership.{Membership}
 use Rattle.ent_group.specs.Groups.{group_of}
 use Rattle.ent_lists.specs.Elements.{number_itself, same_number}
 use Rattle.ent_lock.specs.Use.{Uses, DropsUses}
-use Rattle.ent_protocol.specs.Begin.{replaced, with_uses}
+use Rattle.ent_protocol.specs.Begin.{replaced}
 use Rattle.ent_protocol.specs.Member.{is_of}
 use Rattle.ent_protocol.specs.PoolEvents.{in_joined_group, joined_label}
 use Rattle.ent_protocol.specs.Run.{fresh}
-use Rattle.ent_protocol.specs.State.{Member, Dormant, Use, by_number, first_of}
+use Rattle.ent_protocol.specs.State.{Member, Dormant, by_number}
 use Rattle.ent_members.specs.Answered.{MemberAnswer}
 use Rattle.ent_run.specs.Answered.{answered_from}
-use Rattle.ent_run.specs.Grouped.{AreGrouped, IsRunWith, labelled, unless_gone}
-use Rattle.ent_run.specs.Joined.{JoinGroups, is_one_of, labels_in}
-use Rattle.ent_run.specs.Locks.{Locks}
-use Rattle.ent_run.specs.Moves.{is_not_of, is_of_another, run_of}
-use Rattle.ent_run.specs.Places.{Changes, IsAt, found}
+use Rattle.ent_run.specs.Grouped.{AreGrouped, IsRunWith, unless_gone}
+use Rattle.ent_run.specs.Joined.{is_one_of, labels_in}
+use Rattle.ent_run.specs.Moves.{is_not_of, is_of_another}
+use Rattle.ent_run.specs.Places.{Changes, found}
 use Rattle.ent_members.specs.Order.{tx_of}
 use Rattle.ent_members.specs.RunAttempts.{is_within, numbers_in, run_attempts_in}
 use Rattle.ent_run.proofs.Answered.{answered_group, answered_tx}
 use Rattle.ent_members.proofs.ByNumber.{run_attempt_numbers, run_attempts_are}
 use Rattle.ent_run.proofs.ByNumber.{ascending-by_number}
 use Rattle.ent_run.proofs.Distinct.{ascending_of, distinct_append, distinct_filter, same_ascending}
-use Rattle.ent_run.proofs.Grouped.{grouped_left, grouped_mapped, label_of, nobody_grouped, none_is_some, one_label}
+use Rattle.ent_run.proofs.Grouped.{grouped_left, grouped_mapped, label_of, nobody_grouped, one_label}
 use Rattle.ent_run.proofs.Grouped.{regrouped, same_labels}
-use Rattle.ent_run.proofs.HeldUses.{holds_asked, into_by_number, out_of_by_number, run_held}
-use Rattle.ent_run.proofs.InOrder.{at_own}
+use Rattle.ent_run.proofs.HeldUses.{into_by_number, out_of_by_number}
 use Rattle.ent_run.proofs.Lists.{contains_first, contains_later, into_among, into_filter, into_map, out_of_among}
 use Rattle.ent_run.proofs.Lists.{out_of_filter, out_of_map}
 use Rattle.ent_run.proofs.Locked.{found_there, run_stepped, some_value}
 use Rattle.ent_run.proofs.LockedRuns.{nobody_runs, run_answered_or_not, run_left, run_left_by_group, run_locked_joined}
 use Rattle.ent_run.proofs.LockedRuns.{run_starts}
-use Rattle.ent_run.proofs.Merged.{grouped_joined, members_joined}
-use Rattle.ent_run.proofs.OneMember.{found_at, some_same}
+use Rattle.ent_run.proofs.Merged.{grouped_joined}
 
 -- ---- a run that starts
 
@@ -75,7 +72,7 @@ replaced_group new m same = by_test (m.tx == new.tx) refl
     by_test false is = ap (λ (b : Bool). (if b then new else m).group) is
 
 -- it keeps its number and its label
-grouped_changed : (groups : List Membership) (prepared old new : List Member) (change : Member → Member) (tx : ℕ)
+pub grouped_changed : (groups : List Membership) (prepared old new : List Member) (change : Member → Member) (tx : ℕ)
     → ((m : Member) → (change m).tx ≡ m.tx) → ((m : Member) → (change m).group ≡ m.group) → IsSome (found old tx)
     → Changes change tx old new → AreGrouped groups (prepared ++ old) → AreGrouped groups (prepared ++ new)
 grouped_changed groups prepared old new change tx numbers labels there changes grouped =
@@ -89,42 +86,6 @@ grouped_changed groups prepared old new change tx numbers labels there changes g
     (λ same. labels member
     ∙ sym (one_label groups (prepared ++ old) m member grouped (Contains-append_right prepared old m also) inside
     (same ∙ numbers member)))) grouped)
-
-pub held_with : (change : List Use → Member → Member) → ((us : List Use) (m : Member) → (change us m).tx ≡ m.tx)
-    → ((us : List Use) (m : Member) → (change us m).uses ≡ us)
-    → ((us : List Use) (m : Member) → (change us m).group ≡ m.group)
-    → (locks next : Uses) (groups : List Membership) (prepared old new : List Member) (asked uses : List Use) (tx : ℕ)
-    → IsRunWith locks groups prepared old → IsSome (found old tx)
-    → ((member : Member) → found old tx ≡ Some member → uses ≡ with_uses asked member.uses)
-    → Changes (change uses) tx old new → map tx_of new ≡ map tx_of old → Locks tx asked locks next
-    → IsRunWith next groups prepared new
-held_with change same holds labels locks next groups prepared old new asked uses tx run there are changed numbers more = (
-  run_held change same holds locks next prepared old new asked uses tx run.0 there are changed numbers more,
-  grouped_changed groups prepared old new (change uses) tx (same uses) (labels uses) there changed run.1,
-)
-
--- the same of the member at a place, which is of its own number
-module _ (change : List Use → Member → Member) (old new : List Member) (asked uses : List Use) (place : ℕ)
-    (member : Member) (is : (d : Member) → member ≡ get_or old place d) (are : uses ≡ with_uses asked member.uses) where
-  are_found : (tx : ℕ) → IsAt old tx place → (other : Member) → found old tx ≡ Some other
-      → uses ≡ with_uses asked other.uses
-  are_found tx at other there =
-      are ∙ ap (λ (m : Member). with_uses asked m.uses) (is member ∙ found_at old tx place member other at there)
-
-  pub held_at : ((us : List Use) (m : Member) → (change us m).tx ≡ m.tx)
-      → ((us : List Use) (m : Member) → (change us m).uses ≡ us)
-      → ((us : List Use) (m : Member) → (change us m).group ≡ m.group)
-      → (locks next : Uses) (groups : List Membership) (prepared : List Member) → IsRunWith locks groups prepared old
-      → place < length old → ((tx : ℕ) → IsAt old tx place → Changes (change uses) tx old new)
-      → map tx_of new ≡ map tx_of old → Locks member.tx asked locks next → IsRunWith next groups prepared new
-  held_at same holds labels locks next groups prepared run within changed numbers more =
-      let at = at_own old place member run.0.run.ascending within is in
-      held_with change same holds labels locks next groups prepared old new asked uses member.tx run
-      (ap is_some (at.first member)) (are_found member.tx at) (changed member.tx at) numbers more
-
-  pub changes_at : (tx : ℕ) → IsAt old tx place → Changes (change uses) tx old new
-      → Changes (λ m. change (with_uses asked m.uses) m) tx old new
-  changes_at tx at changed = holds_asked change asked uses tx old new (are_found tx at) changed
 
 pub stepped_with : {T E : Type 0} (r : Result T E) (locks : Uses) (groups : List Membership)
     (prepared old new : List Member) (change : Member → Member) → ((m : Member) → (change m).tx ≡ m.tx)
@@ -173,7 +134,7 @@ within_same None m n same = refl
 within_same (Some label) m n same = ap (λ g. g == label) same
 
 -- the numbers of those who leave tell the members of the group from the others
-leaving_told : (group : Option ℕ) (numbers : List ℕ) (groups : List Membership) (members : List Member) (m : Member)
+pub leaving_told : (group : Option ℕ) (numbers : List ℕ) (groups : List Membership) (members : List Member) (m : Member)
     → numbers ≡ numbers_in (run_attempts_in group members) → AreGrouped groups members → Contains members m
     → is_not_of numbers m ≡ not (is_within group m)
 leaving_told group numbers groups members m is grouped there = ap not (by_test (is_within group m) refl)
@@ -281,10 +242,6 @@ group_told group numbers locks groups prepared active rising are run =
 
 -- ---- members whose groups become one
 
-none_first : (ls : List ℕ) → first_of ls ≡ None → ls ≡ []
-none_first [] none = refl
-none_first (l ∷ ls) none = absurd (none_is_some l (sym none))
-
 pub unlabelled : (xs : List Member) → xs ≡ map (in_joined_group []) xs
 unlabelled [] = refl
 unlabelled (x ∷ xs) = ap (λ ms. x ∷ ms) (unlabelled xs)
@@ -306,7 +263,7 @@ module _ (merging : Merging) where
   members = merging.prepared ++ merging.active
 
   -- the labels of the groups that became one
-  abbrev own : List ℕ
+  abbrev pub own : List ℕ
   own = labels_in merging.numbers members
 
   after : (x : ℕ) (ls : List ℕ) → own ≡ ls
@@ -348,50 +305,3 @@ module _ (merging : Merging) where
   pub joined_with : IsRunWith merging.locks merging.new (map (in_joined_group own) merging.prepared)
       (map (in_joined_group own) merging.active)
   joined_with = by_labels own refl
-
-  -- where nobody is answered, the run is as it was
-  pub as_before : None ≡ first_of own → IsRunWith merging.locks merging.new merging.prepared merging.active
-      × JoinGroups own (run_of merging.prepared merging.active) (run_of merging.prepared merging.active)
-  as_before none =
-      let unjoined : own ≡ [] = none_first own (sym none) in (
-        subst (λ ms. IsRunWith merging.locks merging.new ms merging.active) (sym (unlabelled merging.prepared))
-            (subst (λ ms. IsRunWith merging.locks merging.new (map (in_joined_group []) merging.prepared) ms)
-            (sym (unlabelled merging.active)) (by_labels [] unjoined)),
-        record {
-          prepared = unlabelled merging.prepared
-              ∙ ap (λ ls. map (in_joined_group ls) merging.prepared) (sym unjoined);
-          active = unlabelled merging.active
-              ∙ ap (λ ls. map (in_joined_group ls) merging.active) (sym unjoined);
-        },
-      )
-
-  labelled_by : (label : ℕ) (group ls : List ℕ) → own ≡ ls → first_of ls ≡ Some label
-      → ((x : ℕ) → Contains group x ↔ (group_of merging.new x ≡ Some label)) → (some : List Member)
-      → ((m : Member) → Contains some m → Contains members m)
-      → map (labelled group label) some ≡ map (in_joined_group ls) some
-  labelled_by label group [] are first members_are some inside = absurd (none_is_some label first)
-  labelled_by label group (head ∷ more) are first members_are some inside =
-      let same : head ≡ label = some_same head label first in
-      ap (λ n. map (labelled group n) some) (sym same)
-      ∙ members_joined head more merging.groups merging.new (λ x. after x (head ∷ more) are) group some
-      (λ x there. (members_are x).0 there ∙ ap Some (sym same))
-      (λ x is_head. (members_are x).1 (is_head ∙ ap Some same))
-      (λ m there. label_is m (inside m there))
-
-  -- the members of the group that is made have its label
-  pub with_labels : (label : ℕ) (group : List ℕ) → Some label ≡ first_of own
-      → ((x : ℕ) → Contains group x ↔ (group_of merging.new x ≡ Some label))
-      → IsRunWith merging.locks merging.new (map (labelled group label) merging.prepared)
-      (map (labelled group label) merging.active)
-      × JoinGroups own (run_of merging.prepared merging.active)
-      (run_of (map (labelled group label) merging.prepared) (map (labelled group label) merging.active))
-  with_labels label group is members_are =
-      let first = labelled_by label group own refl (sym is) members_are merging.prepared
-      (λ m there. Contains-append_left merging.prepared merging.active m there) in
-      let second = labelled_by label group own refl (sym is) members_are merging.active
-      (λ m there. Contains-append_right merging.prepared merging.active m there) in (
-        subst (λ ms. IsRunWith merging.locks merging.new ms (map (labelled group label) merging.active)) (sym first)
-            (subst (λ ms. IsRunWith merging.locks merging.new (map (in_joined_group own) merging.prepared) ms)
-            (sym second) joined_with),
-        record { prepared = first; active = second },
-      )

@@ -1,19 +1,24 @@
 -- Who waits for whom: pairs made by holders are those made by who is waited for.
-use Rattle.std.proofs.Common.{◌≡◌, ◌⊎◌, inl, inr, ℕ, Bool, true, false, not, ◌==◌, ◌&&◌, ◌||◌}
+use Rattle.std.proofs.Common.{◌≡◌, ◌⊎◌, inl, inr, ℕ, Bool, true, false, not, ◌==◌}
 use Rattle.std.proofs.Common.{if◌then◌else◌, List, [], ◌∷◌, ◌++◌, map, refl, sym, ap, subst, ◌∙◌}
-use Rattle.std.specs.Prelude.{Contains, filter}
+use Rattle.std.specs.Prelude.{◌↔◌, Contains, IsTrue, Some, filter}
 use Rattle.std.specs.List.{flat_map, list_any}
-use Rattle.std.proofs.lemmas.List.Elements.{Contains-append_cases, filter-append}
-use Rattle.std.proofs.lemmas.List.Folds.{list_any-append}
+use Rattle.std.proofs.lemmas.List.Elements.{Contains-append_cases}
 use Rattle.ent_lists.specs.Elements.{number_itself, same_number}
 use Rattle.ent_protocol.specs.Member.{is_of}
 use Rattle.ent_protocol.specs.State.{State, Member, Use}
 use Rattle.ent_protocol.specs.Uses.{conflicting, is_conflicting, not_passed}
 use Rattle.ent_protocol.specs.Waits.{awaited}
-use Rattle.ent_run.specs.declared.blockers.Passed.TheVariants.{Group, Itself}
-use Rattle.ent_run.specs.Passed.{is_blocking}
-use Rattle.ent_run.specs.Waits.{is_awaited, is_awaited_over, pairs_of, waits_over}
-use Rattle.ent_run.proofs.Conflicting.{filtered_twice}
+use Rattle.ent_group.specs.declared.groups.Membership.{Membership}
+use Rattle.ent_group.specs.Groups.{group_of}
+use Rattle.ent_lock.specs.Use.{Uses}
+use Rattle.ent_members.specs.Order.{tx_of}
+use Rattle.ent_run.specs.Grouped.{IsRunWith}
+use Rattle.ent_run.specs.Locks.{passed_numbers}
+use Rattle.ent_run.specs.Moves.{run_of}
+use Rattle.ent_run.specs.Run.{with_run}
+use Rattle.ent_run.specs.Waits.{IsMadeToWait, is_awaited, is_awaited_over, pairs_of, waits_by, waits_over}
+use Rattle.ent_run.proofs.Blocked.{blocks_conflicting, conflicting_blocks, of_run, others}
 use Rattle.ent_run.proofs.Lists.{contains_none, contains_cases, contains_first, into_filter, out_of_filter, any_of}
 use Rattle.ent_run.proofs.Lists.{some_of, into_map, out_of_map, into_flat_map, out_of_flat_map}
 use Rattle.ent_run.proofs.Locked.{not_true}
@@ -88,32 +93,44 @@ out_of_pairs s asker asked pair h =
 
 -- ---- the test
 
-any_if : (q : Member → Bool) (x : Member) (xs : List Member) (b : Bool)
-    → list_any q (if b then x ∷ xs else xs) ≡ ((b && q x) || list_any q xs)
-any_if q x xs true = refl
-any_if q x xs false = refl
+true_both : (a b : Bool) → (a ≡ true → b ≡ true) → (b ≡ true → a ≡ true) → a ≡ b
+true_both true b into out = sym (into refl)
+true_both false true into out = out refl
+true_both false false into out = refl
 
-any_filter : (p q : Member → Bool) (xs : List Member) → list_any q (filter p xs) ≡ list_any (λ x. p x && q x) xs
-any_filter p q [] = refl
-any_filter p q (x ∷ xs) = any_if q x (filter p xs) (p x) ∙ ap (λ b. (p x && q x) || b) (any_filter p q xs)
+module _ (locks : Uses) (groups : List Membership) (prepared active : List Member)
+    (run : IsRunWith locks groups prepared active) (asker : Member) where
+  label : (m : Member) → Contains (prepared ++ active) m → group_of groups m.tx ≡ Some m.group
+  label m there = (run.1.labels m.tx m.group).1 (m, there, refl, refl)
 
-pub awaited_by_lists : (asked : List Use) (group tx : ℕ) (other : Member) (prepared active : List Member)
-    → (list_any (is_awaited_over asked (Group group) group other) prepared
-    || list_any (is_awaited_over asked (Itself tx) group other) active)
-    ≡ list_any (waits_over group other) (filter (is_conflicting asked)
-    (filter (λ (holder : Member). not (holder.group == group)) prepared
-    ++ filter (λ (holder : Member). not (holder.tx == tx)) active))
-awaited_by_lists asked group tx other prepared active =
-    let q = waits_over group other in
-    let passing = filter (λ (holder : Member). not (holder.group == group)) prepared in
-    let others = filter (λ (holder : Member). not (holder.tx == tx)) active in
-    sym (ap (list_any q) (filter-append (is_conflicting asked) passing others)
-    ∙ list_any-append q (filter (is_conflicting asked) passing) (filter (is_conflicting asked) others)
-    ∙ ap (λ ms. list_any q ms || list_any q (filter (is_conflicting asked) others))
-    (sym (filtered_twice asked (Group group) prepared))
-    ∙ ap (λ ms. list_any q (filter (is_blocking asked (Group group)) prepared) || list_any q ms)
-    (sym (filtered_twice asked (Itself tx) active))
-    ∙ ap (λ b. b || list_any q (filter (is_blocking asked (Itself tx)) active))
-    (any_filter (is_blocking asked (Group group)) q prepared)
-    ∙ ap (λ b. list_any (is_awaited_over asked (Group group) group other) prepared || b)
-    (any_filter (is_blocking asked (Itself tx)) q active))
+  pub waits_as : (asked : List Use) (other : Member) (s : State) (b : Bool)
+      → IsTrue b ↔ IsMadeToWait locks groups asked (passed_numbers asker (run_of prepared active)) asker.group other
+      → b ≡ is_awaited (with_run (run_of prepared active) s) asker asked other
+  waits_as asked other s b is = true_both b (list_any (waits_over asker.group other) way) into out
+    where
+      way : List Member
+      way = filter (is_conflicting asked) (others locks prepared active run.0 asker)
+
+      into : b ≡ true → list_any (waits_over asker.group other) way ≡ true
+      into holds =
+          let over = is.0 holds in
+          let one = out_of_map tx_of way over.0
+          (blocks_conflicting locks prepared active run.0 asker asked over.0 over.1) in
+          let m = one.0 in
+          let inside = of_run locks prepared active run.0 asker m
+          (out_of_filter (is_conflicting asked) (others locks prepared active run.0 asker) m one.1).0 in
+          any_of (waits_over asker.group other) way m one.1
+          (ap (waits_by asker.group other m.tx) (sym (label m inside))
+          ∙ ap (λ (v : ℕ). is_awaited_over groups asker.group other v) one.2 ∙ over.2)
+
+      out : list_any (waits_over asker.group other) way ≡ true → b ≡ true
+      out any =
+          let one = some_of (waits_over asker.group other) way any in
+          let m = one.0 in
+          let inside = of_run locks prepared active run.0 asker m
+          (out_of_filter (is_conflicting asked) (others locks prepared active run.0 asker) m one.1).0 in
+          is.1 (
+            m.tx,
+            conflicting_blocks locks prepared active run.0 asker asked m.tx (into_map tx_of way m one.1),
+            ap (waits_by asker.group other m.tx) (label m inside) ∙ one.2,
+          )

@@ -4,7 +4,8 @@ use Rattle.ent_group.specs.declared.groups.Membership.{Membership}
 use Rattle.ent_group.specs.Groups.{group_of}
 use Rattle.ent_lock.specs.Use.{Uses}
 use Rattle.ent_protocol.specs.State.{Member}
-use Rattle.ent_run.specs.Joined.{is_one_of}
+use Rattle.ent_members.specs.InRun.{AreByNumber}
+use Rattle.ent_run.specs.InRuns.{in_runs}
 use Rattle.ent_run.specs.Locks.{IsLockedRun}
 
 -- a member of this number has this label
@@ -25,11 +26,13 @@ pub record AreGrouped (groups : List Membership) (members : List Member) : Type 
 abbrev pub IsRunWith : Uses → List Membership → List Member → List Member → Type 0
 IsRunWith locks groups prepared active = IsLockedRun locks prepared active × AreGrouped groups (prepared ++ active)
 
+-- what members have themselves is that of the members of a run, with these locks and groups; tables are locked by their
+-- numbers
+abbrev pub IsRunOf : Uses → List Membership → List Member → List Member → Type 0
+IsRunOf locks groups prepared active =
+    IsRunWith locks groups (in_runs locks groups prepared) (in_runs locks groups active) × AreByNumber locks
+
 -- a label, unless it is that of the group that leaves
 abbrev pub unless_gone : ℕ → Option ℕ → Option ℕ
 unless_gone gone None = None
 unless_gone gone (Some group) = if group == gone then None else Some group
-
--- a member of one of these numbers gets a label
-abbrev pub labelled : List ℕ → ℕ → Member → Member
-labelled numbers label member = if is_one_of numbers member then record member { group = label } else member

@@ -1,6 +1,6 @@
 pub mod Run
 pub mod Places
-pub mod Passed
+pub mod InRuns
 pub mod Moves
 pub mod Joined
 pub mod Grouped

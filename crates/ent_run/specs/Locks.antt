@@ -3,8 +3,7 @@ use Rattle.std.specs.Prelude.{◌≡◌, ◌⊎◌, ◌↔◌, ℕ, List, ◌++�
 use Rattle.std.specs.List.{IsDistinct}
 use Rattle.ent_lock.specs.declared.mode.Mode.{Mode}
 use Rattle.ent_lock.specs.Use.{Uses, Holds, InConflictAt, key_of_number}
-use Rattle.ent_run.specs.declared.blockers.Passed.TheVariants.{Group, Itself}
-use Rattle.ent_run.specs.Passed.{is_passed}
+use Rattle.ent_protocol.specs.Member.{is_of, is_tx}
 use Rattle.ent_members.specs.Order.{tx_of}
 use Rattle.ent_run.specs.Run.{Run, IsRun}
 use Rattle.ent_protocol.specs.State.{Member, Use}
@@ -42,8 +41,7 @@ Locks tx asked old new =
 -- the numbers of those that an asker passes: the prepared members of its group, and itself
 abbrev pub passed_numbers : Member → Run → List ℕ
 passed_numbers asker run =
-    map tx_of (filter (is_passed (Group asker.group)) run.prepared)
-    ++ map tx_of (filter (is_passed (Itself asker.tx)) run.active)
+    map tx_of (filter (is_of asker.group) run.prepared) ++ map tx_of (filter (is_tx asker.tx) run.active)
 
 -- a transaction that isn't passed holds a use in conflict with one that is asked for
 abbrev pub BlocksUses : Uses → List Use → List ℕ → ℕ → Type 0

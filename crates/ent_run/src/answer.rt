@@ -7,7 +7,7 @@ ghost use Rattle.ent_members.specs.Order.{tx_of};
 
 use crate::search::place_of;
 use ent_group::Tx;
-use ent_members::{Member, MemberAnswer};
+use ent_members::{MemberAnswer, Progress};
 use std::alloc::{AllocError, Global};
 
 /// The numbers of those who are answered.
@@ -23,7 +23,7 @@ pub(crate) fn numbers_of(alloc: Global, given: &[MemberAnswer]) -> Result<Vec<Tx
 
 /// Each member takes its answer. Where memory runs out those who took theirs go back.
 pub(crate) fn answer_each(
-    members: &mut [Member],
+    members: &mut [Progress],
     given: &mut Vec<MemberAnswer>,
 ) -> Result<(), AllocError>
     requires members { IsDistinct nat_eq (map tx_of members.old) }

@@ -2,41 +2,29 @@
 ghost use Rattle.std.specs.Prelude.{◌≡◌, ◌<◌, ℕ, length, map, OnOk, OnErr, nat_eq};
 ghost use Rattle.std.specs.List.{IsDistinct};
 ghost use Rattle.ent_protocol.specs.Finish.{stepped};
-ghost use Rattle.ent_members.specs.Changes.{holding_all, posting_all, stepping};
+ghost use Rattle.ent_members.specs.Changes.{posted, stepping};
 ghost use Rattle.ent_run.specs.Places.{Changes, IsAt};
 ghost use Rattle.ent_members.specs.Order.{tx_of};
 
 use crate::search::place_of;
 use ent_group::Tx;
-use ent_members::{Member, Use};
+use ent_members::Progress;
 use ent_semantics::Answer;
 use ent_value::{Name, Value};
 use std::alloc::AllocError;
 
-/// The member at an index holds these uses.
-pub(crate) fn hold(members: &mut [Member], at: usize, uses: Vec<Use>)
+/// The statement of the member at an index is posted.
+pub(crate) fn post(members: &mut [Progress], at: usize)
     requires within { at < length members.old }
     requires distinct { IsDistinct nat_eq (map tx_of members.old) }
-    ensures changed { (tx : ℕ) → IsAt members.old tx at
-        → Changes (holding_all uses.items) tx members.old members.new }
+    ensures changed { (tx : ℕ) → IsAt members.old tx at → Changes posted tx members.old members.new }
     ensures numbers { map tx_of members.new ≡ map tx_of members.old }
 {
-    members[at].hold(uses);
-}
-
-/// The member at an index holds these uses, and its statement is posted.
-pub(crate) fn post(members: &mut [Member], at: usize, uses: Vec<Use>)
-    requires within { at < length members.old }
-    requires distinct { IsDistinct nat_eq (map tx_of members.old) }
-    ensures changed { (tx : ℕ) → IsAt members.old tx at
-        → Changes (posting_all uses.items) tx members.old members.new }
-    ensures numbers { map tx_of members.new ≡ map tx_of members.old }
-{
-    members[at].post(uses);
+    members[at].post();
 }
 
 /// The member of a number takes the answer of its statement, and is at the next one.
-pub(crate) fn step(members: &mut [Member], tx: Tx, answer: Answer) -> Result<(), AllocError>
+pub(crate) fn step(members: &mut [Progress], tx: Tx, answer: Answer) -> Result<(), AllocError>
     requires { IsDistinct nat_eq (map tx_of members.old) }
     ensures ok { OnOk result (Changes (stepped answer) tx members.old members.new) }
     ensures err { OnErr result (members.new ≡ members.old) }
@@ -50,7 +38,7 @@ pub(crate) fn step(members: &mut [Member], tx: Tx, answer: Answer) -> Result<(),
 
 /// The member of a number takes the answer of its statement, which binds host variables, and is at the next one.
 pub(crate) fn step_bound(
-    members: &mut [Member],
+    members: &mut [Progress],
     tx: Tx,
     answer: Answer,
     bound: Vec<(Name, Value)>,

@@ -1,4 +1,4 @@
-//! The groups of a run's members. [`Groups`] decides who is of one group; each member has the label of its group too.
+//! The groups of a run's members.
 ghost use Rattle.std.specs.Prelude.{◌≡◌, ℕ, ◌+◌, ◌≤◌, ◌∷◌, ◌++◌, ◌↔◌, Contains, IsSome, IsTrue, List, Some, length};
 ghost use Rattle.std.specs.Prelude.{map, filter, nat_eq, not};
 ghost use Rattle.std.specs.List.{AllByRecursion, IsDistinct, filter_map};
@@ -7,14 +7,16 @@ ghost use Rattle.std.specs.Option.{option_map};
 ghost use Rattle.ent_group.specs.Groups.{group_of};
 ghost use Rattle.ent_protocol.specs.PoolEvents.{joined_label};
 ghost use Rattle.ent_protocol.specs.Run.{fresh};
-ghost use Rattle.ent_protocol.specs.State.{Member as Seen, first_of};
-ghost use Rattle.ent_run.specs.Grouped.{AreGrouped, AreNamed, labelled, unless_gone};
+ghost use Rattle.ent_protocol.specs.State.{Member as Seen};
+ghost use Rattle.ent_run.specs.Grouped.{AreGrouped, AreNamed, unless_gone};
+ghost use Rattle.ent_lock.specs.Use.{Uses};
+ghost use Rattle.ent_run.specs.InRuns.{in_runs};
 ghost use Rattle.ent_run.specs.Joined.{is_one_of, labels_in};
 ghost use Rattle.ent_members.specs.Order.{tx_of};
 ghost use Rattle.ent_members.specs.RunAttempts.{is_within};
 
 use ent_group::{Groups, MOST_MEMBERS, Members, Tx};
-use ent_members::{Entrant, Member};
+use ent_members::{Entrant, Progress};
 
 /// Each of those who enter, in a group of its own.
 pub(crate) fn each_alone(entrants: &[Entrant]) -> Groups
@@ -71,7 +73,7 @@ pub(crate) fn leave(groups: &mut Groups, group: Option<Tx>)
     }
 }
 
-fn is_one_of(numbers: &[Tx], member: &Member) -> bool
+fn is_one_of(numbers: &[Tx], member: &Progress) -> bool
     ensures { result ≡ is_one_of numbers.now member.now }
 {
     let tx = member.tx();
@@ -79,7 +81,7 @@ fn is_one_of(numbers: &[Tx], member: &Member) -> bool
 }
 
 /// Puts the numbers of members that are among these to others.
-fn gather_joined(members: &[Member], numbers: &[Tx], joined: &mut Members)
+fn gather_joined(members: &[Progress], numbers: &[Tx], joined: &mut Members)
     requires { length joined.old + length members.now ≤ MOST_MEMBERS }
     ensures list { joined.new ≡ joined.old ++ map tx_of (filter (is_one_of numbers.now) members.now) }
     ensures room { length joined.new ≤ length joined.old + length members.now }
@@ -102,58 +104,33 @@ fn merge_into(groups: &mut Groups, first: Tx, others: &[Tx])
     }
 }
 
-/// Joins the groups of these members, and tells the label of the group that they are in then: the first one's.
-fn merge_all(groups: &mut Groups, joined: &[Tx]) -> Option<Tx>
+/// Joins the groups of these members.
+fn merge_all(groups: &mut Groups, joined: &[Tx])
     requires { AllByRecursion (λ tx. IsSome (group_of groups.old tx)) joined.now }
-    ensures label { result ≡ first_of (filter_map (group_of groups.old) joined.now) }
-    ensures labels { (x : ℕ) → group_of groups.new x
+    ensures { (x : ℕ) → group_of groups.new x
         ≡ option_map (joined_label (filter_map (group_of groups.old) joined.now)) (group_of groups.old x) }
 {
-    let (first, others) = joined.split_first()?;
-    merge_into(groups, *first, others);
-    groups.group_of(*first)
+    if let Some((first, others)) = joined.split_first() {
+        merge_into(groups, *first, others);
+    }
 }
 
-/// Joins the groups of a run's members that are answered, and tells the label that they have then; there is None if
-/// nobody is answered.
+/// Joins the groups of a run's members that are answered.
 pub(crate) fn merge_answered(
     groups: &mut Groups,
-    prepared: &[Member],
-    active: &[Member],
+    prepared: &[Progress],
+    active: &[Progress],
     answered: &[Tx],
-) -> Option<Tx>
+)
     requires bound { length prepared.now + length active.now ≤ MOST_MEMBERS }
-    requires grouped { AreGrouped groups.old (prepared.now ++ active.now) }
-    ensures label { result ≡ first_of (labels_in answered.now (prepared.now ++ active.now)) }
-    ensures labels { (x : ℕ) → group_of groups.new x
-        ≡ option_map (joined_label (labels_in answered.now (prepared.now ++ active.now))) (group_of groups.old x) }
+    requires members { (tx : ℕ) → Contains (map tx_of (prepared.now ++ active.now)) tx
+        → IsSome (group_of groups.old tx) }
+    ensures { (locks : Uses) (x : ℕ) → group_of groups.new x
+        ≡ option_map (joined_label (labels_in answered.now (in_runs locks groups.old (prepared.now ++ active.now))))
+        (group_of groups.old x) }
 {
     let mut joined = Members::new();
     gather_joined(prepared, answered, &mut joined);
     gather_joined(active, answered, &mut joined);
-    merge_all(groups, joined.as_slice())
-}
-
-/// A member of one of these numbers gets a label.
-fn label_one(member: &mut Member, numbers: &Members, label: Tx)
-    ensures { member.new ≡ labelled numbers.now label member.old }
-{
-    if numbers.contains(member.tx()) {
-        member.set_group(label);
-    }
-}
-
-/// Members of these numbers get a label.
-pub(crate) fn set_labels(members: &mut Vec<Member>, numbers: &Members, label: Tx)
-    ensures { members.new.items ≡ map (labelled numbers.now label) members.old.items }
-{
-    label_each(members.as_mut_slice(), numbers, label);
-}
-
-fn label_each(members: &mut [Member], numbers: &Members, label: Tx)
-    ensures { members.new ≡ map (labelled numbers.now label) members.old }
-{
-    for member in members.iter_mut() {
-        label_one(member, numbers, label);
-    }
+    merge_all(groups, joined.as_slice());
 }

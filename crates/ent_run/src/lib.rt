@@ -15,8 +15,8 @@ mod moves;
 mod run;
 mod search;
 mod start;
+mod waits;
 
-pub use blockers::waits_over;
 pub use law::awaited_members_are_waited_for;
 pub use run::Run;
 pub use search::member_numbers;

@@ -1,6 +1,7 @@
 //! The lock table of a run.
 ghost use Rattle.std.specs.Prelude.{◌≡◌, map, IfOk, OnOk, OnErr};
 ghost use Rattle.ent_lock.specs.Use.{IsLeastIfAny};
+ghost use Rattle.ent_members.specs.InRun.{AreByNumber};
 ghost use Rattle.ent_run.specs.Locks.{BlocksUses, Locks, lock_of};
 
 use ent_group::{Members, Tx};
@@ -44,6 +45,7 @@ pub(crate) fn lock(
     asked: &[Use],
 ) -> Result<(), AllocError>
     ensures ok { OnOk result (Locks tx asked.now locks.old locks.new) }
+    ensures by_number { OnOk result (AreByNumber locks.old → AreByNumber locks.new) }
     ensures err { OnErr result (locks.new ≡ locks.old) }
 {
     let uses = locks_of(alloc, asked)?;

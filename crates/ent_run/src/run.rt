@@ -1,12 +1,12 @@
 //! The members of a run.
 ghost use Rattle.std.specs.Prelude.{◌≡◌, ℕ, ◌+◌, ◌<◌, ◌≤◌, ◌==◌, ◌++◌, [], length, map, filter, nat_eq, not, true};
-ghost use Rattle.std.specs.Prelude.{false, List, IfOk, OnOk, OnErr, None, IfSome, IsSome, IsNone, slice_index_or};
+ghost use Rattle.std.specs.Prelude.{false, List, IfOk, OnOk, OnErr, None, Some, IfSome, IsSome, IsNone, IsTrue};
+ghost use Rattle.std.specs.Prelude.{◌↔◌, Contains, slice_index_or};
 ghost use Rattle.std.specs.List.{IsDistinct, list_any};
-ghost use Rattle.std.specs.Option.{option_copied};
 ghost use Rattle.std.specs.Vec.{vec_capacity};
 ghost use Rattle.ent_coordination.specs.Pool.{Posted};
 ghost use Rattle.ent_protocol.specs.Begin.{holding};
-ghost use Rattle.ent_protocol.specs.Commit.{committing_members, is_ready};
+ghost use Rattle.ent_protocol.specs.Commit.{committing_members, entry_of, is_ready};
 ghost use Rattle.ent_protocol.specs.Finish.{stepped};
 ghost use Rattle.ent_protocol.specs.Lookup.{member_of, running_members};
 ghost use Rattle.ent_protocol.specs.Member.{active_member, is_of, is_prepared};
@@ -20,7 +20,9 @@ ghost use Rattle.ent_run.specs.Answered.{AnswerTogether, IsJoining, answered_fro
 ghost use Rattle.ent_members.specs.Changes.{posting, stepping};
 ghost use Rattle.ent_run.specs.Joined.{JoinGroups, labels_in};
 ghost use Rattle.ent_members.specs.RunAttempts.{numbers_in, run_attempt_of, run_attempts_in};
-ghost use Rattle.ent_run.specs.Locks.{passed_numbers};
+ghost use Rattle.ent_lock.specs.declared.mode.Mode.{Mode};
+ghost use Rattle.ent_run.specs.Grouped.{IsLabelled};
+ghost use Rattle.ent_run.specs.Locks.{IsHeld, passed_numbers, use_of};
 ghost use Rattle.ent_run.specs.Moves.{Leave, Prepares, is_not_of, is_of_another};
 ghost use Rattle.ent_run.specs.Places.{Changes, IsAt, found};
 ghost use Rattle.ent_members.specs.Order.{tx_of};
@@ -28,19 +30,20 @@ ghost use Rattle.ent_run.specs.Run.{with_run};
 ghost use Rattle.ent_run.specs.Waits.{is_awaited};
 
 use crate::answer::{answer_each, numbers_of};
-use crate::blockers::{Passed, gather_passed, is_awaited_over, pass_itself};
+use crate::blockers::{gather_group, pass_itself};
 use crate::change;
-use crate::groups::{each_alone, leave, members_of, merge_answered, remove_labelled, set_labels};
+use crate::groups::{each_alone, leave, members_of, merge_answered, remove_labelled};
 use crate::locks::{least_in_conflict, lock};
 use crate::moves::{any_of, prepare, remove, take_group};
 use crate::search::{is_among, member_by_number, member_in, member_numbers, place_by_number};
 use crate::start::fresh_members;
+use crate::waits::awaits;
 use ent_closed::Statement;
 use ent_group::{Groups, MOST_MEMBERS, Members, Tx};
-use ent_lock::LockTable;
+use ent_lock::{Holder, LockTable};
 use ent_members::{
-    Entrant, Member, MemberAnswer, RunAttempts, Use, exclusive_table, gather, gather_by_number,
-    statement_uses, with_uses,
+    Entrant, Member, MemberAnswer, Progress, RunAttempts, Use, exclusive_table, gather,
+    gather_by_number, statement_uses,
 };
 use ent_semantics::Answer;
 use ent_value::{Name, Value};
@@ -48,25 +51,29 @@ use std::alloc::{AllocError, Global};
 use std::marker::Model;
 
 /// The members of a run, up to [`MOST_MEMBERS`]: those that are prepared, in the order in which they prepared, and the
-/// others, which are active. The lock table has the uses of them all, and the groups have their labels.
+/// others, which are active. The lock table alone says what they hold, and the groups alone who is of one group.
 #[derive(Drop)]
 pub struct Run {
     alloc: Global,
-    prepared: Vec<Member>,
-    active: Vec<Member>,
+    prepared: Vec<Progress>,
+    active: Vec<Progress>,
     locks: LockTable<usize>,
     groups: Groups,
 }
 
 impl Model for Run {
-    ghost use Rattle.ent_run.specs.Grouped.{IsRunWith};
+    ghost use Rattle.ent_run.specs.Grouped.{IsRunOf};
+    ghost use Rattle.ent_run.specs.InRuns.{in_runs};
     ghost use Rattle.ent_run.specs.Run.{Run as Seen};
 
     ghost Value = { Seen };
 
-    ghost view = { λ r. record { prepared = r.prepared.items; active = r.active.items } };
+    ghost view = { λ r. record {
+      prepared = in_runs r.locks r.groups r.prepared.items;
+      active = in_runs r.locks r.groups r.active.items;
+    } };
 
-    ghost invariant = { λ r. IsRunWith r.locks r.groups r.prepared.items r.active.items };
+    ghost invariant = { λ r. IsRunOf r.locks r.groups r.prepared.items r.active.items };
 }
 
 impl Run {
@@ -114,26 +121,23 @@ impl Run {
         self.len() == 0
     }
 
-    /// The members that are prepared, in the order in which they prepared.
-    pub fn prepared(&self) -> &[Member]
-        ensures { result.now ≡ self.now.prepared }
-    {
-        self.prepared.as_slice()
-    }
-
-    /// The other members.
-    pub fn active(&self) -> &[Member]
-        ensures list { result.now ≡ self.now.active }
+    /// How many members aren't prepared. No two of them have one number.
+    pub fn active_len(&self) -> usize
+        ensures len { result ≡ length self.now.active }
+        ensures bound { length self.now.active ≤ MOST_MEMBERS }
         ensures distinct { IsDistinct nat_eq (map tx_of self.now.active) }
     {
-        self.active.as_slice()
+        self.active.len()
     }
 
     /// The member of a number that isn't prepared.
-    pub fn active_member(&self, tx: Tx) -> Option<&Member>
-        ensures { (s : State) → option_copied result ≡ active_member (with_run self.now s) tx }
+    pub fn active_member(&self, tx: Tx) -> Option<Member<'_>>
+        ensures { (s : State) → result ≡ active_member (with_run self.now s) tx }
     {
-        member_by_number(self.active.as_slice(), tx)
+        match member_by_number(self.active.as_slice(), tx) {
+            Some(own) => Some(Member::new(own, &self.locks, &self.groups)),
+            None => None,
+        }
     }
 
     /// The place of the member of a number, among those that aren't prepared.
@@ -145,28 +149,29 @@ impl Run {
     }
 
     /// The member at a place of those that aren't prepared.
-    pub fn at(&self, place: usize) -> &Member
+    pub fn at(&self, place: usize) -> Member<'_>
         requires { place < length self.now.active }
-        ensures { (d : Seen) → result.now ≡ slice_index_or self.now.active place d }
+        ensures { (d : Seen) → result ≡ slice_index_or self.now.active place d }
     {
-        &self.active.as_slice()[place]
+        Member::new(&self.active.as_slice()[place], &self.locks, &self.groups)
     }
 
     /// The member of a number, prepared or not.
-    pub fn member(&self, tx: Tx) -> Option<&Member>
-        ensures { (s : State) → option_copied result ≡ member_of (with_run self.now s) tx }
+    pub fn member(&self, tx: Tx) -> Option<Member<'_>>
+        ensures { (s : State) → result ≡ member_of (with_run self.now s) tx }
     {
-        match member_in(self.prepared(), tx) {
-            Some(member) => Some(member),
-            None => member_by_number(self.active.as_slice(), tx),
+        match member_in(self.prepared.as_slice(), tx) {
+            Some(own) => Some(Member::new(own, &self.locks, &self.groups)),
+            None => self.active_member(tx),
         }
     }
 
-    /// Whether the member of a number is prepared.
+    /// Whether the member of a number is prepared. Then no other one has the number.
     pub fn is_prepared(&self, tx: Tx) -> bool
-        ensures { (s : State) → result ≡ is_prepared (with_run self.now s) tx }
+        ensures prepared { (s : State) → result ≡ is_prepared (with_run self.now s) tx }
+        ensures apart { (s : State) → IsTrue result → active_member (with_run self.now s) tx ≡ None }
     {
-        is_among(self.prepared(), tx)
+        is_among(self.prepared.as_slice(), tx)
     }
 
     /// All members, by number.
@@ -183,11 +188,31 @@ impl Run {
         members_of(&self.groups, group)
     }
 
+    /// The label of a member's group; none where no member has the number.
+    pub fn label_of(&self, tx: Tx) -> Option<Tx>
+        ensures { (group : ℕ) → (result ≡ Some group) ↔ IsLabelled (self.now.prepared ++ self.now.active) tx group }
+    {
+        self.groups.group_of(tx)
+    }
+
+    /// The members that hold a table, and how, in no order.
+    pub fn holders(&self, table: usize) -> &[Holder]
+        ensures { (tx : ℕ) (mode : Mode) → Contains result.now (record { holder = tx; mode = mode })
+            ↔ IsHeld (self.now.prepared ++ self.now.active) tx (use_of table mode) }
+    {
+        self.locks.holders(&table)
+    }
+
     fn run_attempts(&self, group: Option<Tx>) -> RunAttempts
         ensures { result ≡ run_attempts_in group (self.now.prepared ++ self.now.active) }
     {
-        let mut run_attempts = gather_by_number(self.active.as_slice(), group);
-        gather(self.prepared.as_slice(), group, &mut run_attempts);
+        let mut run_attempts = gather_by_number(self.active.as_slice(), &self.groups, group);
+        gather(
+            self.prepared.as_slice(),
+            &self.groups,
+            group,
+            &mut run_attempts,
+        );
         run_attempts
     }
 
@@ -196,9 +221,13 @@ impl Run {
         ensures { result ≡ passed_numbers asker.now self.now }
     {
         let mut pass = Members::new();
-        let group = Passed::Group(asker.group());
-        gather_passed(self.prepared.as_slice(), group, &mut pass);
-        pass_itself(self.active.as_slice(), asker, &mut pass);
+        gather_group(
+            self.prepared.as_slice(),
+            &self.groups,
+            asker.group(),
+            &mut pass,
+        );
+        pass_itself(self.active.as_slice(), asker.tx(), &mut pass);
         pass
     }
 
@@ -232,15 +261,15 @@ impl Run {
     pub fn awaits(&self, asker: &Member, asked: &[Use], other: &Member) -> bool
         ensures { (s : State) → result ≡ is_awaited (with_run self.now s) asker.now asked.now other.now }
     {
-        let group = asker.group();
-        is_awaited_over(self.prepared(), asked, Passed::Group(group), group, other)
-            || is_awaited_over(
-                self.active(),
-                asked,
-                Passed::Itself(asker.tx()),
-                group,
-                other,
-            )
+        let pass = self.passed_by(asker);
+        awaits(
+            &self.locks,
+            asked,
+            &pass,
+            &self.groups,
+            asker.group(),
+            other,
+        )
     }
 
     /// The member at a place of those that aren't prepared holds the uses that are asked for too. Where memory runs out
@@ -252,12 +281,8 @@ impl Run {
         ensures prepared { self.new.prepared ≡ self.old.prepared }
         ensures err { OnErr result (self.new ≡ self.old) }
     {
-        let member = self.at(place);
-        let tx = member.tx();
-        let uses = with_uses(self.alloc, member.uses(), asked)?;
-        lock(&mut self.locks, self.alloc, tx, asked)?;
-        change::hold(self.active.as_mut_slice(), place, uses);
-        Ok(())
+        let tx = self.active.as_slice()[place].tx();
+        lock(&mut self.locks, self.alloc, tx, asked)
     }
 
     /// The member at a place of those that aren't prepared holds the uses that are asked for too, and its next
@@ -269,11 +294,9 @@ impl Run {
         ensures prepared { self.new.prepared ≡ self.old.prepared }
         ensures err { OnErr result (self.new ≡ self.old) }
     {
-        let member = self.at(place);
-        let tx = member.tx();
-        let uses = with_uses(self.alloc, member.uses(), asked)?;
+        let tx = self.active.as_slice()[place].tx();
         lock(&mut self.locks, self.alloc, tx, asked)?;
-        change::post(self.active.as_mut_slice(), place, uses);
+        change::post(self.active.as_mut_slice(), place);
         Ok(())
     }
 
@@ -318,19 +341,14 @@ impl Run {
     fn is_ready(&self, group: Tx) -> bool
         ensures { result ≡ not (list_any (is_of group) self.now.active) }
     {
-        !any_of(self.active(), group)
+        !any_of(self.active.as_slice(), &self.groups, group)
     }
 
     fn join(&mut self, numbers: &[Tx])
         ensures { JoinGroups (labels_in numbers.now (self.old.prepared ++ self.old.active)) self.old self.new }
     {
         let (prepared, active) = (self.prepared.as_slice(), self.active.as_slice());
-        let Some(label) = merge_answered(&mut self.groups, prepared, active, numbers) else {
-            return;
-        };
-        let group = members_of(&self.groups, label);
-        set_labels(&mut self.prepared, &group, label);
-        set_labels(&mut self.active, &group, label);
+        merge_answered(&mut self.groups, prepared, active, numbers);
     }
 
     fn answer_active(&mut self, given: Vec<MemberAnswer>) -> Result<(), AllocError>
@@ -360,14 +378,16 @@ impl Run {
     }
 
     /// The group with a label commits, if every member of it is prepared: its members leave the run, in the order in
-    /// which they prepared, and come in the room that is made for them. If one isn't prepared, there is None, and
-    /// nothing changes. It takes no memory.
-    pub fn commit(&mut self, group: Tx, room: Vec<Member>) -> Option<Vec<Member>>
+    /// which they prepared, and what each had itself comes in the room that is made for them. If one isn't prepared,
+    /// there is None, and nothing changes. It takes no memory.
+    pub fn commit(&mut self, group: Tx, room: Vec<Progress>) -> Option<Vec<Progress>>
         requires empty { room.items ≡ [] }
         requires room { MOST_MEMBERS ≤ vec_capacity room }
         ensures ready { IsSome result → (s : State) → is_ready (with_run self.old s) group ≡ true }
-        ensures committed { (s : State) → IfSome result (λ committed.
-            committed.items ≡ committing_members (with_run self.old s) group) }
+        ensures entries { (s : State) → IfSome result (λ committed.
+            map entry_of committed.items ≡ map entry_of (committing_members (with_run self.old s) group)) }
+        ensures attempts { (s : State) → IfSome result (λ committed. map run_attempt_of committed.items
+            ≡ map run_attempt_of (committing_members (with_run self.old s) group)) }
         ensures bound { IfSome result (λ committed. length committed.items ≤ MOST_MEMBERS) }
         ensures prepared { IsSome result → self.new.prepared ≡ filter (is_of_another group) self.old.prepared }
         ensures active { IsSome result → self.new.active ≡ self.old.active }
@@ -378,7 +398,7 @@ impl Run {
             return None;
         }
         let mut committed = room;
-        take_group(&mut self.prepared, group, &mut committed);
+        take_group(&mut self.prepared, &self.groups, group, &mut committed);
         self.locks.drop_group(&member_numbers(committed.as_slice()));
         remove_labelled(&mut self.groups, group);
         Some(committed)

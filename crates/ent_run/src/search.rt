@@ -8,10 +8,10 @@ ghost use Rattle.ent_members.specs.Order.{IsAscending, tx_of};
 ghost use Rattle.ent_run.specs.Places.{IsAt};
 
 use ent_group::{MOST_MEMBERS, Members, Tx};
-use ent_members::Member;
+use ent_members::Progress;
 
 /// The first member of a number.
-pub(crate) fn member_in<'a>(members: &'a [Member], tx: Tx) -> Option<&'a Member>
+pub(crate) fn member_in<'a>(members: &'a [Progress], tx: Tx) -> Option<&'a Progress>
     ensures { option_copied result ≡ first_of (filter (is_tx tx) members.now) }
 {
     for member in members {
@@ -23,7 +23,7 @@ pub(crate) fn member_in<'a>(members: &'a [Member], tx: Tx) -> Option<&'a Member>
 }
 
 /// The index of the member of a number, in a list by number.
-pub(crate) fn place_by_number(members: &[Member], tx: Tx) -> Option<usize>
+pub(crate) fn place_by_number(members: &[Progress], tx: Tx) -> Option<usize>
     requires { IsAscending (map tx_of members.now) }
     ensures some { IfSome result (IsAt members.now tx) }
     ensures none { IsNone result → first_of (filter (is_tx tx) members.now) ≡ None }
@@ -35,7 +35,7 @@ pub(crate) fn place_by_number(members: &[Member], tx: Tx) -> Option<usize>
 }
 
 /// The member of a number, in a list by number.
-pub(crate) fn member_by_number<'a>(members: &'a [Member], tx: Tx) -> Option<&'a Member>
+pub(crate) fn member_by_number<'a>(members: &'a [Progress], tx: Tx) -> Option<&'a Progress>
     requires { IsAscending (map tx_of members.now) }
     ensures { option_copied result ≡ first_of (filter (is_tx tx) members.now) }
 {
@@ -46,7 +46,7 @@ pub(crate) fn member_by_number<'a>(members: &'a [Member], tx: Tx) -> Option<&'a 
 }
 
 /// The index of the first member of a number.
-pub(crate) fn place_of(members: &[Member], tx: Tx) -> Option<usize>
+pub(crate) fn place_of(members: &[Progress], tx: Tx) -> Option<usize>
     ensures some { IfSome result (IsAt members.now tx) }
     ensures none { IsNone result → first_of (filter (is_tx tx) members.now) ≡ None }
 {
@@ -59,14 +59,14 @@ pub(crate) fn place_of(members: &[Member], tx: Tx) -> Option<usize>
 }
 
 /// Whether a member has a number.
-pub(crate) fn is_among(members: &[Member], tx: Tx) -> bool
+pub(crate) fn is_among(members: &[Progress], tx: Tx) -> bool
     ensures { result ≡ list_any (is_tx tx) members.now }
 {
     members.iter().any(|member| member.tx() == tx)
 }
 
 /// The numbers of members, in their order.
-pub fn member_numbers(members: &[Member]) -> Members
+pub fn member_numbers(members: &[Progress]) -> Members
     requires { length members.now ≤ MOST_MEMBERS }
     ensures { result ≡ map tx_of members.now }
 {

@@ -5,11 +5,11 @@ ghost use Rattle.ent_protocol.specs.State.{by_number, inserted};
 ghost use Rattle.ent_members.specs.Order.{place_in, tx_of};
 
 use ent_group::Tx;
-use ent_members::{Entrant, Member};
+use ent_members::{Entrant, Progress};
 use std::alloc::{AllocError, Global};
 
 /// The index of the first member of a greater number, or else the length.
-fn place_for(members: &[Member], tx: Tx) -> usize
+fn place_for(members: &[Progress], tx: Tx) -> usize
     ensures { result ≡ place_in tx_of members.now tx }
 {
     for (i, member) in members.iter().enumerate() {
@@ -21,7 +21,7 @@ fn place_for(members: &[Member], tx: Tx) -> usize
 }
 
 /// Puts a member in by number.
-fn insert(members: &mut Vec<Member>, member: Member) -> Result<(), AllocError>
+fn insert(members: &mut Vec<Progress>, member: Progress) -> Result<(), AllocError>
     ensures { OnOk result (members.new.items ≡ inserted tx_of member members.old.items) }
 {
     let at = place_for(members.as_slice(), member.tx());
@@ -30,13 +30,16 @@ fn insert(members: &mut Vec<Member>, member: Member) -> Result<(), AllocError>
 }
 
 /// A member for each entrant, by number.
-pub(crate) fn fresh_members(alloc: Global, entrants: &[Entrant]) -> Result<Vec<Member>, AllocError>
+pub(crate) fn fresh_members(
+    alloc: Global,
+    entrants: &[Entrant],
+) -> Result<Vec<Progress>, AllocError>
     ensures { IfOk result (λ members. members.items ≡ by_number tx_of (map fresh entrants.now)) }
 {
     let Some((first, rest)) = entrants.split_first() else {
         return Ok(Vec::new(alloc));
     };
     let mut members = fresh_members(alloc, rest)?;
-    insert(&mut members, Member::fresh(alloc, *first))?;
+    insert(&mut members, Progress::fresh(alloc, *first))?;
     Ok(members)
 }

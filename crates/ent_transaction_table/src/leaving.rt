@@ -11,7 +11,7 @@ ghost use Rattle.ent_transaction_table.specs.TransactionTable.{IsAway};
 
 use crate::cause::{Cause, fate_of};
 use crate::transaction_table::TransactionTable;
-use ent_members::{Entrant, Member, RunAttempt};
+use ent_members::{Entrant, Progress, RunAttempt};
 use ent_next::SubmittedScript;
 use ent_semantics::{Fate, Fated};
 
@@ -94,7 +94,7 @@ pub(crate) fn leave(
 }
 
 /// Each who commits gets its fate, the first with this number.
-pub(crate) fn commit(table: &mut TransactionTable, number: u64, members: &[Member])
+pub(crate) fn commit(table: &mut TransactionTable, number: u64, members: &[Progress])
     requires room { length table.old.dormant + length table.old.fates + length members.now ≤ table.old.known }
     requires numbers { AllByRecursion (λ member. IsNumbered table.old.known member.tx) members.now }
     requires places { number + length members.now < 2 ^ 64 }

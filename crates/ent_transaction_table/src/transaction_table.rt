@@ -17,7 +17,7 @@ ghost use Rattle.ent_transaction_table.specs.TransactionTable.{IsAway};
 use crate::cause::Cause;
 use crate::{by_number, fates, leaving, live, order};
 use ent_group::Tx;
-use ent_members::{Entrant, Member, RunAttempt};
+use ent_members::{Entrant, Progress, RunAttempt};
 use ent_next::SubmittedScript;
 use ent_semantics::Fated;
 use indexmap::IndexMap;
@@ -185,7 +185,7 @@ impl TransactionTable {
 
     /// Members commit, the first with this number and each with the one behind that of the one before. It takes no
     /// memory.
-    pub fn commit(&mut self, first_number: u64, members: &[Member])
+    pub fn commit(&mut self, first_number: u64, members: &[Progress])
         requires room { length self.old.dormant + length self.old.fates + length members.now ≤ self.old.known }
         requires numbers { AllByRecursion (λ member. IsNumbered self.old.known member.tx) members.now }
         requires places { first_number + length members.now < 2 ^ 64 }

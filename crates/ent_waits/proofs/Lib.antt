@@ -3,6 +3,7 @@ pub mod Gathered
 pub mod Moving
 pub mod Waiters
 pub mod Stuck
+pub mod Holders
 pub mod Marked
 pub mod Smallest
 pub mod Outs

@@ -1,12 +1,14 @@
 -- Whom each member waits for, as rows of marks: the row of the one at a place has marks at the places of others.
-use Rattle.std.specs.Prelude.{◌≡◌, ℕ, ◌<◌, ◌==◌, ◌&&◌, ◌||◌, Bool, not, true, false, List, [], ◌∷◌, length}
-use Rattle.std.specs.Prelude.{slice_index_or, if◌then◌else◌, Option, None, Some, IfSome}
+use Rattle.std.specs.Prelude.{◌≡◌, ℕ, ◌<◌, ◌==◌, Bool, true, List}
+use Rattle.std.specs.Prelude.{[], ◌∷◌, ◌++◌, length, slice_index_or, Contains, None}
+use Rattle.std.specs.Prelude.{IfSome}
+use Rattle.std.specs.List.{list_any}
 use Rattle.ent_group.specs.Marks.{IsMarked, has_mark}
 use Rattle.ent_group.specs.Reach.{IsAt}
 use Rattle.ent_run.specs.Run.{Run, with_run}
 use Rattle.ent_run.specs.Waits.{is_awaited, waits_over}
 use Rattle.ent_protocol.specs.State.{Member, Use}
-use Rattle.ent_protocol.specs.Uses.{exclusive, is_conflicting}
+use Rattle.ent_protocol.specs.Uses.{exclusive, not_passed, uses_conflict}
 use Rattle.ent_waits.specs.Waits.{nothing}
 use Rattle.ent_waits.specs.declared.changers.ChangersRow.{ChangersRow}
 use Rattle.ent_waits.specs.declared.changers.GroupRow.{GroupRow}
@@ -33,43 +35,46 @@ MarksAll members test row =
 abbrev pub HasMarksOf : ℕ → ℕ → Type 0
 HasMarksOf new old = (place : ℕ) → has_mark old place ≡ true → has_mark new place ≡ true
 
--- a member is the only one of some, if they are one
-abbrev pub is_only : Option ℕ → Member → Bool
-is_only None member = false
-is_only (Some tx) member = member.tx == tx
+-- a member of the run, prepared or not
+abbrev pub IsMember : Run → Member → Type 0
+IsMember run member = Contains (run.prepared ++ run.active) member
 
--- those who ask pass a member: it is of their group, or the only one of them
-abbrev pub is_passed : Bool → Askers → Member → Bool
-is_passed of_group askers holder = if of_group then holder.group == askers.group else is_only askers.only holder
+-- a row has a mark at the member of a number, unless it is prepared
+abbrev pub MarksOne : Run → ℕ → ℕ → Type 0
+MarksOne run tx row = MarksAll run.active (λ other. tx == other.tx) row
 
--- a member blocks those who ask for uses, and they don't pass it
-abbrev pub stops : Bool → Askers → List Use → Member → Bool
-stops of_group askers asked holder = not (is_passed of_group askers holder) && is_conflicting asked holder
+-- a row has marks at the members of a group, save the prepared ones
+abbrev pub MarksGroup : Run → ℕ → ℕ → Type 0
+MarksGroup run group row =
+    (member : Member) → IsMember run member → member.group ≡ group → MarksOne run member.tx row
 
--- a row has the marks of those for whom these holders make others wait
-abbrev pub MarksOver : Bool → List Member → Askers → List Use → List Member → ℕ → Type 0
-MarksOver of_group active askers asked holders row =
-    (place : ℕ) (holder : Member) → StandsAt holders place holder → stops of_group askers asked holder ≡ true
-    → MarksAll active (λ other. waits_over askers.group other holder) row
+-- the same of the group of the member of a number
+abbrev pub MarksGroupOf : Run → ℕ → ℕ → Type 0
+MarksGroupOf run tx row = (member : Member) → IsMember run member → member.tx ≡ tx → MarksGroup run member.group row
 
 -- a member is of those who ask: of their group, and the only one if they are one
 abbrev pub IsOf : Askers → Member → Type 0
 IsOf askers asker = (askers.group ≡ asker.group) × IfSome askers.only (λ tx. tx ≡ asker.tx)
 
+-- some of those who ask don't pass a member
+abbrev pub IsInTheWay : Run → Askers → Member → Type 0
+IsInTheWay run askers holder =
+    (asker : Member) × IsOf askers asker × Contains (not_passed (with_run run nothing) asker) holder
+
+-- a row has the marks of those for whom others wait who ask, with a member blocking them, where it is in their way
+abbrev pub MarksOver : Run → Askers → Member → ℕ → Type 0
+MarksOver run askers holder row =
+    IsInTheWay run askers holder → MarksAll run.active (λ other. waits_over askers.group other holder) row
+
+-- the same of each member that holds a use in conflict with one that is asked for
+abbrev pub MarksInConflict : Run → Askers → Use → ℕ → Type 0
+MarksInConflict run askers asked row =
+    (holder : Member) → list_any (uses_conflict asked) holder.uses ≡ true → MarksOver run askers holder row
+
 -- a row has the marks of those for whom any of these waits who ask for uses
 abbrev pub IsRowOf : Run → Askers → List Use → ℕ → Type 0
 IsRowOf run askers asked row =
     (asker : Member) → IsOf askers asker → MarksAll run.active (is_awaited (with_run run nothing) asker asked) row
-
--- another is of the group of a holder, or is this one
-abbrev pub goes_with : Member → Member → Bool
-goes_with holder other = (other.group == holder.group) || (holder.tx == other.tx)
-
--- a row has the marks of those who go with those of these holders that are in conflict
-abbrev pub MarksGroups : List Member → List Use → List Member → ℕ → Type 0
-MarksGroups active asked holders row =
-    (place : ℕ) (holder : Member) → StandsAt holders place holder → is_conflicting asked holder ≡ true
-    → MarksAll active (goes_with holder) row
 
 -- a row has the marks of those for whom any member waits that asks for uses
 abbrev pub IsRowOfAny : Run → List Use → ℕ → Type 0

@@ -1,16 +1,15 @@
 //! The row that those who change one table have in common.
-ghost use Rattle.std.specs.Prelude.{◌≡◌, ◌≤◌, ◌<◌, [], ◌∷◌, length, IfSome};
+ghost use Rattle.std.specs.Prelude.{◌≡◌, ◌<◌, [], ◌∷◌, IfSome};
 ghost use Rattle.ent_run.specs.Run.{with_run};
 ghost use Rattle.ent_run.specs.Waits.{is_awaited};
 ghost use Rattle.ent_protocol.specs.Uses.{exclusive};
-ghost use Rattle.ent_waits.specs.Rows.{HasMarksOf, IsOfChangers, IsOfGroup, IsRowOfAny, MarksAll, MarksGroups};
-ghost use Rattle.ent_waits.specs.Rows.{goes_with};
+ghost use Rattle.ent_waits.specs.Rows.{HasMarksOf, IsOfChangers, IsOfGroup, IsRowOfAny, MarksAll, MarksGroupOf};
 ghost use Rattle.ent_waits.specs.Waits.{nothing};
 
 use crate::marks::share_mark;
-use crate::rows::{Askers, row_of, row_of_askers};
+use crate::rows::{Askers, mark_group, row_of, row_of_askers};
 use ent_group::{MOST_MEMBERS, Row, Tx, with_mark};
-use ent_members::{Member, Use, is_conflicting};
+use ent_members::{Member, Use};
 use ent_run::Run;
 
 /// A table, and the row of whoever changes it: marks at those for whom any such member waits, and maybe at others of
@@ -30,51 +29,26 @@ struct GroupRow {
     row: Row,
 }
 
-/// Whether another member is of the group of a holder, or is this one.
-fn goes_with(holder: &Member, other: &Member) -> bool
-    ensures { result ≡ goes_with holder.now other.now }
-{
-    other.group() == holder.group() || holder.tx() == other.tx()
-}
-
-/// A row with marks too at those who go with a holder.
-fn mark_group(row: Row, active: &[Member], holder: &Member) -> Row
-    requires { length active.now ≤ MOST_MEMBERS }
+/// A row with marks too at the members of the group of the member of a number, save the prepared ones.
+fn mark_group_of(row: Row, run: &Run, tx: Tx) -> Row
     ensures kept { HasMarksOf result row }
-    ensures marked { MarksAll active.now (goes_with holder.now) result }
+    ensures marked { MarksGroupOf run.now tx result }
 {
-    let mut marked = row;
-    for (place, other) in active.iter().enumerate() {
-        if goes_with(holder, other) {
-            marked = with_mark(marked, place);
-        }
+    match run.label_of(tx) {
+        Some(group) => mark_group(row, run, group),
+        None => row,
     }
-    marked
 }
 
-/// A row with marks too at those who go with some of a list that hold a use in conflict with one that is asked for.
-fn mark_groups(row: Row, active: &[Member], holders: &[Member], asked: &[Use]) -> Row
-    requires { length active.now ≤ MOST_MEMBERS }
-    ensures kept { HasMarksOf result row }
-    ensures marked { MarksGroups active.now asked.now holders.now result }
+/// The row of whoever changes a table: whoever holds it is in conflict.
+fn row_of_any(run: &Run, table: usize) -> Row
+    ensures { IsRowOfAny run.now (exclusive table ∷ []) result }
 {
-    let mut marked = row;
-    for holder in holders {
-        if is_conflicting(asked, holder) {
-            marked = mark_group(marked, active, holder);
-        }
+    let mut row = 0;
+    for held in run.holders(table) {
+        row = mark_group_of(row, run, held.holder);
     }
-    marked
-}
-
-/// The row of whoever asks for uses.
-fn row_of_any(run: &Run, asked: &[Use]) -> Row
-    ensures { IsRowOfAny run.now asked.now result }
-{
-    let _most = run.len();
-    let active = run.active();
-    let row = mark_groups(0, active, run.prepared(), asked);
-    mark_groups(row, active, active, asked)
+    row
 }
 
 /// The row of whoever changes a table, which may be known.
@@ -87,7 +61,7 @@ fn common_row(run: &Run, table: usize, known: Option<ChangersRow>) -> ChangersRo
         Some(common) if common.table == table => common,
         _ => ChangersRow {
             table,
-            row: row_of_any(run, &[Use::exclusive(table)]),
+            row: row_of_any(run, table),
             of_group: None,
         },
     }

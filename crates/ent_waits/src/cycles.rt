@@ -35,8 +35,7 @@ fn may_wait_on_cycle(run: &Run, submitted: &[SubmittedScript], lent: &[Job]) -> 
     ensures { (s : State) → result ≡ false → NoDeadlock (state_with run.now submitted.now lent.now s) }
 {
     awaited_members_are_waited_for();
-    let _most = run.len();
-    let _active = run.active();
+    let _most = run.active_len();
     let rows = rows_of(run, submitted, lent);
     may_have_cycle(&rows)
 }
@@ -57,10 +56,9 @@ fn pairs_of(run: &Run, submitted: &[SubmittedScript], lent: &[Job]) -> Pairs
     ensures names { NamesAtMost MOST_MEMBERS result }
 {
     let mut pairs = Pairs::new();
-    let _most = run.len();
-    let active = run.active();
-    for asker in active {
-        push_pairs(&mut pairs, run, submitted, lent, asker);
+    for place in 0..run.active_len() {
+        let asker = run.at(place);
+        push_pairs(&mut pairs, run, submitted, lent, &asker);
     }
     pairs
 }
@@ -88,9 +86,9 @@ fn push_awaited(pairs: &mut Pairs, run: &Run, asker: &Member, asked: &[Use])
     ensures pairs { pairs.new ≡ pairs.old ++ flat_map (pair_if_awaited run.now asker.now asked.now) run.now.active }
     ensures bound { length pairs.new ≤ length pairs.old + length run.now.active }
 {
-    let active = run.active();
-    for other in active {
-        push_pair(pairs, run, asker, asked, other);
+    for place in 0..run.active_len() {
+        let other = run.at(place);
+        push_pair(pairs, run, asker, asked, &other);
     }
 }
 

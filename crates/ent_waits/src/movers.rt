@@ -90,8 +90,9 @@ pub(crate) fn least_mover(
         → IsLeastIfAny (CanMove (state_with run.now submitted.now lent.now s)) least) }
 {
     let mut least = None;
-    for member in run.active() {
-        let own = mover_of(alloc, run, submitted, lent, pool, member)?;
+    for place in 0..run.active_len() {
+        let member = run.at(place);
+        let own = mover_of(alloc, run, submitted, lent, pool, &member)?;
         least = lesser(least, own);
     }
     Ok(least)

@@ -1,11 +1,11 @@
 //! Whom each member waits for, as rows of marks.
-ghost use Rattle.std.specs.Prelude.{◌≡◌, ℕ, ◌≤◌, ◌<◌, length, slice_index, IfSome};
+ghost use Rattle.std.specs.Prelude.{◌≡◌, ℕ, ◌<◌, slice_index, Some, IfSome, false};
 ghost use Rattle.ent_run.specs.Run.{with_run};
-ghost use Rattle.ent_run.specs.Waits.{is_awaited, waits_over};
+ghost use Rattle.ent_run.specs.Waits.{is_awaited, waits_by};
 ghost use Rattle.ent_protocol.specs.State.{Member as Seen};
 ghost use Rattle.ent_protocol.specs.Uses.{statement_uses};
-ghost use Rattle.ent_waits.specs.Rows.{HasMarksOf, IsOfChangers, IsRowOf, MarksAll, MarksOver, StandsAt};
-ghost use Rattle.ent_waits.specs.Rows.{is_passed, stops};
+ghost use Rattle.ent_waits.specs.Rows.{HasMarksOf, IsInTheWay, IsOfChangers, IsRowOf, MarksAll, MarksGroup};
+ghost use Rattle.ent_waits.specs.Rows.{MarksInConflict, MarksOne, MarksOver, StandsAt};
 ghost use Rattle.ent_waits.specs.Waits.{awaits_now, nothing};
 
 use crate::changers::{ChangersRow, row_of_changer};
@@ -13,9 +13,9 @@ use crate::waiting::is_waiting;
 use ent_closed::{Known, Statement};
 use ent_group::{MOST_MEMBERS, Row, Tx, with_mark};
 use ent_job::Job;
-use ent_members::{Member, Use, exclusive_table, is_conflicting, statement_uses};
+use ent_members::{Member, Use, exclusive_table, statement_uses};
 use ent_next::{SubmittedScript, next_form};
-use ent_run::{Run, waits_over};
+use ent_run::Run;
 
 /// Those of a group who ask for uses: whoever of it does, or one member only.
 #[derive(Clone, Copy)]
@@ -24,58 +24,78 @@ pub(crate) struct Askers {
     pub(crate) only: Option<Tx>,
 }
 
-/// Whether those who ask pass a member: it is of their group, or the only one of them.
-fn is_passed(of_group: bool, askers: Askers, holder: &Member) -> bool
-    ensures { result ≡ is_passed of_group askers holder.now }
+/// Whether those who ask pass the member of a number, whose group has the label: it is a prepared one of their group,
+/// or it isn't prepared and is the only one of them.
+fn is_passed(run: &Run, askers: Askers, tx: Tx, group: Tx) -> bool
+    ensures { (holder : Seen) → IsInTheWay run.now askers holder → holder.tx ≡ tx → holder.group ≡ group
+        → result ≡ false }
 {
-    if of_group {
-        return holder.group() == askers.group;
+    if run.is_prepared(tx) {
+        return group == askers.group;
     }
-    match askers.only {
-        Some(tx) => holder.tx() == tx,
-        None => false,
-    }
+    askers.only == Some(tx)
 }
 
-/// Whether a member blocks those who ask for uses, and they don't pass it.
-fn stops(of_group: bool, askers: Askers, asked: &[Use], holder: &Member) -> bool
-    ensures { result ≡ stops of_group askers asked.now holder.now }
-{
-    !is_passed(of_group, askers, holder) && is_conflicting(asked, holder)
-}
-
-/// A row with marks too at those for whom a member of a group waits, with one member blocking it.
-fn mark_awaited(row: Row, active: &[Member], group: Tx, holder: &Member) -> Row
-    requires { length active.now ≤ MOST_MEMBERS }
+/// A row with a mark too at the member of a number, unless it is prepared.
+fn mark_one(row: Row, run: &Run, tx: Tx) -> Row
     ensures kept { HasMarksOf result row }
-    ensures marked { MarksAll active.now (λ other. waits_over group other holder.now) result }
+    ensures marked { MarksOne run.now tx result }
+{
+    let _most = run.active_len();
+    match run.active_place(tx) {
+        Some(place) => with_mark(row, place),
+        None => row,
+    }
+}
+
+/// A row with marks too at the members of the group with a label, save the prepared ones.
+pub(crate) fn mark_group(row: Row, run: &Run, group: Tx) -> Row
+    ensures kept { HasMarksOf result row }
+    ensures marked { MarksGroup run.now group result }
 {
     let mut marked = row;
-    for (place, other) in active.iter().enumerate() {
-        if waits_over(group, holder, other) {
-            marked = with_mark(marked, place);
-        }
+    for tx in run.group_numbers(group).as_slice() {
+        marked = mark_one(marked, run, *tx);
     }
     marked
 }
 
-/// A row with marks too at those for whom others wait while some of a list are blocking them.
-fn mark_over(
-    row: Row,
-    active: &[Member],
-    holders: &[Member],
-    of_group: bool,
-    askers: Askers,
-    asked: &[Use],
-) -> Row
-    requires { length active.now ≤ MOST_MEMBERS }
+/// A row with marks too at those for whom a member of a group waits, with the member of a number and a label blocking
+/// it.
+fn mark_awaited(row: Row, run: &Run, own: Tx, tx: Tx, group: Tx) -> Row
     ensures kept { HasMarksOf result row }
-    ensures marked { MarksOver of_group active.now askers asked.now holders.now result }
+    ensures marked { MarksAll run.now.active (λ other. waits_by own other tx (Some group)) result }
+{
+    if group == own {
+        mark_one(row, run, tx)
+    } else {
+        mark_group(row, run, group)
+    }
+}
+
+/// A row with marks too at those for whom others wait who ask, with the member of a number blocking them; the same row
+/// where they pass it.
+fn mark_over(row: Row, run: &Run, askers: Askers, tx: Tx) -> Row
+    ensures kept { HasMarksOf result row }
+    ensures marked { (holder : Seen) → holder.tx ≡ tx → MarksOver run.now askers holder result }
+{
+    match run.label_of(tx) {
+        Some(group) if !is_passed(run, askers, tx, group) => {
+            mark_awaited(row, run, askers.group, tx, group)
+        }
+        _ => row,
+    }
+}
+
+/// A row with marks too at those for whom others wait who ask for a use: those who hold one in conflict block them.
+fn mark_holders(row: Row, run: &Run, askers: Askers, asked: Use) -> Row
+    ensures kept { HasMarksOf result row }
+    ensures marked { MarksInConflict run.now askers asked result }
 {
     let mut marked = row;
-    for holder in holders {
-        if stops(of_group, askers, asked, holder) {
-            marked = mark_awaited(marked, active, askers.group, holder);
+    for held in run.holders(asked.table()) {
+        if held.mode.in_conflict(asked.mode()) {
+            marked = mark_over(marked, run, askers, held.holder);
         }
     }
     marked
@@ -85,10 +105,11 @@ fn mark_over(
 pub(crate) fn row_of_askers(run: &Run, askers: Askers, asked: &[Use]) -> Row
     ensures { IsRowOf run.now askers asked.now result }
 {
-    let _most = run.len();
-    let active = run.active();
-    let row = mark_over(0, active, run.prepared(), true, askers, asked);
-    mark_over(row, active, active, false, askers, asked)
+    let mut row = 0;
+    for own in asked {
+        row = mark_holders(row, run, askers, *own);
+    }
+    row
 }
 
 /// The row of a member that asks for uses: marks at those for whom it waits.
@@ -158,10 +179,9 @@ pub(crate) fn rows_of(run: &Run, submitted: &[SubmittedScript], lent: &[Job]) ->
 {
     let mut rows = [0; MOST_MEMBERS];
     let mut known = None;
-    let _most = run.len();
-    let active = run.active();
-    for (place, asker) in active.iter().enumerate() {
-        rows[place] = row_while_waiting(run, submitted, lent, asker, place, &mut known);
+    for place in 0..run.active_len() {
+        let asker = run.at(place);
+        rows[place] = row_while_waiting(run, submitted, lent, &asker, place, &mut known);
     }
     rows
 }

@@ -13,7 +13,7 @@ use Rattle.ent_core.proofs.begin.begin_free.Goals as goal
 pub job_of-requires-clause-next : goal.job_of-requires-clause-next
 job_of-requires-clause-next c =
     let now = c.args.store.now in
-    let member = c.member-member.result.now in
+    let member = c.member-member.result in
     let there = subst (λ (n : ℕ). active_member now n ≡ Some member) (sym c.member-member.ensures.number)
     c.member-member.ensures.there in
     begun_next now member.tx member (Ordinary c.in-Ordinary.statement) there c.member-member.ensures.free
@@ -22,7 +22,7 @@ job_of-requires-clause-next c =
 pub job_of-requires-clause-unblocked : goal.job_of-requires-clause-unblocked
 job_of-requires-clause-unblocked c =
     let now = c.args.store.now in
-    let member = c.member-member.result.now in
+    let member = c.member-member.result in
     let next : Ordinary c.in-Ordinary.statement ≡ next_of now member =
     sym (ap next_seen c.in-Ordinary.is) ∙ c.in_ok-statement.ensures.next in
     ap (λ (n : Next). blocker now member (next_uses n)) next ∙ c.member-member.ensures.free.unblocked
@@ -35,7 +35,7 @@ lend-requires-clause-unposted c =
 pub post-requires-clause-asks : goal.post-requires-clause-asks
 post-requires-clause-asks c =
     let now = c.args.store.now in
-    let member = c.member-member.result.now in
+    let member = c.member-member.result in
     let asks : Asks (arc_value c.in-Asks.statement) ≡ next_of now member =
     sym (ap next_seen c.in-Asks.is) ∙ c.in_ok-statement.ensures.next in
     to_post now c.args.found.tx member c.query_of-query.result (arc_value c.in-Asks.statement)
@@ -45,7 +45,7 @@ pub commit-requires-clause-unposted : goal.commit-requires-clause-unposted
 commit-requires-clause-unposted c =
     let now = c.args.store.now in
     let tx = c.args.found.tx in
-    let member = c.member-member.result.now in
+    let member = c.member-member.result in
     unposted_at_turn now tx member Commits
     (c.members_stand_by_number.ensures resolved_forms now c.requires.kept.reached)
     (begun_next now tx member Commits c.member-member.ensures.there c.member-member.ensures.free

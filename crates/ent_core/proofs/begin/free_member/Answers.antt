@@ -15,7 +15,7 @@ returns-in-Some-clause-refused c =
     let now = c.args.store.now in
     let tx = c.args.tx in
     let place = c.in_ok-place.place in
-    let member = c.at.result.now in
+    let member = c.at.result in
     let there = stands_at now c.store.inside.run.active tx place member (ap (λ (x : State). x.active) c.store.view_is)
     c.in_ok-place.ensures.at c.at.ensures in
     begun_blocked now tx member (next_of now member)
@@ -27,7 +27,7 @@ returns-in-None-clause-free c =
     let now = c.args.store.now in
     let tx = c.args.tx in
     let place = c.in_ok-place.place in
-    let member = c.at.result.now in
+    let member = c.at.result in
     let there = stands_at now c.store.inside.run.active tx place member (ap (λ (x : State). x.active) c.store.view_is)
     c.in_ok-place.ensures.at c.at.ensures in
     record {

@@ -13,7 +13,7 @@ returns-then-is_prepared-clause-refused c =
     refused_prepared c.args.store.now c.args.tx
     (ap (λ (x : State). active_member x c.args.tx) (sym c.store.view_is) ∙ c.in_default.ensures.none refl s)
     (ap (λ (x : State). is_prepared x c.args.tx) (sym c.store.view_is)
-    ∙ sym (c.is_prepared.ensures s) ∙ c.if-is_prepared.true)
+    ∙ sym (c.is_prepared.ensures.prepared s) ∙ c.if-is_prepared.true)
 
 pub returns-in_default-clause-refused : goal.returns-in_default-clause-refused
 returns-in_default-clause-refused c =
@@ -21,7 +21,7 @@ returns-in_default-clause-refused c =
     refused_absent c.args.store.now c.args.tx
     (ap (λ (x : State). active_member x c.args.tx) (sym c.store.view_is) ∙ c.in_default.ensures.none refl s)
     (ap (λ (x : State). is_prepared x c.args.tx) (sym c.store.view_is)
-    ∙ sym (c.is_prepared.ensures s) ∙ c.if-is_prepared.false)
+    ∙ sym (c.is_prepared.ensures.prepared s) ∙ c.if-is_prepared.false)
 
 pub at-requires : goal.at-requires
 at-requires c = c.in-Some.ensures.some.in_range
@@ -30,7 +30,7 @@ pub returns-then-is_posted-clause-refused : goal.returns-then-is_posted-clause-r
 returns-then-is_posted-clause-refused c =
     let s : State = the_view c.store.inside in
     let now = c.args.store.now in
-    let member = c.at.result.now in
+    let member = c.at.result in
     let there = ap (λ (x : State). active_member x c.args.tx) (sym c.store.view_is)
     ∙ stands_at s s.active c.args.tx c.in-Some.place member refl c.in-Some.ensures.some c.at.ensures in
     refused_out now c.args.tx member there
@@ -40,7 +40,7 @@ pub returns-then-is_lent-clause-refused : goal.returns-then-is_lent-clause-refus
 returns-then-is_lent-clause-refused c =
     let s : State = the_view c.store.inside in
     let now = c.args.store.now in
-    let member = c.at.result.now in
+    let member = c.at.result in
     let there = ap (λ (x : State). active_member x c.args.tx) (sym c.store.view_is)
     ∙ stands_at s s.active c.args.tx c.in-Some.place member refl c.in-Some.ensures.some c.at.ensures in
     refused_out now c.args.tx member there (either member.posted (is_lent now c.args.tx)
@@ -51,7 +51,7 @@ pub returns-clause-idle : goal.returns-clause-idle
 returns-clause-idle c = λ other found.
     let s : State = the_view c.store.inside in
     let now = c.args.store.now in
-    let member = c.at.result.now in
+    let member = c.at.result in
     let there = ap (λ (x : State). active_member x c.args.tx) (sym c.store.view_is)
     ∙ stands_at s s.active c.args.tx c.in-Some.place member refl c.in-Some.ensures.some c.at.ensures in
     subst (IsIdle now) (one_member member other (sym there ∙ found))

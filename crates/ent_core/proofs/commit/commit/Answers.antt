@@ -1,6 +1,6 @@
 use Rattle.std.proofs.Common.{◌≡◌, ◌+◌, ◌<◌, ◌++◌, ◌∙◌, ℕ, suc, List, Some, ap, arith, length, map, refl, subst, sym}
 use Rattle.std.specs.List.{AllByRecursion}
-use Rattle.std.specs.Prelude.{is_some}
+use Rattle.std.specs.Prelude.{filter, is_some}
 use Rattle.ent_form.specs.declared.fault.FormFault.{FormFault}
 use Rattle.ent_run.specs.Places.{IsAt, found}
 use Rattle.ent_members.specs.Order.{tx_of}
@@ -21,7 +21,10 @@ use Rattle.ent_pool_laws.specs.Pooled.{IsPoolOf}
 use Rattle.ent_core.specs.Begin.{IsUnposted}
 use Rattle.ent_core.proofs.Begun.{found_at, kept_changed, kept_with, one_member}
 use Rattle.ent_core.proofs.Committing.{commits, committed_all, committed_few, first_part, last_part, parts_numbered}
-use Rattle.ent_core.proofs.Committing.{waits}
+use Rattle.ent_core.proofs.Committing.{same_all, same_fates, same_length, same_numbers, waits}
+use Rattle.ent_semantics.specs.declared.book.Fated.{Fated}
+use Rattle.ent_protocol.specs.Member.{is_of}
+use Rattle.ent_transaction_table.specs.ByNumber.{IsNumbered}
 use Rattle.ent_core.proofs.Pooled.{kept_prepared}
 use Rattle.ent_core.proofs.Settled.{settled_on}
 use Rattle.ent_core.proofs.commit.commit.Goals as goal
@@ -41,8 +44,8 @@ returns-in_default-clause-ok c = λ member there.
     let stays : left ≡ mid = c.in_default.ensures.same refl in
     let tx = c.args.found.tx in
     let here : active_member s tx ≡ Some member = ap (λ (x : State). active_member x tx) c.store.view_is ∙ there in
-    let one : c.member.result.now ≡ member =
-    one_member c.member.result.now member (sym c.member.ensures.there ∙ there) in
+    let one : c.member.result ≡ member =
+    one_member c.member.result member (sym c.member.ensures.there ∙ there) in
     let at = subst (λ (x : State). IsAt x.active tx c.args.found.place) (sym c.store.view_is) c.requires.free.at in
     let own : c.group-group.result ≡ member.group = c.group-group.ensures ∙ ap (λ (m : Member). m.group) one in
     let P : State → Type 0 = λ new. BeginsCommit {F = FormFault} (preparing now member) member.group
@@ -79,12 +82,13 @@ commit-requires-2-clause-room c =
     let counted : C s = subst C (sym c.store.view_is) c.requires.counted in
     let tx = c.args.found.tx in
     let at = subst (λ (x : State). IsAt x.active tx c.args.found.place) (sym c.store.view_is) c.requires.free.at in
-    let there : found c.store.inside.run.active tx ≡ Some c.member.result.now =
+    let there : found c.store.inside.run.active tx ≡ Some c.member.result =
     ap (λ (x : State). active_member x tx) c.store.view_is ∙ c.member.ensures.there in
-    let few = committed_few c.store.inside.run c.prepare_at.new.self tx c.group-group.result c.member.result.now
-    c.in-Some.committed.items there (c.in_ok-prepare_at.ensures.ok tx at c.member.result.now there)
-    (c.in-Some.ensures.committed s) in
-    omega (arith, counted, c.store.invariant.0.known, few, ap length c.as_slice-2.ensures.value)
+    let gone = filter (is_of c.group-group.result) c.prepare_at.new.self.prepared in
+    let few = committed_few c.store.inside.run c.prepare_at.new.self tx c.group-group.result c.member.result gone there
+    (c.in_ok-prepare_at.ensures.ok tx at c.member.result there) refl in
+    let many = same_length c.in-Some.committed.items gone (c.in-Some.ensures.attempts s) in
+    omega (arith, counted, c.store.invariant.0.known, few, many, ap length c.as_slice-2.ensures.value)
 
 pub commit-requires-2-clause-numbers : goal.commit-requires-2-clause-numbers
 commit-requires-2-clause-numbers c =
@@ -95,15 +99,18 @@ commit-requires-2-clause-numbers c =
     (subst StayWithin (sym c.store.view_is) c.requires.within).members in
     let tx = c.args.found.tx in
     let at = subst (λ (x : State). IsAt x.active tx c.args.found.place) (sym c.store.view_is) c.requires.free.at in
-    let there : found run.active tx ≡ Some c.member.result.now =
+    let there : found run.active tx ≡ Some c.member.result =
     ap (λ (x : State). active_member x tx) c.store.view_is ∙ c.member.ensures.there in
-    let among : AllByRecursion P c.in-Some.committed.items =
-    committed_all P run c.prepare_at.new.self tx c.group-group.result c.member.result.now
-    c.in-Some.committed.items there (c.in_ok-prepare_at.ensures.ok tx at c.member.result.now there)
-    (c.in-Some.ensures.committed s) (first_part P run.prepared run.active all)
+    let gone = filter (is_of c.group-group.result) c.prepare_at.new.self.prepared in
+    let known = c.store.inside.transaction_table.known in
+    let among : AllByRecursion P gone =
+    committed_all P run c.prepare_at.new.self tx c.group-group.result c.member.result gone there
+    (c.in_ok-prepare_at.ensures.ok tx at c.member.result there) refl (first_part P run.prepared run.active all)
     (last_part P run.prepared run.active all) in
-    parts_numbered s.submitted c.store.inside.transaction_table.known c.as_slice-2.result.now c.store.invariant.0.known
-    (subst (λ ms. AllByRecursion P ms) (sym c.as_slice-2.ensures.value) among)
+    subst (λ (ms : List Member). AllByRecursion (λ (m : Member). IsNumbered known m.tx) ms)
+    (sym c.as_slice-2.ensures.value)
+    (same_all c.in-Some.committed.items gone (c.in-Some.ensures.attempts s) (IsNumbered known)
+    (parts_numbered s.submitted known gone c.store.invariant.0.known among))
 
 pub returns-clause-ok : goal.returns-clause-ok
 returns-clause-ok c = λ member there.
@@ -112,23 +119,28 @@ returns-clause-ok c = λ member there.
     let mid : Run = c.prepare_at.new.self in
     let left : Run = c.commit.new.self in
     let committed : List Member = c.in-Some.committed.items in
+    let gone : List Member = filter (is_of c.group-group.result) mid.prepared in
+    let attempts = c.in-Some.ensures.attempts s in
     let numbers : List ℕ = c.member_numbers-members.result in
     let first : ℕ = c.len.result + 1 in
     let tx = c.args.found.tx in
     let here : active_member s tx ≡ Some member = ap (λ (x : State). active_member x tx) c.store.view_is ∙ there in
-    let one : c.member.result.now ≡ member =
-    one_member c.member.result.now member (sym c.member.ensures.there ∙ there) in
+    let one : c.member.result ≡ member =
+    one_member c.member.result member (sym c.member.ensures.there ∙ there) in
     let at = subst (λ (x : State). IsAt x.active tx c.args.found.place) (sym c.store.view_is) c.requires.free.at in
     let own : c.group-group.result ≡ member.group = c.group-group.ensures ∙ ap (λ (m : Member). m.group) one in
-    let numbers_are : numbers ≡ map tx_of committed =
-    c.member_numbers-members.ensures ∙ ap (map tx_of) c.as_slice.ensures.value in
+    let numbers_are : numbers ≡ map tx_of gone =
+    c.member_numbers-members.ensures ∙ ap (map tx_of) c.as_slice.ensures.value
+    ∙ same_numbers committed gone attempts in
     let first_is : first ≡ suc (length s.journal) =
     omega (arith, c.len.ensures, c.reserve.new.self.ok.0, ap length c.reserve.ensures.items) in
     let entered = c.enter.ensures.entries
-    ∙ ap (λ (entries : List Entry). entries ++ map entry_of committed) c.reserve.ensures.items in
+    ∙ ap (λ (entries : List Entry). entries ++ map entry_of committed) c.reserve.ensures.items
+    ∙ ap (λ (entries : List Entry). s.journal ++ entries) (c.in-Some.ensures.entries s) in
     let fated = ap (λ (transaction_table : TransactionTable). transaction_table.fates) c.commit-2.ensures
-    ∙ ap (λ (all : List Member). s.fates ++ commit_fates first all) c.as_slice-2.ensures.value in
-    let settled = c.settle.ensures.members committed numbers_are in
+    ∙ ap (λ (all : List Member). s.fates ++ commit_fates first all) c.as_slice-2.ensures.value
+    ∙ ap (λ (fates : List Fated). s.fates ++ fates) (same_fates committed gone attempts first) in
+    let settled = c.settle.ensures.members gone numbers_are in
     let P : State → Type 0 = λ new. BeginsCommit {F = FormFault} (preparing now member) member.group
     (is_ready (preparing now member) member.group) (replies.Committed (numbered_from first numbers)) new in
     let mark : State = record s {
@@ -144,10 +156,9 @@ returns-clause-ok c = λ member there.
       tables = (sym (ap (λ (stored : Stored). stored.tables) settled)) i;
     } in
     subst P same (commits s mid tx c.group-group.result member own (c.in_ok-prepare_at.ensures.ok tx at member here)
-    FormFault now left first committed numbers c.enter.new.journal.items c.commit-2.new.self.fates
+    FormFault now left first gone numbers c.enter.new.journal.items c.commit-2.new.self.fates
     c.settle.new.self.changes c.store.view_is (c.in-Some.ensures.ready refl s)
-    (c.in-Some.ensures.committed s) (c.in-Some.ensures.prepared refl)
-    (c.in-Some.ensures.active refl) numbers_are first_is entered fated
+    refl (c.in-Some.ensures.prepared refl) (c.in-Some.ensures.active refl) numbers_are first_is entered fated
     (ap (λ (stored : Stored). stored.changes) settled))
 
 pub invariant_of-store-2 : goal.invariant_of-store-2

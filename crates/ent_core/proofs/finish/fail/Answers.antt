@@ -51,11 +51,11 @@ returns c = λ job member at there.
     let failure = c.args.failure in
     let left = c.take.new.self in
     let now : State = record v { lent = left } in
-    let same : Some c.in-Some.member.now ≡ Some member =
+    let same : Some c.in-Some.member ≡ Some member =
     c.in-Some.ensures v ∙ ap (active_member v) c.tx-tx.ensures
     ∙ ap (λ (x : State). active_member x single.tx) c.store.view_is ∙ there in
     let group : member.group ≡ c.group-group.result =
-    sym (c.group-group.ensures ∙ ap (λ (m : Member). m.group) (one_member c.in-Some.member.now member same)) in
+    sym (c.group-group.ensures ∙ ap (λ (m : Member). m.group) (one_member c.in-Some.member member same)) in
     let own : member.tx ≡ c.tx-tx.result =
     number_found single.tx c.args.store.now.active member there ∙ sym c.tx-tx.ensures in
     let taken : IsTaken job v.lent left =

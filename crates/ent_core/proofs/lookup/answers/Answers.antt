@@ -8,7 +8,7 @@ use Rattle.ent_core.proofs.lookup.answers.Goals as goal
 pub returns-in-Some : goal.returns-in-Some
 returns-in-Some c =
     let s : State = the_view c.store.inside in
-    c.answers.ensures ∙ answers_found s c.args.tx c.in-Some.member.now (c.in-Some.ensures s)
+    c.answers.ensures ∙ answers_found s c.args.tx c.in-Some.member (c.in-Some.ensures s)
     ∙ ap (λ (x : State). answers_of x c.args.tx) c.store.view_is
 
 pub returns-in-None : goal.returns-in-None

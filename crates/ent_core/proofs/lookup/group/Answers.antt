@@ -10,7 +10,7 @@ pub returns-in-Some : goal.returns-in-Some
 returns-in-Some c =
     let s : State = the_view c.store.inside in
     c.group_numbers.ensures s ∙ ap (group_numbers s) c.group.ensures
-    ∙ group_found s c.args.tx c.in-Some.member.now (c.in-Some.ensures s)
+    ∙ group_found s c.args.tx c.in-Some.member (c.in-Some.ensures s)
     ∙ ap (λ (x : State). group_of x c.args.tx) c.store.view_is
 
 pub returns-in-None : goal.returns-in-None

@@ -18,8 +18,8 @@ of_members s asker holder between first second one other is =
 pub returns-in-Some-member : goal.returns-in-Some-member
 returns-in-Some-member c =
     let s : State = the_view c.store.inside in
-    let member = c.in-Some.member.now in
-    let other = c.in-Some-member.other.now in
+    let member = c.in-Some.member in
+    let other = c.in-Some-member.other in
     of_members c.args.store.now c.args.asker c.args.holder c.conflict_of.result (Some member) (Some other)
     (ap (λ (x : State). active_member x c.args.asker) (sym c.store.view_is) ∙ sym (c.in-Some.ensures s))
     (ap (λ (x : State). member_of x c.args.holder) (sym c.store.view_is) ∙ sym (c.in-Some-member.ensures s))
@@ -28,7 +28,7 @@ returns-in-Some-member c =
 pub returns-in-None-member : goal.returns-in-None-member
 returns-in-None-member c =
     let s : State = the_view c.store.inside in
-    let member = c.in-Some.member.now in
+    let member = c.in-Some.member in
     of_members c.args.store.now c.args.asker c.args.holder None (Some member) None
     (ap (λ (x : State). active_member x c.args.asker) (sym c.store.view_is) ∙ sym (c.in-Some.ensures s))
     (ap (λ (x : State). member_of x c.args.holder) (sym c.store.view_is) ∙ sym (c.in-None-member.ensures s))

@@ -16,7 +16,7 @@ use Rattle.ent_core.proofs.obstacle.held_back.Goals as goal
 pub post_fault-requires : goal.post_fault-requires
 post_fault-requires c =
     let now = c.args.store.now in
-    let member = c.member-member.result.now in
+    let member = c.member-member.result in
     let asks : Asks (arc_value c.in-Asks.statement) ≡ next_of now member =
     sym (ap next_seen c.in-Asks.is) ∙ c.in_ok-statement.ensures.next in
     let query = c.query_of-query.result in
@@ -32,7 +32,7 @@ post_fault-requires c =
 pub returns-in-Ordinary : goal.returns-in-Ordinary
 returns-in-Ordinary c =
     let now = c.args.store.now in
-    let member = c.member-member.result.now in
+    let member = c.member-member.result in
     let next : Ordinary c.in-Ordinary.statement ≡ next_of now member =
     sym (ap next_seen c.in-Ordinary.is) ∙ c.in_ok-statement.ensures.next in
     moves_ordinary now c.args.found.tx member c.member-member.ensures.there c.member-member.ensures.free
@@ -41,7 +41,7 @@ returns-in-Ordinary c =
 pub returns-in-Asks : goal.returns-in-Asks
 returns-in-Asks c =
     let now = c.args.store.now in
-    let member = c.member-member.result.now in
+    let member = c.member-member.result in
     let asks : Asks (arc_value c.in-Asks.statement) ≡ next_of now member =
     sym (ap next_seen c.in-Asks.is) ∙ c.in_ok-statement.ensures.next in
     let query = c.query_of-query.result in
@@ -58,7 +58,7 @@ returns-in-Asks c =
 pub returns-in-Commits : goal.returns-in-Commits
 returns-in-Commits c =
     let now = c.args.store.now in
-    let member = c.member-member.result.now in
+    let member = c.member-member.result in
     let next : Commits ≡ next_of now member =
     sym (ap next_seen c.in-Commits.is) ∙ c.in_ok-statement.ensures.next in
     moves_commits now c.args.found.tx member c.member-member.ensures.there c.member-member.ensures.free (sym next)
@@ -66,7 +66,7 @@ returns-in-Commits c =
 pub returns-in-RollsBack : goal.returns-in-RollsBack
 returns-in-RollsBack c =
     let now = c.args.store.now in
-    let member = c.member-member.result.now in
+    let member = c.member-member.result in
     let next : RollsBack ≡ next_of now member =
     sym (ap next_seen c.in-RollsBack.is) ∙ c.in_ok-statement.ensures.next in
     moves_rolls_back now c.args.found.tx member c.member-member.ensures.there c.member-member.ensures.free (sym next)

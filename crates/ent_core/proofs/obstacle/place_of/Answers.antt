@@ -24,7 +24,7 @@ returns-in-Some-clause-stands c =
 pub returns-then-is_prepared-clause-stands : goal.returns-then-is_prepared-clause-stands
 returns-then-is_prepared-clause-stands c =
     let s : State = the_view c.store.inside in
-    ap (λ (x : State). is_prepared x c.args.tx) (sym c.store.view_is) ∙ sym (c.is_prepared.ensures s)
+    ap (λ (x : State). is_prepared x c.args.tx) (sym c.store.view_is) ∙ sym (c.is_prepared.ensures.prepared s)
     ∙ c.if-is_prepared.true
 
 pub returns-clause-stands : goal.returns-clause-stands
@@ -33,6 +33,6 @@ returns-clause-stands c =
     let all : pool c.args.store.now ≡ c.members.result.now =
     ap pool (sym c.store.view_is) ∙ c.store.invariant.0.posted s refl refl ∙ sym c.members.ensures.members in (
       subst (λ (posted : List Posted). HasNoneOf posted c.args.tx) (sym all) c.in_default.ensures,
-      ap (λ (x : State). is_prepared x c.args.tx) (sym c.store.view_is) ∙ sym (c.is_prepared.ensures s)
+      ap (λ (x : State). is_prepared x c.args.tx) (sym c.store.view_is) ∙ sym (c.is_prepared.ensures.prepared s)
           ∙ c.if-is_prepared.false,
     )

@@ -13,7 +13,7 @@ returns-then-is_prepared c =
     let s : State = the_view c.store.inside in
     let stand = subst StandOnce (sym c.store.view_is)
     (c.transactions_stand_once.ensures.once resolved_forms c.args.store.now c.requires.kept.reached) in
-    stands_prepared s c.args.tx stand (sym (c.is_prepared.ensures s) ∙ c.if-is_prepared.true)
+    stands_prepared s c.args.tx stand (sym (c.is_prepared.ensures.prepared s) ∙ c.if-is_prepared.true)
     ∙ ap (λ (x : State). standing x c.args.tx) c.store.view_is
 
 pub returns-in-Some : goal.returns-in-Some
@@ -21,10 +21,10 @@ returns-in-Some c =
     let s : State = the_view c.store.inside in
     let stand = subst StandOnce (sym c.store.view_is)
     (c.transactions_stand_once.ensures.once resolved_forms c.args.store.now c.requires.kept.reached) in
-    let member = c.in-Some.member.now in
+    let member = c.in-Some.member in
     let told = c.active_standing.ensures ∙ ap (λ (x : State). active_standing x member) (sym c.store.view_is) in
     ap (λ (x : Standing). Some x) told
-    ∙ stands_active s c.args.tx stand (sym (c.is_prepared.ensures s) ∙ c.if-is_prepared.false) member
+    ∙ stands_active s c.args.tx stand (sym (c.is_prepared.ensures.prepared s) ∙ c.if-is_prepared.false) member
     (c.in-Some.ensures s)
     ∙ ap (λ (x : State). standing x c.args.tx) c.store.view_is
 
@@ -41,5 +41,5 @@ pub returns-in-None : goal.returns-in-None
 returns-in-None c =
     let s : State = the_view c.store.inside in
     stands_nowhere s c.args.tx c.in-None.ensures c.in_default-dormant_of.ensures
-    (sym (c.is_prepared.ensures s) ∙ c.if-is_prepared.false) (c.in_default.ensures s)
+    (sym (c.is_prepared.ensures.prepared s) ∙ c.if-is_prepared.false) (c.in_default.ensures s)
     ∙ ap (λ (x : State). standing x c.args.tx) c.store.view_is

@@ -1,5 +1,4 @@
-use Rattle.std.proofs.Common.{◌≡◌, ◌<◌, ◌∙◌, ap, arith, get_or, length, not, sym}
-use Rattle.std.proofs.lemmas.List.{get_or_default}
+use Rattle.std.proofs.Common.{◌<◌, ◌∙◌, ap, arith, length, not, sym}
 use Rattle.std.proofs.lemmas.List.Filters.{FiltersInPlace-more_no, FiltersInPlace-more_swap}
 use Rattle.ent_core.proofs.take_out.remove_joints.Goals.{then-not-is_joint_of, else-not-is_joint_of}
 use Rattle.ent_core.proofs.take_out.remove_joints.Goals as goal

@@ -1,8 +1,6 @@
-use Rattle.std.proofs.Common.{◌≡◌, List, [], ◌∷◌, ◌++◌, not, get_or, filter, sym, ap, ◌∙◌}
+use Rattle.std.proofs.Common.{◌≡◌, List, [], ◌∷◌, ◌++◌, not, get_or, filter, ap, ◌∙◌}
 use Rattle.ent_protocol.specs.Member.{is_tx}
 use Rattle.ent_protocol.specs.State.{Member}
-use Rattle.ent_run.proofs.Grouped.{grouped_prepared}
-use Rattle.ent_run.proofs.LockedRuns.{run_locked_prepared}
 use Rattle.ent_run.proofs.OneMember.{found_at, removed_at}
 use Rattle.ent_run.proofs.moves.prepare.Goals as goal
 
@@ -17,23 +15,6 @@ returns-clause-ok c = λ tx at member there.
           ∙ ap (λ (ms : List Member). ms ++ gone ∷ []) c.in_ok-reserve.ensures.items
           ∙ ap (λ (m : Member). prepared ++ m ∷ []) (c.remove-member.ensures.value ∙ same);
       active = c.remove-member.ensures.items
-          ∙ removed_at active c.args.at gone c.requires.run.distinct at.in_range
+          ∙ removed_at active c.args.at gone c.requires.distinct at.in_range
           ∙ ap (λ (m : Member). filter (λ other. not (is_tx m.tx other)) active) same;
     }
-
-pub returns-clause-locked : goal.returns-clause-locked
-returns-clause-locked c = λ locks run.
-    let active = c.args.active.now.items in
-    let prepared = c.args.prepared.now.items in
-    let gone = c.remove-member.result in
-    rw (c.push_reserved.ensures.items, c.in_ok-reserve.ensures.items, c.remove-member.ensures.items)
-    (run_locked_prepared locks prepared active c.args.at gone c.requires.within (sym c.remove-member.ensures.value) run)
-
-pub returns-clause-grouped : goal.returns-clause-grouped
-returns-clause-grouped c = λ groups grouped.
-    let active = c.args.active.now.items in
-    let prepared = c.args.prepared.now.items in
-    let gone = c.remove-member.result in
-    rw (c.push_reserved.ensures.items, c.in_ok-reserve.ensures.items, c.remove-member.ensures.items)
-    (grouped_prepared groups prepared active c.args.at gone c.requires.within (sym c.remove-member.ensures.value)
-    c.requires.run.distinct grouped)

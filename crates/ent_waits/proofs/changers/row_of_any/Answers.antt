@@ -1,22 +1,21 @@
-use Rattle.std.proofs.Common.{List, true, false, subst}
-use Rattle.ent_protocol.specs.State.{Member}
-use Rattle.ent_waits.specs.Rows.{MarksGroups}
-use Rattle.ent_waits.proofs.Marked.{alone, is_alone, over_from_groups, row_marks}
+use Rattle.ent_lock.specs.declared.holders.Holder.{Holder}
+use Rattle.ent_lock.specs.declared.mode.Mode.TheVariants.{Shared}
+use Rattle.ent_waits.specs.Rows.{MarksGroupOf}
+use Rattle.ent_waits.proofs.Holders.{any_marks, each_next, each_whole}
 use Rattle.ent_waits.proofs.changers.row_of_any.Goals as goal
 
+pub loop-held-preserved : goal.loop-held-preserved
+loop-held-preserved c =
+    each_next (λ (held : Holder). MarksGroupOf c.args.run.now held.holder) c.holders-held-items.result.now
+    c.loop-held.held-index (record { holder = 0; mode = Shared }) c.loop-held.row c.mark_group_of-row.result
+    c.loop-held-test.true
+    (λ held marks holder there own member is_there same place other stands is.
+    c.mark_group_of-row.ensures.kept place (marks holder there own member is_there same place other stands is))
+    c.mark_group_of-row.ensures.marked c.loop-held.invariant
+
 pub returns : goal.returns
-returns c = λ asker.
-    let run = c.args.run.now in
-    let asked = c.args.asked.now in
-    let active = c.active-active.result.now in
-    let is = c.active-active.ensures.list in
-    row_marks run (alone asker) asked c.mark_groups-row.result c.mark_groups.result
-    (over_from_groups true run.active (alone asker) asked run.prepared c.mark_groups-row.result
-    (subst (λ (members : List Member). MarksGroups members asked run.prepared c.mark_groups-row.result) is
-    (subst (λ (holders : List Member). MarksGroups active asked holders c.mark_groups-row.result)
-    c.prepared.ensures c.mark_groups-row.ensures.marked)))
-    c.mark_groups.ensures.kept
-    (over_from_groups false run.active (alone asker) asked run.active c.mark_groups.result
-    (subst (λ (members : List Member). MarksGroups members asked members c.mark_groups.result) is
-    c.mark_groups.ensures.marked))
-    asker (is_alone asker)
+returns c =
+    let holders = c.holders-held-items.result.now in
+    any_marks c.args.run.now c.args.table holders c.loop-held.row c.holders-held-items.ensures
+    (each_whole (λ (held : Holder). MarksGroupOf c.args.run.now held.holder) holders c.loop-held.held-index
+    c.loop-held.row c.loop-held-test.false c.loop-held.invariant)

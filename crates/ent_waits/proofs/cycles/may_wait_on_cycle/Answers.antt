@@ -16,6 +16,6 @@ returns c = λ s quick.
     let numbers = map tx_of run.active in
     no_deadlock c.awaited_members_are_waited_for.ensures run submitted lent s
     (c.may_have_cycle.ensures quick numbers (gathered run submitted lent)
-    (AllPairs-from_IsDistinct Decides-eqb numbers c.active-active.ensures.distinct)
-    (omega (arith, length-map run.active tx_of, c.len-most.ensures.bound))
+    (AllPairs-from_IsDistinct Decides-eqb numbers c.active_len-most.ensures.distinct)
+    (omega (arith, length-map run.active tx_of, c.active_len-most.ensures.bound))
     (marked_pairs run submitted lent c.rows_of-rows.result c.rows_of-rows.ensures))

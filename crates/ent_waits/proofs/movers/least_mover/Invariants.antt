@@ -6,7 +6,6 @@ use Rattle.ent_waits.proofs.WouldMove.{HasMoverIn}
 use Rattle.ent_waits.proofs.movers.least_mover.Given as goal
 
 -- the least of the members so far
-abbrev pub invariant-loop-member : goal.invariant-loop-member
-invariant-loop-member l =
-    (s : State) → IsLeastIfAny (HasMoverIn (state_with l.run l.submitted l.lent s) (take l.member-index l.run.active))
-    l.least
+abbrev pub invariant-loop-place : goal.invariant-loop-place
+invariant-loop-place l =
+    (s : State) → IsLeastIfAny (HasMoverIn (state_with l.run l.submitted l.lent s) (take l.place l.run.active)) l.least

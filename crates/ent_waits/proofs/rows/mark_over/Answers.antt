@@ -1,45 +1,24 @@
-use Rattle.std.proofs.Common.{ℕ, ◌+◌, sym, subst, ◌∙◌, arith}
-use Rattle.std.proofs.lemmas.List.{get_or_default}
-use Rattle.ent_waits.specs.Rows.{HasMarksOf}
-use Rattle.ent_waits.proofs.Marked.{IsElement, MarksOverUpto, over_more, over_same}
-use Rattle.ent_waits.proofs.rows.mark_over.Goals.{then-stops, else-stops}
+use Rattle.std.proofs.Common.{sym, ◌∙◌, true≢false}
+use Rattle.ent_waits.proofs.Holders.{is_way, label_is, no_label, over_marked}
 use Rattle.ent_waits.proofs.rows.mark_over.Goals as goal
 
-pub loop-holder-init : goal.loop-holder-init
-loop-holder-init c = record {
-  kept = λ place own. own;
-  upto = λ place holder below stands own. absurd (omega (arith, below));
-}
+pub returns-in-Some-clause-marked : goal.returns-in-Some-clause-marked
+returns-in-Some-clause-marked c = λ holder own in_way.
+    let run = c.args.run.now in
+    let label = label_is run c.args.tx c.in-Some.group c.label_of.result c.label_of.ensures c.in-Some.is holder
+    (is_way run c.args.askers holder in_way) own in
+    over_marked run c.args.askers c.args.tx c.in-Some.group c.mark_awaited.result holder label own
+    c.mark_awaited.ensures.marked
 
-pub loop-holder-preserved : goal.loop-holder-preserved
-loop-holder-preserved c =
-    let of_group = c.args.of_group in
-    let active = c.args.active.now in
-    let askers = c.args.askers in
-    let asked = c.args.asked.now in
-    let holders = c.args.holders.now in
-    let at = c.loop-holder.holder-index in
-    let old = c.args.row in
-    let row = c.loop-holder.marked in
-    let here = c.holder-item.result in
-    let element : IsElement holders at here =
-    λ d. get_or_default holders at d here c.loop-holder-test.true ∙ sym c.holder-item.is in
-    elim c.if-stops.branch [
-      | then-stops w ↦ record {
-        kept = subst (λ (new : ℕ). HasMarksOf new old) (sym w.marked-is)
-            (λ place own. w.mark_awaited-marked.ensures.kept place (c.loop-holder.invariant.kept place own));
-        upto = subst (λ (new : ℕ). MarksOverUpto of_group active askers asked holders (at + 1) new) (sym w.marked-is)
-            (over_more of_group active askers asked holders row w.mark_awaited-marked.result at here element
-            w.mark_awaited-marked.ensures.kept w.mark_awaited-marked.ensures.marked c.loop-holder.invariant.upto);
-      }
-      | else-stops w ↦ record {
-        kept = subst (λ (new : ℕ). HasMarksOf new old) (sym w.marked-is) c.loop-holder.invariant.kept;
-        upto = subst (λ (new : ℕ). MarksOverUpto of_group active askers asked holders (at + 1) new) (sym w.marked-is)
-            (over_same of_group active askers asked holders row at here element
-            (sym c.stops.ensures ∙ w.if-stops.false) c.loop-holder.invariant.upto);
-      }
-    ]
+pub returns-in_default-clause-marked : goal.returns-in_default-clause-marked
+returns-in_default-clause-marked c = λ holder own in_way.
+    let run = c.args.run.now in
+    let label = label_is run c.args.tx c.in-Some.group c.label_of.result c.label_of.ensures c.in-Some.is holder
+    (is_way run c.args.askers holder in_way) own in
+    absurd (true≢false (sym c.if-not-is_passed.false ∙ c.is_passed.ensures holder in_way own label))
 
-pub returns-clause-marked : goal.returns-clause-marked
-returns-clause-marked c = λ place holder stands own.
-    c.loop-holder.invariant.upto place holder (omega (arith, stands.0, c.loop-holder-test.false)) stands own
+pub returns-in_default-2-clause-marked : goal.returns-in_default-2-clause-marked
+returns-in_default-2-clause-marked c = λ holder own in_way.
+    let run = c.args.run.now in
+    absurd (no_label run c.args.tx c.label_of.result c.label_of.ensures c.in_default.is holder
+    (is_way run c.args.askers holder in_way) own)

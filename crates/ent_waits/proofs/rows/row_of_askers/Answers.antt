@@ -1,20 +1,21 @@
-use Rattle.std.proofs.Common.{List, true, false, subst}
-use Rattle.ent_protocol.specs.State.{Member}
-use Rattle.ent_waits.specs.Rows.{MarksOver}
-use Rattle.ent_waits.proofs.Marked.{row_marks}
+use Rattle.std.proofs.Common.{sym}
+use Rattle.ent_waits.specs.Rows.{MarksInConflict}
+use Rattle.ent_waits.proofs.Holders.{each_more, each_none, each_whole, row_marks}
 use Rattle.ent_waits.proofs.rows.row_of_askers.Goals as goal
+
+pub loop-own-init : goal.loop-own-init
+loop-own-init c = each_none (MarksInConflict c.args.run.now c.args.askers) 0
+
+pub loop-own-preserved : goal.loop-own-preserved
+loop-own-preserved c =
+    each_more (MarksInConflict c.args.run.now c.args.askers) c.args.asked.now c.loop-own.own-index c.own-item.result
+    c.loop-own.row c.mark_holders-row.result c.loop-own-test.true (sym c.own-item.is)
+    (λ own marks holder way in_way place other stands waits.
+    c.mark_holders-row.ensures.kept place (marks holder way in_way place other stands waits))
+    c.mark_holders-row.ensures.marked c.loop-own.invariant
 
 pub returns : goal.returns
 returns c =
-    let run = c.args.run.now in
-    let askers = c.args.askers in
-    let asked = c.args.asked.now in
-    let active = c.active-active.result.now in
-    let is = c.active-active.ensures.list in
-    row_marks run askers asked c.mark_over-row.result c.mark_over.result
-    (subst (λ (members : List Member). MarksOver true members askers asked run.prepared c.mark_over-row.result) is
-    (subst (λ (holders : List Member). MarksOver true active askers asked holders c.mark_over-row.result)
-    c.prepared.ensures c.mark_over-row.ensures.marked))
-    c.mark_over.ensures.kept
-    (subst (λ (members : List Member). MarksOver false members askers asked members c.mark_over.result) is
-    c.mark_over.ensures.marked)
+    let P = MarksInConflict c.args.run.now c.args.askers in
+    row_marks c.args.run.now c.args.askers c.args.asked.now c.loop-own.row
+    (each_whole P c.args.asked.now c.loop-own.own-index c.loop-own.row c.loop-own-test.false c.loop-own.invariant)

@@ -1,4 +1,4 @@
-use Rattle.std.proofs.Common.{◌≡◌, ◌≤◌, length}
+use Rattle.std.proofs.Common.{◌≡◌, length}
 use Rattle.std.specs.Prelude.{IfSome}
 use Rattle.ent_waits.specs.Rows.{IsOfChangers}
 use Rattle.ent_waits.proofs.Marked.{AreRowsUpto}
@@ -9,6 +9,4 @@ invariant-loop-place l = record {
   upto : AreRowsUpto l.run l.submitted l.lent l.place l.rows;
   known : IfSome l.known (IsOfChangers l.run);
   room : length l.rows ≡ 64;
-  bound : length l.active ≤ 64;
-  all : l.active ≡ l.run.active;
 }

@@ -20,7 +20,7 @@ returns-in-Some-clause-found c = λ s.
     let now = state_with c.args.run.now c.args.submitted.now c.args.lent.now s in
     record {
       deadlock = c.in_ok-cycle.ensures.found s;
-      victim = c.in-Some.member.now;
+      victim = c.in-Some.member;
       is_victim = ap (λ (xs : List ℕ). active_member now (slice_index xs 0)) (sym c.as_slice.ensures.list)
           ∙ sym (c.in-Some.ensures s);
       group = c.group-group.ensures;

@@ -9,17 +9,17 @@ at-requires c =
 
 pub returns-clause-there : goal.returns-clause-there
 returns-clause-there c =
-    stands_at c.args.store.now c.store.inside.run.active c.args.self.tx c.args.self.place c.at.result.now
+    stands_at c.args.store.now c.store.inside.run.active c.args.self.tx c.args.self.place c.at.result
     (ap (λ (x : State). x.active) c.store.view_is) c.requires.at c.at.ensures
 
 pub returns-clause-number : goal.returns-clause-number
 returns-clause-number c =
-    number_found c.args.self.tx c.args.store.now.active c.at.result.now
-    (stands_at c.args.store.now c.store.inside.run.active c.args.self.tx c.args.self.place c.at.result.now
+    number_found c.args.self.tx c.args.store.now.active c.at.result
+    (stands_at c.args.store.now c.store.inside.run.active c.args.self.tx c.args.self.place c.at.result
     (ap (λ (x : State). x.active) c.store.view_is) c.requires.at c.at.ensures)
 
 pub returns-clause-free : goal.returns-clause-free
 returns-clause-free c =
-    c.requires.free c.at.result.now
-    (stands_at c.args.store.now c.store.inside.run.active c.args.self.tx c.args.self.place c.at.result.now
+    c.requires.free c.at.result
+    (stands_at c.args.store.now c.store.inside.run.active c.args.self.tx c.args.self.place c.at.result
     (ap (λ (x : State). x.active) c.store.view_is) c.requires.at c.at.ensures)

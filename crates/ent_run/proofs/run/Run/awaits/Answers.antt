@@ -1,37 +1,26 @@
-use Rattle.std.proofs.Common.{◌≡◌, Bool, true, false, ◌||◌, refl, sym, ap, ◌∙◌}
-use Rattle.std.specs.List.{list_any}
-use Rattle.ent_run.specs.declared.blockers.Passed.TheVariants.{Group, Itself}
-use Rattle.ent_run.specs.Waits.{is_awaited_over}
-use Rattle.ent_run.proofs.Waiting.{awaited_by_lists}
+use Rattle.std.proofs.Common.{◌≡◌, ℕ, List, sym, ap, subst, ◌∙◌}
+use Rattle.std.specs.Prelude.{◌↔◌, IsTrue}
+use Rattle.ent_run.specs.Locks.{passed_numbers}
+use Rattle.ent_run.specs.Run.{Run, with_run}
+use Rattle.ent_run.specs.Waits.{IsMadeToWait, is_awaited}
+use Rattle.ent_run.proofs.Waiting.{waits_as}
+use Rattle.ent_run.specs.InRuns.{in_runs}
 use Rattle.ent_run.proofs.run.Run.awaits.Goals as goal
 
-or_first : (a b r : Bool) → a ≡ true → (a || b) ≡ r → a ≡ r
-or_first a b r is whole = is ∙ sym (ap (λ x. x || b) is) ∙ whole
-
-or_second : (a b r : Bool) → a ≡ false → (a || b) ≡ r → b ≡ r
-or_second a b r is whole = sym (ap (λ x. x || b) is) ∙ whole
-
-pub returns-then-is_awaited_over : goal.returns-then-is_awaited_over
-returns-then-is_awaited_over c = λ s.
-    let asked = c.args.asked.now in
+pub returns : goal.returns
+returns c = λ s.
     let asker = c.args.asker.now in
-    let other = c.args.other.now in
-    let run = c.args.self.now in
-    let over_active = list_any (is_awaited_over asked (Itself asker.tx) asker.group other) run.active in
-    or_first c.is_awaited_over.result over_active _ c.if-is_awaited_over.true
-    (ap (λ b. b || over_active) (c.is_awaited_over.ensures ∙ rw (c.group-group.ensures, c.prepared.ensures) refl)
-    ∙ awaited_by_lists asked asker.group asker.tx other run.prepared run.active)
-
-pub returns-else-is_awaited_over : goal.returns-else-is_awaited_over
-returns-else-is_awaited_over c = λ s.
     let asked = c.args.asked.now in
-    let asker = c.args.asker.now in
     let other = c.args.other.now in
-    let run = c.args.self.now in
-    let over_prepared = list_any (is_awaited_over asked (Group asker.group) asker.group other) run.prepared in
-    let last = c.is_awaited_over-else-is_awaited_over.result in
-    or_second c.is_awaited_over.result last _ c.if-is_awaited_over.false
-    (ap (λ b. b || last) (c.is_awaited_over.ensures ∙ rw (c.group-group.ensures, c.prepared.ensures) refl)
-    ∙ ap (λ b. over_prepared || b) (c.is_awaited_over-else-is_awaited_over.ensures
-    ∙ rw (c.group-group.ensures, c.tx.ensures, c.active.ensures.list) refl)
-    ∙ awaited_by_lists asked asker.group asker.tx other run.prepared run.active)
+    let result = c.awaits.result in
+    let locks = c.self.inside.locks in
+    let groups = c.self.inside.groups in
+    subst (λ (run : Run). result ≡ is_awaited (with_run run s) asker asked other) c.self.view_is
+    (waits_as locks groups (in_runs c.self.inside.locks c.self.inside.groups c.self.inside.prepared.items)
+    (in_runs c.self.inside.locks c.self.inside.groups c.self.inside.active.items) c.self.invariant.0 asker asked
+    other s
+    result
+    (subst (λ (pass : List ℕ). IsTrue result ↔ IsMadeToWait locks groups asked pass asker.group other)
+    (c.passed_by-pass.ensures ∙ ap (passed_numbers asker) (sym c.self.view_is))
+    (subst (λ (group : ℕ). IsTrue result ↔ IsMadeToWait locks groups asked c.passed_by-pass.result group other)
+    c.group.ensures c.awaits.ensures)))

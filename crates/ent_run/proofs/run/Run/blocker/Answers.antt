@@ -4,6 +4,7 @@ use Rattle.ent_protocol.specs.Uses.{blocker}
 use Rattle.ent_run.specs.Locks.{BlocksUses, passed_numbers}
 use Rattle.ent_run.specs.Run.{Run, with_run}
 use Rattle.ent_run.proofs.Blocked.{blocker_is}
+use Rattle.ent_run.specs.InRuns.{in_runs}
 use Rattle.ent_run.proofs.run.Run.blocker.Goals as goal
 
 pub returns : goal.returns
@@ -13,6 +14,8 @@ returns c = λ s.
     let result = c.least_in_conflict.result in
     let locks = c.self.inside.locks in
     subst (λ (run : Run). result ≡ blocker (with_run run s) asker asked) c.self.view_is
-    (blocker_is locks c.self.inside.prepared.items c.self.inside.active.items c.self.invariant.0 asker asked result s
+    (blocker_is locks (in_runs c.self.inside.locks c.self.inside.groups c.self.inside.prepared.items)
+    (in_runs c.self.inside.locks c.self.inside.groups c.self.inside.active.items) c.self.invariant.0.0 asker asked
+    result s
     (subst (λ (pass : List ℕ). IsLeastIfAny (BlocksUses locks asked pass) result)
     (c.passed_by.ensures ∙ ap (passed_numbers asker) (sym c.self.view_is)) c.least_in_conflict.ensures))

@@ -1,26 +1,86 @@
-use Rattle.std.proofs.Common.{not, List, ◌++◌, map, sym, ap, subst, ◌∙◌}
+use Rattle.std.proofs.Common.{◌≡◌, List, ◌++◌, map, not, refl, sym, ap, subst, ◌∙◌}
 use Rattle.std.specs.Prelude.{filter}
 use Rattle.std.specs.List.{list_any}
 use Rattle.ent_lists.specs.Elements.{turned}
 use Rattle.ent_lock.specs.Use.{DropsUses}
+use Rattle.ent_members.specs.InRun.{in_run}
+use Rattle.ent_members.specs.Order.{tx_of}
+use Rattle.ent_members.specs.RunAttempts.{run_attempt_of}
+use Rattle.ent_protocol.specs.Commit.{entry_of}
 use Rattle.ent_protocol.specs.Member.{is_of}
 use Rattle.ent_protocol.specs.State.{Member}
-use Rattle.ent_members.specs.Order.{tx_of}
+use Rattle.ent_run.specs.Grouped.{IsRunOf}
+use Rattle.ent_run.specs.InRuns.{in_runs, is_labelled}
+use Rattle.ent_run.specs.Moves.{is_of_another}
 use Rattle.ent_run.specs.Run.{Run}
-use Rattle.ent_run.proofs.RunWith.{committed_with}
+use Rattle.ent_run.proofs.InRuns.{filter_mapped}
+use Rattle.ent_run.proofs.Left.{Committing, committed_active, committed_prepared, committed_run, told_of}
+use Rattle.ent_run.proofs.Lookups.{numbers_labelled}
 use Rattle.ent_run.proofs.run.Run.commit.Goals as goal
+use Rattle.ent_run.proofs.run.Run.commit.Goals.{After-remove_labelled}
+
+-- those who commit are the labelled ones
+taken : (c : After-remove_labelled) → c.take_group.new.taken.items
+    ≡ filter (is_labelled c.self.inside.groups c.args.group) c.self.inside.prepared.items
+taken c =
+    c.take_group.ensures.taken
+    ∙ ap (λ (ms : List Member). ms
+    ++ filter (is_labelled c.self.inside.groups c.args.group) c.self.inside.prepared.items) c.requires.empty
+
+abbrev committing : After-remove_labelled → Committing
+committing c = record {
+  group = c.args.group;
+  locks = c.self.inside.locks;
+  next = c.drop_group.new.self;
+  groups = c.self.inside.groups;
+  left = c.remove_labelled.new.groups;
+  prepared = c.self.inside.prepared.items;
+  active = c.self.inside.active.items;
+  run = c.self.invariant;
+  none = turned (list_any (is_of c.args.group)
+      (in_runs c.self.inside.locks c.self.inside.groups c.self.inside.active.items))
+      (sym (c.is_ready.ensures ∙ ap (λ (run : Run). not (list_any (is_of c.args.group) run.active))
+      (sym c.self.view_is))
+      ∙ c.if-not-is_ready.false);
+  drops = subst (DropsUses c.self.inside.locks c.drop_group.new.self)
+      (c.member_numbers.ensures ∙ ap (map tx_of) (c.as_slice.ensures.value ∙ taken c)
+      ∙ numbers_labelled c.self.inside.locks c.self.inside.groups c.self.inside.prepared.items c.args.group)
+      c.drop_group.ensures;
+  leaves = c.remove_labelled.ensures;
+}
 
 pub invariant_of-self : goal.invariant_of-self
 invariant_of-self c =
-    rw c.take_group.ensures.kept
-    (committed_with c.args.group c.self.inside.locks c.drop_group.new.self c.self.inside.groups
-    c.remove_labelled.new.groups c.self.inside.prepared.items c.self.inside.active.items
-    (turned (list_any (is_of c.args.group) c.self.inside.active.items)
-    (sym (c.is_ready.ensures ∙ ap (λ (run : Run). not (list_any (is_of c.args.group) run.active)) (sym c.self.view_is))
-    ∙ c.if-not-is_ready.false))
-    (subst (DropsUses c.self.inside.locks c.drop_group.new.self)
-    (c.member_numbers.ensures ∙ ap (map tx_of) (c.as_slice.ensures.value ∙ c.take_group.ensures.taken
-    ∙ ap (λ (ms : List Member). ms ++ filter (is_of c.args.group) c.self.inside.prepared.items) c.requires.empty))
-    c.drop_group.ensures)
-    c.remove_labelled.ensures
-    c.self.invariant)
+    subst (λ (ms : List Member). IsRunOf c.drop_group.new.self c.remove_labelled.new.groups ms
+    c.self.inside.active.items)
+    (sym c.take_group.ensures.kept) (committed_run (committing c))
+
+pub returns-clause-prepared : goal.returns-clause-prepared
+returns-clause-prepared c = λ _.
+    ap (in_runs c.drop_group.new.self c.remove_labelled.new.groups) c.take_group.ensures.kept
+    ∙ committed_prepared (committing c)
+    ∙ ap (λ (run : Run). filter (is_of_another c.args.group) run.prepared) c.self.view_is
+
+pub returns-clause-active : goal.returns-clause-active
+returns-clause-active c = λ _. committed_active (committing c) ∙ ap (λ (run : Run). run.active) c.self.view_is
+
+-- they are those who are prepared and of the group
+pub returns-clause-entries : goal.returns-clause-entries
+returns-clause-entries c = λ s.
+    let inside = c.self.inside in
+    ap (map entry_of) (taken c)
+    ∙ told_of entry_of inside.locks inside.groups (λ m. refl)
+    (filter (is_labelled inside.groups c.args.group) inside.prepared.items)
+    ∙ ap (map entry_of) (sym (filter_mapped (in_run inside.locks inside.groups) (is_of c.args.group)
+    (is_labelled inside.groups c.args.group) (λ m. refl) inside.prepared.items))
+    ∙ ap (λ (run : Run). map entry_of (filter (is_of c.args.group) run.prepared)) c.self.view_is
+
+pub returns-clause-attempts : goal.returns-clause-attempts
+returns-clause-attempts c = λ s.
+    let inside = c.self.inside in
+    ap (map run_attempt_of) (taken c)
+    ∙ told_of run_attempt_of inside.locks inside.groups (λ m. refl)
+    (filter (is_labelled inside.groups c.args.group) inside.prepared.items)
+    ∙ ap (map run_attempt_of) (sym (filter_mapped (in_run inside.locks inside.groups) (is_of c.args.group)
+    (is_labelled inside.groups c.args.group) (λ m. refl) inside.prepared.items))
+    ∙ ap (λ (run : Run). map run_attempt_of (filter (is_of c.args.group) run.prepared)) c.self.view_is

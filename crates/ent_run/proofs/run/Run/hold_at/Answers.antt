@@ -1,50 +1,65 @@
-use Rattle.std.proofs.Common.{refl, sym, ap, subst, ◌∙◌, ◌<◌, ℕ, List, get_or, length, map}
-use Rattle.std.proofs.lemmas.List.{with_items_is}
-use Rattle.ent_protocol.specs.Begin.{replaced, with_uses}
+use Rattle.std.proofs.Common.{ℕ, ◌<◌, List, get_or, length, sym, ap, subst, ◌∙◌}
+use Rattle.std.specs.Prelude.{OnOk}
+use Rattle.ent_protocol.specs.Begin.{holding}
 use Rattle.ent_protocol.specs.State.{Member}
-use Rattle.ent_members.specs.Changes.{holding_all}
-use Rattle.ent_run.specs.Grouped.{IsRunWith}
+use Rattle.ent_run.specs.InRuns.{in_runs}
 use Rattle.ent_run.specs.Locks.{Locks}
-use Rattle.ent_run.specs.Places.{IsAt, found}
+use Rattle.ent_run.specs.Places.{Changes, IsAt}
 use Rattle.ent_run.specs.Run.{Run}
-use Rattle.ent_run.proofs.RunWith.{changes_at, held_at}
+use Rattle.ent_run.proofs.Lookups.{within_own}
+use Rattle.ent_run.proofs.Granted.{tried_changes, tried_prepared, tried_run}
 use Rattle.ent_run.proofs.run.Run.hold_at.Goals as goal
 
-pub invariant_of-self-2 : goal.invariant_of-self-2
-invariant_of-self-2 c =
-    let old = c.as_mut_slice.result.now in
-    let new = c.hold.new.members in
-    let uses = c.in_ok-uses.uses.items in
+pub invariant_of-self : goal.invariant_of-self
+invariant_of-self c =
+    let inside = c.self.inside in
+    let locks = inside.locks in
+    let next = c.lock.new.locks in
     let asked = c.args.asked.now in
     let place = c.args.place in
-    let member = c.at-member.result.now in
-    let locks = c.self.inside.locks in
-    let groups = c.self.inside.groups in
-    let prepared = c.self.inside.prepared.items in
-    let first = ap (λ (run : Run). run.active) (sym c.self.view_is) ∙ sym c.as_mut_slice.ensures.value in
-    subst (IsRunWith c.lock.new.locks groups prepared)
-    (sym (with_items_is c.self.inside.active new (c.hold.auto.members ∙ c.as_mut_slice.ensures.len)))
-    (held_at holding_all old new asked uses place member
-    (λ d. c.at-member.ensures d ∙ ap (λ (ms : List Member). get_or ms place d) first)
-    (c.in_ok-uses.ensures ∙ ap (with_uses asked) c.uses.ensures) (λ us m. refl) (λ us m. refl) (λ us m. refl) locks
-    c.lock.new.locks groups prepared
-    (subst (IsRunWith locks groups prepared) (sym c.as_mut_slice.ensures.value) c.self.invariant)
-    (subst (λ (ms : List Member). place < length ms) first c.requires) c.hold.ensures.changed c.hold.ensures.numbers
-    (subst (λ (n : ℕ). Locks n asked locks c.lock.new.locks) c.tx-tx.ensures c.in_ok-lock.ensures.ok))
+    let active = inside.active.items in
+    let member = c.index-as_slice-place.result in
+    let within = within_own locks inside.groups active place
+    (subst (λ (run : Run). place < length run.active) (sym c.self.view_is) c.requires) in
+    let is = c.index-as_slice-place.is
+    ∙ ap (λ (ms : List Member). get_or ms place member) c.as_slice.ensures.value in
+    let more = subst (λ (n : ℕ). OnOk c.lock.result (Locks n asked locks next)) c.tx-tx.ensures c.lock.ensures.ok in
+    tried_run locks next inside.groups inside.prepared.items active place asked member c.self.invariant within is
+    c.lock.result more c.lock.ensures.by_number c.lock.ensures.err
 
 pub returns-clause-ok : goal.returns-clause-ok
-returns-clause-ok c = λ tx at other there.
-    let old = c.as_mut_slice.result.now in
-    let new = c.hold.new.members in
-    let uses = c.in_ok-uses.uses.items in
+returns-clause-ok c =
+    let inside = c.self.inside in
+    let locks = inside.locks in
+    let next = c.lock.new.locks in
     let asked = c.args.asked.now in
     let place = c.args.place in
-    let member = c.at-member.result.now in
-    let first = ap (λ (run : Run). run.active) (sym c.self.view_is) ∙ sym c.as_mut_slice.ensures.value in
-    let here = subst (λ (ms : List Member). IsAt ms tx place) first at in
-    with_items_is c.self.inside.active new (c.hold.auto.members ∙ c.as_mut_slice.ensures.len)
-    ∙ changes_at holding_all old new asked uses place member
-    (λ d. c.at-member.ensures d ∙ ap (λ (ms : List Member). get_or ms place d) first)
-    (c.in_ok-uses.ensures ∙ ap (with_uses asked) c.uses.ensures) tx here (c.hold.ensures.changed tx here) other
-    (ap (λ (ms : List Member). found ms tx) (sym first) ∙ there)
-    ∙ ap (map (replaced (holding_all (with_uses asked other.uses) other))) (sym first)
+    let active = inside.active.items in
+    let member = c.index-as_slice-place.result in
+    let within = within_own locks inside.groups active place
+    (subst (λ (run : Run). place < length run.active) (sym c.self.view_is) c.requires) in
+    let is = c.index-as_slice-place.is
+    ∙ ap (λ (ms : List Member). get_or ms place member) c.as_slice.ensures.value in
+    let more = subst (λ (n : ℕ). OnOk c.lock.result (Locks n asked locks next)) c.tx-tx.ensures c.lock.ensures.ok in
+    subst (λ (run : Run). (tx : ℕ) → IsAt run.active tx place → OnOk c.lock.result
+    (Changes (λ m. holding m asked) tx run.active (in_runs next inside.groups active))) c.self.view_is
+    (tried_changes locks next inside.groups inside.prepared.items active place asked member c.self.invariant within is
+    c.lock.result more c.lock.ensures.by_number)
+
+pub returns-clause-prepared : goal.returns-clause-prepared
+returns-clause-prepared c =
+    let inside = c.self.inside in
+    let locks = inside.locks in
+    let next = c.lock.new.locks in
+    let asked = c.args.asked.now in
+    let place = c.args.place in
+    let active = inside.active.items in
+    let member = c.index-as_slice-place.result in
+    let within = within_own locks inside.groups active place
+    (subst (λ (run : Run). place < length run.active) (sym c.self.view_is) c.requires) in
+    let is = c.index-as_slice-place.is
+    ∙ ap (λ (ms : List Member). get_or ms place member) c.as_slice.ensures.value in
+    let more = subst (λ (n : ℕ). OnOk c.lock.result (Locks n asked locks next)) c.tx-tx.ensures c.lock.ensures.ok in
+    tried_prepared locks next inside.groups inside.prepared.items active place asked member c.self.invariant within is
+    c.lock.result more c.lock.ensures.by_number c.lock.ensures.err
+    ∙ ap (λ (run : Run). run.prepared) c.self.view_is

@@ -1,5 +1,7 @@
+use Rattle.ent_run.proofs.Lookups.{nobody_by_number}
 use Rattle.ent_run.proofs.RunWith.{nobody_with}
 use Rattle.ent_run.proofs.run.Run.new.Goals as goal
 
 pub invariant_of-result : goal.invariant_of-result
-invariant_of-result c = rw (c.new.ensures.items, c.new-2.ensures.items, c.new-3.ensures, c.new-4.ensures) nobody_with
+invariant_of-result c =
+    rw (c.new.ensures.items, c.new-2.ensures.items, c.new-3.ensures, c.new-4.ensures) (nobody_with, nobody_by_number)

@@ -1,7 +1,7 @@
 use Rattle.std.proofs.Common.{◌≡◌, ◌+◌, ℕ, Some, slice_get, drop, sym, ap, ◌∙◌}
 use Rattle.std.specs.Option.{option_map}
 use Rattle.std.proofs.lemmas.Option.{slice_get-map}
-use Rattle.indexmap.specs.IndexMap.{keys, get}
+use Rattle.indexmap.specs.IndexMap.{keys}
 use Rattle.ent_transaction_table.specs.TransactionTable.{TransactionTable, entrant_of}
 use Rattle.ent_transaction_table.proofs.Lookups.{slice_behind, value_here}
 use Rattle.ent_transaction_table.proofs.transaction_table.TransactionTable.dormant_at.Goals as goal
