@@ -129,7 +129,8 @@ count_below-cons tx m ms = sum_by-cons (λ n. if nat_lt n.member tx then 1 else 
 count_none : (k tx c : ℕ) → tx < k → c ≡ 0 → (if nat_lt k tx then 1 else 0) + c ≡ 0
 count_none k tx c above none = grind (arith, nat_tests)
 
-pub none_below : (tx : ℕ) (ms : List Membership) → All (λ n. tx < n.member) ms → count_by (λ n. nat_lt n.member tx) ms ≡ 0
+pub none_below : (tx : ℕ) (ms : List Membership) → All (λ n. tx < n.member) ms
+    → count_by (λ n. nat_lt n.member tx) ms ≡ 0
 none_below tx [] h = refl
 none_below tx (m ∷ ms) h =
     count_below-cons tx m ms ∙ count_none m.member tx (count_by (λ n. nat_lt n.member tx) ms)

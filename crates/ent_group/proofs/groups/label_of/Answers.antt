@@ -33,4 +33,5 @@ returns-in_default-2 c =
     let ms = c.args.memberships.now in
     let at = c.count_below-at.result in
     let beyond : false ≡ nat_lt at (length ms) = sym (ap is_some c.in_default.is) ∙ c.get.ensures.lookup.0 in
-    sym (label_behind ms c.args.tx at nobody c.requires c.count_below-at.ensures (λ within. absurd (grind (arith, beyond))))
+    sym (label_behind ms c.args.tx at nobody c.requires c.count_below-at.ensures
+    (λ within. absurd (grind (arith, beyond))))
