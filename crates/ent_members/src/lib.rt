@@ -23,7 +23,7 @@ pub use hold::with_uses;
 pub use member::{Member, label_in};
 pub use member_answer::MemberAnswer;
 pub use progress::Progress;
-pub use run_attempts::{RunAttempt, RunAttempts, gather, gather_by_number};
+pub use run_attempts::{RunAttempt, RunAttempts};
 pub use table_use::Use;
 pub use uses::{
     MOST_USES, Uses, entangled_uses, exclusive_table, statement_uses, uses_are_kept_by_closing,

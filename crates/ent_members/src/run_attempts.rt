@@ -1,15 +1,10 @@
 //! A few members by number, in a fixed array.
-ghost use Rattle.std.specs.Prelude.{◌≡◌, ◌<◌, ◌≤◌, ◌+◌, ◌++◌, ◌∷◌, [], length, map, take, insert};
-ghost use Rattle.ent_lock.specs.Use.{Uses};
+ghost use Rattle.std.specs.Prelude.{◌≡◌, ◌<◌, ◌≤◌, ◌+◌, ◌++◌, ◌∷◌, [], length, take, insert};
 ghost use Rattle.ent_protocol.specs.State.{inserted};
-ghost use Rattle.ent_members.specs.InRun.{in_run};
-ghost use Rattle.ent_members.specs.RunAttempts.{gathered, is_within, run_attempt_of, run_attempts_in, number_of};
-ghost use Rattle.ent_members.specs.RunAttempts.{numbers_in};
-ghost use Rattle.ent_members.specs.Order.{IsAscending, place_in, tx_of};
+ghost use Rattle.ent_members.specs.RunAttempts.{number_of, numbers_in};
+ghost use Rattle.ent_members.specs.Order.{place_in};
 
-use crate::member::label_in;
-use crate::progress::Progress;
-use ent_group::{Groups, MOST_MEMBERS, Members, Tx};
+use ent_group::{MOST_MEMBERS, Members, Tx};
 use std::marker::Model;
 
 /// A member that is to leave the run: its number, and the runs that it took part in.
@@ -40,7 +35,7 @@ impl Model for RunAttempts {
 
 impl RunAttempts {
     /// Nobody.
-    pub(crate) fn new() -> Self
+    pub fn new() -> Self
         ensures { result ≡ [] }
     {
         let nobody = RunAttempt { tx: 0, attempt: 0 };
@@ -51,7 +46,7 @@ impl RunAttempts {
     }
 
     /// Puts one at the end.
-    fn push(&mut self, run_attempt: RunAttempt)
+    pub fn push(&mut self, run_attempt: RunAttempt)
         requires { length self.old < MOST_MEMBERS }
         ensures { self.new ≡ self.old ++ run_attempt ∷ [] }
     {
@@ -60,7 +55,7 @@ impl RunAttempts {
     }
 
     /// Puts one in by number, before the first of a greater one.
-    pub(crate) fn insert(&mut self, run_attempt: RunAttempt)
+    pub fn insert(&mut self, run_attempt: RunAttempt)
         requires { length self.old < MOST_MEMBERS }
         ensures { self.new ≡ inserted number_of run_attempt self.old }
     {
@@ -116,62 +111,4 @@ fn numbers_of(run_attempts: &[RunAttempt]) -> Members
         numbers.push(run_attempt.tx);
     }
     numbers
-}
-
-/// Whether a member is of the group with a label, where one is named.
-fn is_within(member: &Progress, groups: &Groups, group: Option<Tx>) -> bool
-    ensures { (locks : Uses) → result ≡ is_within group (in_run locks groups.now member.now) }
-{
-    match group {
-        Some(label) => label_in(groups, member.tx()) == label,
-        None => true,
-    }
-}
-
-fn run_attempt_of(member: &Progress) -> RunAttempt
-    ensures { result ≡ run_attempt_of member.now }
-{
-    RunAttempt {
-        tx: member.tx(),
-        attempt: member.attempt(),
-    }
-}
-
-/// The members of the group with a label, where one is named, else all, of a list by number.
-pub fn gather_by_number(members: &[Progress], groups: &Groups, group: Option<Tx>) -> RunAttempts
-    requires ascending { IsAscending (map tx_of members.now) }
-    requires bound { length members.now ≤ MOST_MEMBERS }
-    ensures list { (locks : Uses) → result ≡ run_attempts_in group (map (in_run locks groups.now) members.now) }
-    ensures room { length result ≤ length members.now }
-{
-    let mut run_attempts = RunAttempts::new();
-    let mut rest = members;
-    while let Some((first, later)) = rest.split_first() {
-        if is_within(first, groups, group) {
-            run_attempts.push(run_attempt_of(first));
-        }
-        rest = later;
-    }
-    run_attempts
-}
-
-/// Puts in the members of the group with a label, where one is named, else all of a list.
-pub fn gather(
-    members: &[Progress],
-    groups: &Groups,
-    group: Option<Tx>,
-    run_attempts: &mut RunAttempts,
-)
-    requires { length members.now + length run_attempts.old ≤ MOST_MEMBERS }
-    ensures list { (locks : Uses) → run_attempts.new
-        ≡ gathered group (map (in_run locks groups.now) members.now) run_attempts.old }
-    ensures room { length run_attempts.new ≤ length members.now + length run_attempts.old }
-{
-    let Some((first, rest)) = members.split_first() else {
-        return;
-    };
-    gather(rest, groups, group, run_attempts);
-    if is_within(first, groups, group) {
-        run_attempts.insert(run_attempt_of(first));
-    }
 }

@@ -64,7 +64,7 @@ ascending_pairs (n ∷ ns) pairs = (
 pub ascending_of : (ns : List ℕ) → IsStrictlyIncreasing ns → IsAscending ns
 ascending_of ns rising = ascending_pairs ns (AllPairs-from_increasing ns rising)
 
-one_above : (P : ℕ → Type 0) (ns : List ℕ) (m : ℕ) → AllByRecursion P ns → Contains ns m → P m
+pub one_above : (P : ℕ → Type 0) (ns : List ℕ) (m : ℕ) → AllByRecursion P ns → Contains ns m → P m
 one_above P [] m all there = absurd (contains_none m there)
 one_above P (n ∷ ns) m all there = elim (contains_cases n m ns there) [
   | inl same ↦ subst P same all.0

@@ -163,12 +163,11 @@ module _ (g : Granting) where
         ∙ each_twice (holding one g.asked) before
         ∙ ap (λ m. map (replaced (posting g.asked m)) before) (sym (found_is tx at other is))
 
-    pub posted_carried : (next seen : List Member) → next ≡ last → before ≡ seen → (tx : ℕ) → IsAt seen tx g.place
-        → Changes (posting g.asked) tx seen (in_runs g.next g.groups next)
-    posted_carried next seen items shows tx at =
-        subst (Changes (posting g.asked) tx seen) (ap (in_runs g.next g.groups) (sym items))
-        (subst (λ ms. IsAt ms tx g.place → Changes (posting g.asked) tx ms (in_runs g.next g.groups last)) shows
-        (posted_changes tx) at)
+    pub posted_carried : (seen : List Member) → before ≡ seen → (tx : ℕ) → IsAt seen tx g.place
+        → Changes (posting g.asked) tx seen (in_runs g.next g.groups last)
+    posted_carried seen shows tx at =
+        subst (λ ms. IsAt ms tx g.place → Changes (posting g.asked) tx ms (in_runs g.next g.groups last)) shows
+        (posted_changes tx) at
 
     pub posted_run : IsRunOf g.next g.groups g.prepared last
     posted_run = let done : Result ℕ ℕ = Ok 0 in (

@@ -1,6 +1,6 @@
 -- What members that stand by number allow: a search.
 use Rattle.std.proofs.Common.{◌≡◌, ℕ, zero, suc, ◌+◌, ◌<◌, ◌≤◌, Bool, true, false, ◌==◌, nat_lt, if◌then◌else◌, List}
-use Rattle.std.proofs.Common.{[], ◌∷◌, length, map, get_or, refl, sym, ap, ◌∙◌, arith}
+use Rattle.std.proofs.Common.{[], ◌∷◌, length, map, get_or, refl, sym, ap, subst, ◌∙◌, arith}
 use Rattle.std.specs.Prelude.{Some, None}
 use Rattle.std.specs.List.{filter, AllByRecursion}
 use Rattle.std.specs.List.Sorted.{IsNonDecreasingBy, IsPartitionPoint}
@@ -8,6 +8,7 @@ use Rattle.std.specs.Ordering.{is_lt, nat_cmp, ordering_index}
 use Rattle.std.specs.declared.cmp.Ordering.TheVariants.{Less, Greater}
 use Rattle.std.proofs.lemmas.Bool.Decides.{nat_tests}
 use Rattle.std.proofs.lemmas.Cmp.{nat_cmp_total}
+use Rattle.std.proofs.lemmas.List.{get_or-map, length-map}
 use Rattle.std.proofs.lemmas.List.Sorted.{searchable_from_sorted}
 use Rattle.ent_protocol.specs.Member.{is_tx}
 use Rattle.ent_protocol.specs.State.{Member, first_of}
@@ -99,25 +100,63 @@ rises xs tx ascending =
     not_lower : (n m : ℕ) → n < m → is_lt (nat_cmp m n) ≡ false
     not_lower n m lt = grind (arith, nat_tests, lt)
 
-pub found_between : (xs : List Member) (tx i : ℕ) → IsAscending (map tx_of xs)
-    → (IsNonDecreasingBy (λ (x : Member). ordering_index (nat_cmp x.tx tx)) xs
-    → IsPartitionPoint (λ (x : Member). nat_cmp x.tx tx ≡ Less) (λ (x : Member). nat_cmp x.tx tx ≡ Greater) xs i)
-    → found xs tx ≡ None
-found_between xs tx i ascending parted = found_nowhere xs tx (λ k d lt. on_a_side k d lt (nat_lt k i) refl)
-  where
-    sides : IsPartitionPoint (λ (x : Member). nat_cmp x.tx tx ≡ Less) (λ (x : Member). nat_cmp x.tx tx ≡ Greater) xs i
-    sides = parted (rises xs tx ascending)
+-- a search among what stands for members finds where one is
+module _ {K : Type 0} (f : K → Member) (ks : List K) where
+  pub found_under : (i tx : ℕ) → IsAscending (map tx_of (map f ks)) → i < length ks
+      → ((d : K) → (f (get_or ks i d)).tx ≡ tx) → IsAt (map f ks) tx i
+  found_under i tx ascending lt is = by_list ks ascending lt is
+    where
+      by_list : (xs : List K) → IsAscending (map tx_of (map f xs)) → i < length xs
+          → ((d : K) → (f (get_or xs i d)).tx ≡ tx) → IsAt (map f xs) tx i
+      by_list [] rising below at = absurd (omega (arith, below))
+      by_list (k ∷ xs) rising below at =
+          let low : i < length (map f (k ∷ xs)) = subst (λ n. i < n) (sym (length-map (k ∷ xs) f)) below in
+          record {
+            in_range = low;
+            first = λ d. found_here (map f (k ∷ xs)) i tx d rising low
+                (ap tx_of (get_or-map f (k ∷ xs) i k d below) ∙ at k);
+          }
 
-    below : (k : ℕ) → nat_lt k i ≡ true → k < i
-    below k is = grind (arith, nat_tests, is)
+  rises_under : (tx : ℕ) → IsAscending (map tx_of (map f ks))
+      → IsNonDecreasingBy (λ k. ordering_index (nat_cmp (f k).tx tx)) ks
+  rises_under tx ascending i j d le lt =
+      subst (λ (m : Member). ordering_index (nat_cmp m.tx tx) ≤ ordering_index (nat_cmp (f (get_or ks j d)).tx tx))
+      (get_or-map f ks i d (f d) (omega (arith, le, lt)))
+      (subst (λ (m : Member). ordering_index (nat_cmp (get_or (map f ks) i (f d)).tx tx)
+      ≤ ordering_index (nat_cmp m.tx tx)) (get_or-map f ks j d (f d) lt)
+      (rises (map f ks) tx ascending i j (f d) le (subst (λ n. j < n) (sym (length-map ks f)) lt)))
 
-    beyond : (k : ℕ) → nat_lt k i ≡ false → i ≤ k
-    beyond k is = grind (arith, nat_tests, is)
+  -- and where there is none
+  pub nowhere_under : (tx i : ℕ) → IsAscending (map tx_of (map f ks))
+      → (IsNonDecreasingBy (λ k. ordering_index (nat_cmp (f k).tx tx)) ks
+      → IsPartitionPoint (λ k. nat_cmp (f k).tx tx ≡ Less) (λ k. nat_cmp (f k).tx tx ≡ Greater) ks i)
+      → found (map f ks) tx ≡ None
+  nowhere_under tx i ascending parted =
+      found_nowhere (map f ks) tx
+      (λ k d lt. each k d (subst (λ n. k < n) (length-map ks f) lt))
+    where
+      sides : IsPartitionPoint (λ k. nat_cmp (f k).tx tx ≡ Less) (λ k. nat_cmp (f k).tx tx ≡ Greater) ks i
+      sides = parted (rises_under tx ascending)
 
-    on_a_side : (k : ℕ) (d : Member) → k < length xs → (b : Bool) → nat_lt k i ≡ b
-        → ((get_or xs k d).tx == tx) ≡ false
-    on_a_side k d lt true is = not_less (get_or xs k d).tx tx (sides.0 k d (omega arith) (below k is))
-    on_a_side k d lt false is = not_greater (get_or xs k d).tx tx (sides.1 k d (beyond k is) lt)
+      below : (k : ℕ) → nat_lt k i ≡ true → k < i
+      below k is = grind (arith, nat_tests, is)
+
+      beyond : (k : ℕ) → nat_lt k i ≡ false → i ≤ k
+      beyond k is = grind (arith, nat_tests, is)
+
+      on_a_side : (k : ℕ) (d : K) → k < length ks → (b : Bool) → nat_lt k i ≡ b
+          → ((f (get_or ks k d)).tx == tx) ≡ false
+      on_a_side k d lt true is = not_less (f (get_or ks k d)).tx tx (sides.0 k d (omega arith) (below k is))
+      on_a_side k d lt false is = not_greater (f (get_or ks k d)).tx tx (sides.1 k d (beyond k is) lt)
+
+      by_list : (xs : List K) (k : ℕ) (d : Member) → k < length xs
+          → ((e : K) → ((f (get_or xs k e)).tx == tx) ≡ false) → ((get_or (map f xs) k d).tx == tx) ≡ false
+      by_list [] k d lt apart = absurd (omega (arith, lt))
+      by_list (x ∷ xs) k d lt apart =
+          ap (λ (m : Member). m.tx == tx) (get_or-map f (x ∷ xs) k x d lt) ∙ apart x
+
+      each : (k : ℕ) (d : Member) → k < length ks → ((get_or (map f ks) k d).tx == tx) ≡ false
+      each k d lt = by_list ks k d lt (λ e. on_a_side k e lt (nat_lt k i) refl)
 
 -- the member at an index stands there, as the first of its number
 pub at_own : (xs : List Member) (i : ℕ) (member : Member) → IsAscending (map tx_of xs) → i < length xs

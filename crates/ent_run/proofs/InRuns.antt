@@ -102,13 +102,12 @@ module _ (locks : Uses) (groups : List Membership) where
   -- one member takes its answer, or memory runs out
   pub changes_carried : {T E : Type 0} (r : Result T E) (own : Member → Member)
       → ((m : Member) → in_run locks groups (own m) ≡ own (in_run locks groups m)) → (tx : ℕ)
-      → (old new active next seen : List Member) → next ≡ new → old ≡ active → in_runs locks groups active ≡ seen
-      → OnOk r (Changes own tx old new) → OnOk r (Changes own tx seen (in_runs locks groups next))
-  changes_carried (Ok x) own same tx old new active next seen items was shows changes =
-      subst (λ ms. Changes own tx ms (in_runs locks groups next)) (ap (in_runs locks groups) was ∙ shows)
-      (subst (Changes own tx (in_runs locks groups old)) (ap (in_runs locks groups) (sym items))
-      (changes_in_runs own own same tx old new changes))
-  changes_carried (Err e) own same tx old new active next seen items was shows changes = tt
+      → (old new seen : List Member) → in_runs locks groups old ≡ seen
+      → OnOk r (Changes own tx old new) → OnOk r (Changes own tx seen (in_runs locks groups new))
+  changes_carried (Ok x) own same tx old new seen shows changes =
+      subst (λ ms. Changes own tx ms (in_runs locks groups new)) shows
+      (changes_in_runs own own same tx old new changes)
+  changes_carried (Err e) own same tx old new seen shows changes = tt
 
   answered_in_run : (given : List MemberAnswer) (m : Member)
       → in_run locks groups (answered_from given m) ≡ answered_from given (in_run locks groups m)

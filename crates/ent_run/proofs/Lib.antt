@@ -14,6 +14,11 @@ pub mod LeastOf
 pub mod MadeToWait
 pub mod InRuns
 pub mod Lookups
+pub mod InSlab
+pub mod Keys
+pub mod Retained
+pub mod TakenOut
+pub mod OneChange
 pub mod LockedRuns
 pub mod Distinct
 pub mod Grouped

@@ -5,7 +5,7 @@ use Rattle.std.specs.Prelude.{Contains, Some, None, filter}
 use Rattle.std.specs.List.{IsDistinct}
 use Rattle.std.specs.Option.{option_map}
 use Rattle.std.specs.FinSet as finite
-use Rattle.std.proofs.lemmas.List.{length-map}
+use Rattle.std.proofs.lemmas.List.{length-map, map-append}
 use Rattle.std.proofs.lemmas.List.Elements.{filter-append}
 use Rattle.ent_group.specs.declared.groups.Membership.{Membership}
 use Rattle.ent_group.specs.Groups.{group_of}
@@ -17,9 +17,12 @@ use Rattle.ent_members.proofs.UsesOf.{uses_none}
 use Rattle.ent_protocol.specs.Member.{is_of, is_tx}
 use Rattle.ent_protocol.specs.Run.{fresh}
 use Rattle.ent_protocol.specs.State.{Dormant, Member, by_number, first_of}
-use Rattle.ent_run.specs.Grouped.{AreGrouped}
+use Rattle.ent_run.specs.Grouped.{AreGrouped, IsRunOf}
 use Rattle.ent_run.specs.InRuns.{in_runs, is_labelled}
+use Rattle.ent_run.specs.MemberSlab.{AreDistinct}
 use Rattle.ent_run.specs.Places.{IsAt, found}
+use Rattle.ent_run.specs.Run.{Run}
+use Rattle.ent_run.proofs.Distinct.{distinct_append}
 use Rattle.ent_run.proofs.Grouped.{label_of}
 use Rattle.ent_run.proofs.HeldUses.{out_of_by_number}
 use Rattle.ent_run.proofs.InRuns.{filter_mapped, found_in_runs}
@@ -45,6 +48,16 @@ module _ (locks : Uses) (groups : List Membership) (xs : List Member) where
   numbers_labelled group =
       sym (ap (map tx_of) (filter_mapped (in_run locks groups) (is_of group) (is_labelled groups group) (λ m. refl) xs)
       ∙ numbers_in_run locks groups (filter (is_labelled groups group) xs))
+
+-- no two members have one number
+pub numbers_apart : (locks : Uses) (groups : List Membership) (members : Run)
+    → IsRunOf locks groups members.prepared members.active → AreDistinct members
+numbers_apart locks groups members run =
+    subst (λ (ns : List ℕ). IsDistinct nat_eq ns)
+    (ap (map tx_of) (sym (map-append (in_run locks groups) members.prepared members.active))
+    ∙ numbers_in_run locks groups (members.prepared ++ members.active))
+    (distinct_append (in_runs locks groups members.prepared) (in_runs locks groups members.active) run.0.0.once
+    run.0.0.run.distinct run.0.0.apart)
 
 pub get_in_runs : (locks : Uses) (groups : List Membership) (xs : List Member) (i : ℕ) (d e : Member) → i < length xs
     → get_or (in_runs locks groups xs) i d ≡ in_run locks groups (get_or xs i e)

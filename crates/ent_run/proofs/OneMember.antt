@@ -101,6 +101,10 @@ pub on_err_then : {T E : Type 0} (r : Result T E) (P Q : Type 0) → (P → Q) �
 on_err_then (Ok x) P Q f h = tt
 on_err_then (Err e) P Q f h = f h
 
+pub either_way : {T E : Type 0} (r : Result T E) (P Q R : Type 0) → (P → R) → (Q → R) → OnOk r P → OnErr r Q → R
+either_way (Ok x) P Q R f g ok err = f ok
+either_way (Err e) P Q R f g ok err = g err
+
 pub changes : {T E : Type 0} (r : Result T E) (change : Member → Member) (xs : List Member) (tx i : ℕ)
     (d new : Member) → ((member : Member) → (change member).tx ≡ member.tx) → IsDistinct nat_eq (map tx_of xs)
     → IsAt xs tx i → OnOk r (new ≡ change (get_or xs i d)) → OnOk r (Changes change tx xs (set xs i new))

@@ -1,4 +1,6 @@
 pub mod Run
+pub mod UnderKeys
+pub mod MemberSlab
 pub mod Places
 pub mod InRuns
 pub mod Moves

@@ -15,6 +15,7 @@ ghost use Rattle.ent_run.specs.Joined.{is_one_of, labels_in};
 ghost use Rattle.ent_members.specs.Order.{tx_of};
 ghost use Rattle.ent_members.specs.RunAttempts.{is_within};
 
+use crate::member_list::MemberList;
 use ent_group::{Groups, MOST_MEMBERS, Members, Tx};
 use ent_members::{Entrant, Progress};
 
@@ -81,12 +82,13 @@ fn is_one_of(numbers: &[Tx], member: &Progress) -> bool
 }
 
 /// Puts the numbers of members that are among these to others.
-fn gather_joined(members: &[Progress], numbers: &[Tx], joined: &mut Members)
+fn gather_joined(members: &MemberList, numbers: &[Tx], joined: &mut Members)
     requires { length joined.old + length members.now ≤ MOST_MEMBERS }
     ensures list { joined.new ≡ joined.old ++ map tx_of (filter (is_one_of numbers.now) members.now) }
     ensures room { length joined.new ≤ length joined.old + length members.now }
 {
-    for member in members {
+    for place in 0..members.len() {
+        let member = members.at(place);
         if is_one_of(numbers, member) {
             joined.push(member.tx());
         }
@@ -118,8 +120,8 @@ fn merge_all(groups: &mut Groups, joined: &[Tx])
 /// Joins the groups of a run's members that are answered.
 pub(crate) fn merge_answered(
     groups: &mut Groups,
-    prepared: &[Progress],
-    active: &[Progress],
+    prepared: &MemberList,
+    active: &MemberList,
     answered: &[Tx],
 )
     requires bound { length prepared.now + length active.now ≤ MOST_MEMBERS }

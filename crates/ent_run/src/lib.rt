@@ -8,9 +8,12 @@
 mod answer;
 mod blockers;
 mod change;
+mod gather;
 mod groups;
 mod law;
 mod locks;
+mod member_list;
+mod member_slab;
 mod moves;
 mod run;
 mod search;

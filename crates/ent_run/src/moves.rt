@@ -1,35 +1,17 @@
-//! Members that go from one list to another, or leave.
-ghost use Rattle.std.specs.Prelude.{◌≡◌, ℕ, ◌+◌, ◌<◌, ◌≤◌, ◌++◌, filter, length, map, nat_eq, OnOk, OnErr};
+//! Whether members are of a group, and members that are taken out for good.
+ghost use Rattle.std.specs.Prelude.{◌≡◌, ◌≢◌, ◌+◌, ◌<◌, ◌≤◌, ◌++◌, ◌∷◌, [], ℕ, Contains, filter, is_some, length};
+ghost use Rattle.std.specs.Prelude.{nat_eq};
 ghost use Rattle.std.specs.List.{IsDistinct, list_any};
 ghost use Rattle.std.specs.Vec.{vec_capacity, vec_len};
-ghost use Rattle.ent_run.specs.Moves.{Prepares, is_not_of, run_of};
-ghost use Rattle.ent_members.specs.Order.{tx_of};
+ghost use Rattle.slab.specs.Slab.{ContainsKey, get as value_at};
 ghost use Rattle.ent_run.specs.InRuns.{is_labelled, is_otherwise_labelled};
-ghost use Rattle.ent_run.specs.Places.{IsAt};
+ghost use Rattle.ent_run.specs.Moves.{is_not_of};
+ghost use Rattle.ent_run.specs.UnderKeys.{AreThere, if_passing, member_under, members_under};
 
+use crate::member_list::MemberList;
 use ent_group::{Groups, Members, Tx};
 use ent_members::{Progress, label_in};
-use std::alloc::AllocError;
-
-/// The member at an index goes to the end of those that are prepared.
-pub(crate) fn prepare(
-    prepared: &mut Vec<Progress>,
-    active: &mut Vec<Progress>,
-    at: usize,
-) -> Result<(), AllocError>
-    requires distinct { IsDistinct nat_eq (map tx_of active.old.items) }
-    requires within { at < length active.old.items }
-    ensures ok { (tx : ℕ) → IsAt active.old.items tx at
-        → OnOk result (Prepares tx (run_of prepared.old.items active.old.items)
-        (run_of prepared.new.items active.new.items)) }
-    ensures prepared { OnErr result (prepared.new.items ≡ prepared.old.items) }
-    ensures active { OnErr result (active.new.items ≡ active.old.items) }
-{
-    prepared.reserve(1)?;
-    let member = active.remove(at);
-    prepared.push_reserved(member);
-    Ok(())
-}
+use slab::Slab;
 
 /// Whether a member is of the group with a label.
 pub(crate) fn is_labelled(groups: &Groups, group: Tx, member: &Progress) -> bool
@@ -39,42 +21,77 @@ pub(crate) fn is_labelled(groups: &Groups, group: Tx, member: &Progress) -> bool
 }
 
 /// Whether one of a list is of the group with a label.
-pub(crate) fn any_of(members: &[Progress], groups: &Groups, group: Tx) -> bool
+pub(crate) fn any_of(members: &MemberList, groups: &Groups, group: Tx) -> bool
     ensures { result ≡ list_any (is_labelled groups.now group) members.now }
 {
-    members
-        .iter()
-        .any(|member| is_labelled(groups, group, member))
+    for place in 0..members.len() {
+        if is_labelled(groups, group, members.at(place)) {
+            return true;
+        }
+    }
+    false
 }
 
-/// Takes the members of these numbers out.
-pub(crate) fn remove(members: &mut Vec<Progress>, numbers: &Members)
-    ensures { members.new.items ≡ filter (is_not_of numbers.now) members.old.items }
+/// The members of these numbers leave the slab.
+pub(crate) fn remove(live: &mut Slab<Progress>, numbers: &Members)
+    ensures { (key : ℕ) → value_at live.new key ≡ if_passing (is_not_of numbers.now) (value_at live.old key) }
 {
-    members.retain(|member| !numbers.contains(member.tx()));
+    live.retain(|_key, member| !numbers.contains(member.tx()));
 }
 
-/// Takes the members of the group with a label out, in order, and puts them to others; there is room for them.
-pub(crate) fn take_group(
-    members: &mut Vec<Progress>,
+/// The member under a key leaves the slab and comes to others, if it is of the group with a label; there is room for it.
+fn take_one(
+    live: &mut Slab<Progress>,
+    key: usize,
     groups: &Groups,
     group: Tx,
     taken: &mut Vec<Progress>,
 )
-    requires { vec_len taken.old + vec_len members.old ≤ vec_capacity taken.old }
-    ensures kept { members.new.items ≡ filter (is_otherwise_labelled groups.now group) members.old.items }
-    ensures taken { taken.new.items ≡ taken.old.items ++ filter (is_labelled groups.now group) members.old.items }
-    ensures fewer { vec_len members.new ≤ vec_len members.old }
-    ensures more { vec_len taken.new ≤ vec_len taken.old + vec_len members.old }
-    ensures room { vec_capacity members.new ≡ vec_capacity members.old }
-    ensures room_for_taken { vec_capacity taken.new ≡ vec_capacity taken.old }
+    requires there { ContainsKey live.old key }
+    requires room { vec_len taken.old < vec_capacity taken.old }
+    ensures taken { taken.new.items
+        ≡ taken.old.items ++ filter (is_labelled groups.now group) (member_under live.old key ∷ []) }
+    ensures own { value_at live.new key
+        ≡ if_passing (is_otherwise_labelled groups.now group) (value_at live.old key) }
+    ensures others { (other : ℕ) → other ≢ key → value_at live.new other ≡ value_at live.old other }
+    ensures len { vec_len taken.new ≤ vec_len taken.old + 1 }
+    ensures capacity { vec_capacity taken.new ≡ vec_capacity taken.old }
 {
-    if let Some(member) = members.pop() {
-        take_group(members, groups, group, taken);
-        if is_labelled(groups, group, &member) {
-            taken.push_reserved(member);
-        } else {
-            members.push_reserved(member);
-        }
+    if is_labelled(groups, group, &live[key]) {
+        let member = live.remove(key);
+        taken.push_reserved(member);
     }
+}
+
+/// The members of the group with a label, of those under these keys, leave the slab in this order, and come to others;
+/// there is room for them.
+pub(crate) fn take_group(
+    live: &mut Slab<Progress>,
+    keys: &[usize],
+    groups: &Groups,
+    group: Tx,
+    taken: &mut Vec<Progress>,
+)
+    requires there { AreThere live.old keys.now }
+    requires distinct { IsDistinct nat_eq keys.now }
+    requires room { vec_len taken.old + length keys.now ≤ vec_capacity taken.old }
+    ensures taken { taken.new.items
+        ≡ taken.old.items ++ filter (is_labelled groups.now group) (members_under live.old keys.now) }
+    ensures listed { (key : ℕ) → Contains keys.now key
+        → value_at live.new key ≡ if_passing (is_otherwise_labelled groups.now group) (value_at live.old key) }
+    ensures others { (key : ℕ) → ¬ Contains keys.now key → value_at live.new key ≡ value_at live.old key }
+    ensures fewer { (key : ℕ) → ContainsKey live.new key → ContainsKey live.old key }
+{
+    let Some((first, rest)) = keys.split_first() else {
+        return;
+    };
+    take_one(live, *first, groups, group, taken);
+    take_group(live, rest, groups, group, taken);
+}
+
+/// The keys stay that have a member.
+pub(crate) fn keep_there(keys: &mut Vec<usize>, live: &Slab<Progress>)
+    ensures { keys.new.items ≡ filter (λ key. is_some (value_at live.now key)) keys.old.items }
+{
+    keys.retain(|key| live.get(*key).is_some());
 }

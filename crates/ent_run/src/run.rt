@@ -32,18 +32,19 @@ ghost use Rattle.ent_run.specs.Waits.{is_awaited};
 use crate::answer::{answer_each, numbers_of};
 use crate::blockers::{gather_group, pass_itself};
 use crate::change;
+use crate::gather::{gather, gather_by_number};
 use crate::groups::{each_alone, leave, members_of, merge_answered, remove_labelled};
 use crate::locks::{least_in_conflict, lock};
-use crate::moves::{any_of, prepare, remove, take_group};
-use crate::search::{is_among, member_by_number, member_in, member_numbers, place_by_number};
+use crate::member_slab::MemberSlab;
+use crate::moves::any_of;
+use crate::search::{is_among, member_by_number, member_in, member_numbers};
 use crate::start::fresh_members;
 use crate::waits::awaits;
 use ent_closed::Statement;
 use ent_group::{Groups, MOST_MEMBERS, Members, Tx};
 use ent_lock::{Holder, LockTable};
 use ent_members::{
-    Entrant, Member, MemberAnswer, Progress, RunAttempts, Use, exclusive_table, gather,
-    gather_by_number, statement_uses,
+    Entrant, Member, MemberAnswer, Progress, RunAttempts, Use, exclusive_table, statement_uses,
 };
 use ent_semantics::Answer;
 use ent_value::{Name, Value};
@@ -51,12 +52,12 @@ use std::alloc::{AllocError, Global};
 use std::marker::Model;
 
 /// The members of a run, up to [`MOST_MEMBERS`]: those that are prepared, in the order in which they prepared, and the
-/// others, which are active. The lock table alone says what they hold, and the groups alone who is of one group.
+/// others, which are active. A slab has what each of them has itself; the lock table alone says what they hold, and the
+/// groups alone who is of one group.
 #[derive(Drop)]
 pub struct Run {
     alloc: Global,
-    prepared: Vec<Progress>,
-    active: Vec<Progress>,
+    members: MemberSlab,
     locks: LockTable<usize>,
     groups: Groups,
 }
@@ -69,11 +70,11 @@ impl Model for Run {
     ghost Value = { Seen };
 
     ghost view = { λ r. record {
-      prepared = in_runs r.locks r.groups r.prepared.items;
-      active = in_runs r.locks r.groups r.active.items;
+      prepared = in_runs r.locks r.groups r.members.prepared;
+      active = in_runs r.locks r.groups r.members.active;
     } };
 
-    ghost invariant = { λ r. IsRunOf r.locks r.groups r.prepared.items r.active.items };
+    ghost invariant = { λ r. IsRunOf r.locks r.groups r.members.prepared r.members.active };
 }
 
 impl Run {
@@ -84,8 +85,7 @@ impl Run {
     {
         Run {
             alloc,
-            prepared: Vec::new(alloc),
-            active: Vec::new(alloc),
+            members: MemberSlab::new(alloc),
             locks: LockTable::new(alloc),
             groups: Groups::new(),
         }
@@ -98,11 +98,10 @@ impl Run {
         ensures prepared { IfOk result (λ run. run.prepared ≡ []) }
         ensures active { IfOk result (λ run. run.active ≡ by_number tx_of (map fresh entrants.now)) }
     {
-        let active = fresh_members(alloc, entrants)?;
+        let members = fresh_members(alloc, entrants)?;
         Ok(Run {
             alloc,
-            prepared: Vec::new(alloc),
-            active,
+            members,
             locks: LockTable::new(alloc),
             groups: each_alone(entrants),
         })
@@ -112,7 +111,7 @@ impl Run {
         ensures len { result ≡ length self.now.prepared + length self.now.active }
         ensures bound { length self.now.prepared + length self.now.active ≤ MOST_MEMBERS }
     {
-        self.prepared.len() + self.active.len()
+        self.members.prepared().len() + self.members.active().len()
     }
 
     pub fn is_empty(&self) -> bool
@@ -127,14 +126,14 @@ impl Run {
         ensures bound { length self.now.active ≤ MOST_MEMBERS }
         ensures distinct { IsDistinct nat_eq (map tx_of self.now.active) }
     {
-        self.active.len()
+        self.members.active().len()
     }
 
     /// The member of a number that isn't prepared.
     pub fn active_member(&self, tx: Tx) -> Option<Member<'_>>
         ensures { (s : State) → result ≡ active_member (with_run self.now s) tx }
     {
-        match member_by_number(self.active.as_slice(), tx) {
+        match member_by_number(&self.members.active(), tx) {
             Some(own) => Some(Member::new(own, &self.locks, &self.groups)),
             None => None,
         }
@@ -145,7 +144,7 @@ impl Run {
         ensures some { IfSome result (IsAt self.now.active tx) }
         ensures none { IsNone result → (s : State) → active_member (with_run self.now s) tx ≡ None }
     {
-        place_by_number(self.active.as_slice(), tx)
+        self.members.active().place_by_number(tx)
     }
 
     /// The member at a place of those that aren't prepared.
@@ -153,14 +152,14 @@ impl Run {
         requires { place < length self.now.active }
         ensures { (d : Seen) → result ≡ slice_index_or self.now.active place d }
     {
-        Member::new(&self.active.as_slice()[place], &self.locks, &self.groups)
+        Member::new(self.members.active().at(place), &self.locks, &self.groups)
     }
 
     /// The member of a number, prepared or not.
     pub fn member(&self, tx: Tx) -> Option<Member<'_>>
         ensures { (s : State) → result ≡ member_of (with_run self.now s) tx }
     {
-        match member_in(self.prepared.as_slice(), tx) {
+        match member_in(&self.members.prepared(), tx) {
             Some(own) => Some(Member::new(own, &self.locks, &self.groups)),
             None => self.active_member(tx),
         }
@@ -171,7 +170,7 @@ impl Run {
         ensures prepared { (s : State) → result ≡ is_prepared (with_run self.now s) tx }
         ensures apart { (s : State) → IsTrue result → active_member (with_run self.now s) tx ≡ None }
     {
-        is_among(self.prepared.as_slice(), tx)
+        is_among(&self.members.prepared(), tx)
     }
 
     /// All members, by number.
@@ -206,9 +205,9 @@ impl Run {
     fn run_attempts(&self, group: Option<Tx>) -> RunAttempts
         ensures { result ≡ run_attempts_in group (self.now.prepared ++ self.now.active) }
     {
-        let mut run_attempts = gather_by_number(self.active.as_slice(), &self.groups, group);
+        let mut run_attempts = gather_by_number(&self.members.active(), &self.groups, group);
         gather(
-            self.prepared.as_slice(),
+            &self.members.prepared(),
             &self.groups,
             group,
             &mut run_attempts,
@@ -222,12 +221,12 @@ impl Run {
     {
         let mut pass = Members::new();
         gather_group(
-            self.prepared.as_slice(),
+            &self.members.prepared(),
             &self.groups,
             asker.group(),
             &mut pass,
         );
-        pass_itself(self.active.as_slice(), asker.tx(), &mut pass);
+        pass_itself(&self.members.active(), asker.tx(), &mut pass);
         pass
     }
 
@@ -281,7 +280,7 @@ impl Run {
         ensures prepared { self.new.prepared ≡ self.old.prepared }
         ensures err { OnErr result (self.new ≡ self.old) }
     {
-        let tx = self.active.as_slice()[place].tx();
+        let tx = self.members.active().at(place).tx();
         lock(&mut self.locks, self.alloc, tx, asked)
     }
 
@@ -294,9 +293,9 @@ impl Run {
         ensures prepared { self.new.prepared ≡ self.old.prepared }
         ensures err { OnErr result (self.new ≡ self.old) }
     {
-        let tx = self.active.as_slice()[place].tx();
+        let tx = self.members.active().at(place).tx();
         lock(&mut self.locks, self.alloc, tx, asked)?;
-        change::post(self.active.as_mut_slice(), place);
+        change::post(&mut self.members, place);
         Ok(())
     }
 
@@ -308,7 +307,7 @@ impl Run {
         ensures prepared { self.new.prepared ≡ self.old.prepared }
         ensures err { OnErr result (self.new ≡ self.old) }
     {
-        change::step(self.active.as_mut_slice(), tx, answer)
+        change::step(&mut self.members, tx, answer)
     }
 
     /// A member that isn't prepared takes the answer of its statement, which binds host variables, and is at the next
@@ -324,7 +323,7 @@ impl Run {
         ensures prepared { self.new.prepared ≡ self.old.prepared }
         ensures err { OnErr result (self.new ≡ self.old) }
     {
-        change::step_bound(self.active.as_mut_slice(), tx, answer, bound)
+        change::step_bound(&mut self.members, tx, answer, bound)
     }
 
     /// The member at a place of those that aren't prepared is prepared, the last so far. Where memory runs out nothing
@@ -334,21 +333,21 @@ impl Run {
         ensures ok { (tx : ℕ) → IsAt self.old.active tx place → OnOk result (Prepares tx self.old self.new) }
         ensures err { OnErr result (self.new ≡ self.old) }
     {
-        prepare(&mut self.prepared, &mut self.active, place)
+        self.members.prepare(place)
     }
 
     /// Whether every member of the group with a label is prepared.
     fn is_ready(&self, group: Tx) -> bool
         ensures { result ≡ not (list_any (is_of group) self.now.active) }
     {
-        !any_of(self.active.as_slice(), &self.groups, group)
+        !any_of(&self.members.active(), &self.groups, group)
     }
 
     fn join(&mut self, numbers: &[Tx])
         ensures { JoinGroups (labels_in numbers.now (self.old.prepared ++ self.old.active)) self.old self.new }
     {
-        let (prepared, active) = (self.prepared.as_slice(), self.active.as_slice());
-        merge_answered(&mut self.groups, prepared, active, numbers);
+        let (prepared, active) = (self.members.prepared(), self.members.active());
+        merge_answered(&mut self.groups, &prepared, &active, numbers);
     }
 
     fn answer_active(&mut self, given: Vec<MemberAnswer>) -> Result<(), AllocError>
@@ -358,7 +357,7 @@ impl Run {
         ensures err { OnErr result (self.new ≡ self.old) }
     {
         let mut given = given;
-        answer_each(self.active.as_mut_slice(), &mut given)
+        answer_each(&mut self.members, &mut given)
     }
 
     /// Members that aren't prepared take a joint answer together: each its own answer and what that binds, and their
@@ -398,7 +397,7 @@ impl Run {
             return None;
         }
         let mut committed = room;
-        take_group(&mut self.prepared, &self.groups, group, &mut committed);
+        self.members.take_group(&self.groups, group, &mut committed);
         self.locks.drop_group(&member_numbers(committed.as_slice()));
         remove_labelled(&mut self.groups, group);
         Some(committed)
@@ -417,8 +416,7 @@ impl Run {
     {
         let run_attempts = self.run_attempts(group);
         let numbers = run_attempts.numbers();
-        remove(&mut self.prepared, &numbers);
-        remove(&mut self.active, &numbers);
+        self.members.remove(&numbers);
         self.locks.drop_group(&numbers);
         leave(&mut self.groups, group);
         run_attempts

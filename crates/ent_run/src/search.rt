@@ -1,5 +1,5 @@
 //! Members in a list, by their numbers.
-ghost use Rattle.std.specs.Prelude.{◌≡◌, ◌≤◌, ◌==◌, length, map, filter, IfSome, IsNone, None};
+ghost use Rattle.std.specs.Prelude.{◌≡◌, ◌≤◌, length, map, filter, IfSome, IsNone, None};
 ghost use Rattle.std.specs.List.{list_any};
 ghost use Rattle.std.specs.Option.{option_copied};
 ghost use Rattle.ent_protocol.specs.Member.{is_tx};
@@ -7,62 +7,49 @@ ghost use Rattle.ent_protocol.specs.State.{first_of};
 ghost use Rattle.ent_members.specs.Order.{IsAscending, tx_of};
 ghost use Rattle.ent_run.specs.Places.{IsAt};
 
+use crate::member_list::MemberList;
 use ent_group::{MOST_MEMBERS, Members, Tx};
 use ent_members::Progress;
 
 /// The first member of a number.
-pub(crate) fn member_in<'a>(members: &'a [Progress], tx: Tx) -> Option<&'a Progress>
+pub(crate) fn member_in<'a>(members: &MemberList<'a>, tx: Tx) -> Option<&'a Progress>
     ensures { option_copied result ≡ first_of (filter (is_tx tx) members.now) }
 {
-    for member in members {
-        if member.tx() == tx {
-            return Some(member);
-        }
-    }
-    None
-}
-
-/// The index of the member of a number, in a list by number.
-pub(crate) fn place_by_number(members: &[Progress], tx: Tx) -> Option<usize>
-    requires { IsAscending (map tx_of members.now) }
-    ensures some { IfSome result (IsAt members.now tx) }
-    ensures none { IsNone result → first_of (filter (is_tx tx) members.now) ≡ None }
-{
-    match members.binary_search_by_key(&tx, |member| member.tx()) {
-        Ok(at) => Some(at),
-        Err(_) => None,
-    }
-}
-
-/// The member of a number, in a list by number.
-pub(crate) fn member_by_number<'a>(members: &'a [Progress], tx: Tx) -> Option<&'a Progress>
-    requires { IsAscending (map tx_of members.now) }
-    ensures { option_copied result ≡ first_of (filter (is_tx tx) members.now) }
-{
-    match place_by_number(members, tx) {
-        Some(at) => Some(&members[at]),
+    match place_of(members, tx) {
+        Some(at) => Some(members.at(at)),
         None => None,
     }
 }
 
-/// The index of the first member of a number.
-pub(crate) fn place_of(members: &[Progress], tx: Tx) -> Option<usize>
+/// The member of a number, in a list by number.
+pub(crate) fn member_by_number<'a>(members: &MemberList<'a>, tx: Tx) -> Option<&'a Progress>
+    requires { IsAscending (map tx_of members.now) }
+    ensures { option_copied result ≡ first_of (filter (is_tx tx) members.now) }
+{
+    match members.place_by_number(tx) {
+        Some(at) => Some(members.at(at)),
+        None => None,
+    }
+}
+
+/// The place of the first member of a number.
+pub(crate) fn place_of(members: &MemberList, tx: Tx) -> Option<usize>
     ensures some { IfSome result (IsAt members.now tx) }
     ensures none { IsNone result → first_of (filter (is_tx tx) members.now) ≡ None }
 {
-    for (i, member) in members.iter().enumerate() {
-        if member.tx() == tx {
-            return Some(i);
+    for place in 0..members.len() {
+        if members.at(place).tx() == tx {
+            return Some(place);
         }
     }
     None
 }
 
 /// Whether a member has a number.
-pub(crate) fn is_among(members: &[Progress], tx: Tx) -> bool
+pub(crate) fn is_among(members: &MemberList, tx: Tx) -> bool
     ensures { result ≡ list_any (is_tx tx) members.now }
 {
-    members.iter().any(|member| member.tx() == tx)
+    place_of(members, tx).is_some()
 }
 
 /// The numbers of members, in their order.

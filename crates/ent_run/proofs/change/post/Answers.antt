@@ -1,17 +1,18 @@
-use Rattle.std.proofs.Common.{ℕ, refl}
-use Rattle.std.specs.Prelude.{Result, Ok}
+use Rattle.std.proofs.Common.{refl}
 use Rattle.ent_members.specs.Changes.{posted}
-use Rattle.ent_run.proofs.OneMember.{changes, same_numbers}
+use Rattle.ent_run.specs.UnderKeys.{nobody}
+use Rattle.ent_run.proofs.OneChange.{one_change, one_numbers, one_prepared}
 use Rattle.ent_run.proofs.change.post.Goals as goal
 
 pub returns-clause-changed : goal.returns-clause-changed
-returns-clause-changed c = λ tx at.
-    let done : Result ℕ ℕ = Ok 0 in
-    changes done posted c.args.members.now tx c.args.at c.index-members-at.result c.post.new.self (λ member. refl)
-    c.requires.distinct at c.post.ensures
+returns-clause-changed c =
+    one_change posted (λ m. refl) c.args.members.now c.post.new.self c.args.at (c.post.ensures nobody)
+    c.requires.numbers
 
 pub returns-clause-numbers : goal.returns-clause-numbers
 returns-clause-numbers c =
-    let done : Result ℕ ℕ = Ok 0 in
-    same_numbers done posted c.args.members.now c.args.at c.index-members-at.result c.post.new.self (λ member. refl)
-    c.post.ensures tt
+    one_numbers posted (λ m. refl) c.args.members.now c.post.new.self c.args.at (c.post.ensures nobody)
+
+pub returns-clause-prepared : goal.returns-clause-prepared
+returns-clause-prepared c =
+    one_prepared posted (λ m. refl) c.args.members.now c.post.new.self c.args.at (c.post.ensures nobody)

@@ -3,7 +3,7 @@ use Rattle.ent_run.proofs.search.member_by_number.Goals as goal
 
 pub returns-in-Some : goal.returns-in-Some
 returns-in-Some c =
-    ap Some c.index-members-at.is ∙ sym (c.in-Some.ensures.some.first c.index-members-at.result)
+    ap Some (c.at.ensures c.at.result.now) ∙ sym (c.in-Some.ensures.some.first c.at.result.now)
 
 pub returns-in-None : goal.returns-in-None
 returns-in-None c = sym (c.in-None.ensures.none refl)

@@ -5,5 +5,6 @@ use Rattle.ent_protocol.specs.State.{first_of}
 use Rattle.ent_run.proofs.search.place_of.Given as goal
 
 -- nobody so far is of the number
-abbrev pub invariant-loop-i : goal.invariant-loop-i
-invariant-loop-i l = first_of (filter (is_tx l.tx) (drop l.i l.members)) ≡ first_of (filter (is_tx l.tx) l.members)
+abbrev pub invariant-loop-place : goal.invariant-loop-place
+invariant-loop-place l =
+    first_of (filter (is_tx l.tx) (drop l.place l.members)) ≡ first_of (filter (is_tx l.tx) l.members)

@@ -16,8 +16,8 @@ returns c = λ s.
     let locks = c.self.inside.locks in
     let groups = c.self.inside.groups in
     subst (λ (run : Run). result ≡ is_awaited (with_run run s) asker asked other) c.self.view_is
-    (waits_as locks groups (in_runs c.self.inside.locks c.self.inside.groups c.self.inside.prepared.items)
-    (in_runs c.self.inside.locks c.self.inside.groups c.self.inside.active.items) c.self.invariant.0 asker asked
+    (waits_as locks groups (in_runs c.self.inside.locks c.self.inside.groups c.self.inside.members.prepared)
+    (in_runs c.self.inside.locks c.self.inside.groups c.self.inside.members.active) c.self.invariant.0 asker asked
     other s
     result
     (subst (λ (pass : List ℕ). IsTrue result ↔ IsMadeToWait locks groups asked pass asker.group other)

@@ -14,8 +14,8 @@ returns c = λ s.
     let result = c.least_in_conflict.result in
     let locks = c.self.inside.locks in
     subst (λ (run : Run). result ≡ blocker (with_run run s) asker asked) c.self.view_is
-    (blocker_is locks (in_runs c.self.inside.locks c.self.inside.groups c.self.inside.prepared.items)
-    (in_runs c.self.inside.locks c.self.inside.groups c.self.inside.active.items) c.self.invariant.0.0 asker asked
+    (blocker_is locks (in_runs c.self.inside.locks c.self.inside.groups c.self.inside.members.prepared)
+    (in_runs c.self.inside.locks c.self.inside.groups c.self.inside.members.active) c.self.invariant.0.0 asker asked
     result s
     (subst (λ (pass : List ℕ). IsLeastIfAny (BlocksUses locks asked pass) result)
     (c.passed_by.ensures ∙ ap (passed_numbers asker) (sym c.self.view_is)) c.least_in_conflict.ensures))

@@ -17,14 +17,14 @@ invariant_of-self c =
     let next = c.lock.new.locks in
     let asked = c.args.asked.now in
     let place = c.args.place in
-    let active = inside.active.items in
-    let member = c.index-as_slice-place.result in
+    let active = inside.members.active in
+    let member = c.at.result.now in
     let within = within_own locks inside.groups active place
     (subst (λ (run : Run). place < length run.active) (sym c.self.view_is) c.requires) in
-    let is = c.index-as_slice-place.is
-    ∙ ap (λ (ms : List Member). get_or ms place member) c.as_slice.ensures.value in
+    let is = c.at.ensures member
+    ∙ ap (λ (ms : List Member). get_or ms place member) c.active.ensures in
     let more = subst (λ (n : ℕ). OnOk c.lock.result (Locks n asked locks next)) c.tx-tx.ensures c.lock.ensures.ok in
-    tried_run locks next inside.groups inside.prepared.items active place asked member c.self.invariant within is
+    tried_run locks next inside.groups inside.members.prepared active place asked member c.self.invariant within is
     c.lock.result more c.lock.ensures.by_number c.lock.ensures.err
 
 pub returns-clause-ok : goal.returns-clause-ok
@@ -34,16 +34,16 @@ returns-clause-ok c =
     let next = c.lock.new.locks in
     let asked = c.args.asked.now in
     let place = c.args.place in
-    let active = inside.active.items in
-    let member = c.index-as_slice-place.result in
+    let active = inside.members.active in
+    let member = c.at.result.now in
     let within = within_own locks inside.groups active place
     (subst (λ (run : Run). place < length run.active) (sym c.self.view_is) c.requires) in
-    let is = c.index-as_slice-place.is
-    ∙ ap (λ (ms : List Member). get_or ms place member) c.as_slice.ensures.value in
+    let is = c.at.ensures member
+    ∙ ap (λ (ms : List Member). get_or ms place member) c.active.ensures in
     let more = subst (λ (n : ℕ). OnOk c.lock.result (Locks n asked locks next)) c.tx-tx.ensures c.lock.ensures.ok in
     subst (λ (run : Run). (tx : ℕ) → IsAt run.active tx place → OnOk c.lock.result
     (Changes (λ m. holding m asked) tx run.active (in_runs next inside.groups active))) c.self.view_is
-    (tried_changes locks next inside.groups inside.prepared.items active place asked member c.self.invariant within is
+    (tried_changes locks next inside.groups inside.members.prepared active place asked member c.self.invariant within is
     c.lock.result more c.lock.ensures.by_number)
 
 pub returns-clause-prepared : goal.returns-clause-prepared
@@ -53,13 +53,13 @@ returns-clause-prepared c =
     let next = c.lock.new.locks in
     let asked = c.args.asked.now in
     let place = c.args.place in
-    let active = inside.active.items in
-    let member = c.index-as_slice-place.result in
+    let active = inside.members.active in
+    let member = c.at.result.now in
     let within = within_own locks inside.groups active place
     (subst (λ (run : Run). place < length run.active) (sym c.self.view_is) c.requires) in
-    let is = c.index-as_slice-place.is
-    ∙ ap (λ (ms : List Member). get_or ms place member) c.as_slice.ensures.value in
+    let is = c.at.ensures member
+    ∙ ap (λ (ms : List Member). get_or ms place member) c.active.ensures in
     let more = subst (λ (n : ℕ). OnOk c.lock.result (Locks n asked locks next)) c.tx-tx.ensures c.lock.ensures.ok in
-    tried_prepared locks next inside.groups inside.prepared.items active place asked member c.self.invariant within is
+    tried_prepared locks next inside.groups inside.members.prepared active place asked member c.self.invariant within is
     c.lock.result more c.lock.ensures.by_number c.lock.ensures.err
     ∙ ap (λ (run : Run). run.prepared) c.self.view_is

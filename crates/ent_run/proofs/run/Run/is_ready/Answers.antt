@@ -13,7 +13,7 @@ returns c =
     let inside = c.self.inside in
     let group = c.args.group in
     ap not (c.any_of.ensures
-    ∙ ap (λ (ms : List Member). list_any (is_labelled inside.groups group) ms) c.as_slice.ensures.value
+    ∙ ap (λ (ms : List Member). list_any (is_labelled inside.groups group) ms) c.active.ensures
     ∙ sym (any_mapped (in_run inside.locks inside.groups) (is_of group) (is_labelled inside.groups group) (λ m. refl)
-    inside.active.items)
+    inside.members.active)
     ∙ ap (λ (run : Run). list_any (is_of group) run.active) c.self.view_is)

@@ -13,10 +13,10 @@ returns-in-Some c = λ s.
     let inside = c.self.inside in
     let tx = c.args.tx in
     ap Some c.new.ensures
-    ∙ found_first (in_runs inside.locks inside.groups inside.prepared.items)
-    (in_runs inside.locks inside.groups inside.active.items) tx (in_run inside.locks inside.groups c.in-Some.own.now)
-    (found_one inside.locks inside.groups inside.prepared.items tx c.in-Some.own.now
-    (c.in-Some.ensures ∙ ap (λ (ms : List Member). found ms tx) c.as_slice.ensures.value))
+    ∙ found_first (in_runs inside.locks inside.groups inside.members.prepared)
+    (in_runs inside.locks inside.groups inside.members.active) tx (in_run inside.locks inside.groups c.in-Some.own.now)
+    (found_one inside.locks inside.groups inside.members.prepared tx c.in-Some.own.now
+    (c.in-Some.ensures ∙ ap (λ (ms : List Member). found ms tx) c.prepared.ensures))
     ∙ ap (λ (run : Run). found (run.prepared ++ run.active) tx) c.self.view_is
 
 pub returns-in-None : goal.returns-in-None
@@ -25,8 +25,8 @@ returns-in-None c = λ s.
     let tx = c.args.tx in
     c.active_member.ensures s
     ∙ ap (λ (run : Run). found run.active tx) (sym c.self.view_is)
-    ∙ found_second (in_runs inside.locks inside.groups inside.prepared.items)
-    (in_runs inside.locks inside.groups inside.active.items) tx
-    (found_nobody inside.locks inside.groups inside.prepared.items tx
-    (c.in-None.ensures ∙ ap (λ (ms : List Member). found ms tx) c.as_slice.ensures.value))
+    ∙ found_second (in_runs inside.locks inside.groups inside.members.prepared)
+    (in_runs inside.locks inside.groups inside.members.active) tx
+    (found_nobody inside.locks inside.groups inside.members.prepared tx
+    (c.in-None.ensures ∙ ap (λ (ms : List Member). found ms tx) c.prepared.ensures))
     ∙ ap (λ (run : Run). found (run.prepared ++ run.active) tx) c.self.view_is

@@ -4,4 +4,4 @@ use Rattle.ent_run.proofs.run.Run.new.Goals as goal
 
 pub invariant_of-result : goal.invariant_of-result
 invariant_of-result c =
-    rw (c.new.ensures.items, c.new-2.ensures.items, c.new-3.ensures, c.new-4.ensures) (nobody_with, nobody_by_number)
+    rw (c.new.ensures.prepared, c.new.ensures.active, c.new-2.ensures, c.new-3.ensures) (nobody_with, nobody_by_number)

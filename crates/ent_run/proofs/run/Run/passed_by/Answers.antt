@@ -17,26 +17,26 @@ pub returns : goal.returns
 returns c =
     let inside = c.self.inside in
     let asker = c.args.asker.now in
-    let active = in_runs inside.locks inside.groups inside.active.items in
+    let active = in_runs inside.locks inside.groups inside.members.active in
     c.pass_itself.ensures
-    ∙ ap (λ (tx : ℕ). c.gather_group.new.numbers ++ map tx_of (filter (is_tx tx) c.as_slice-2.result.now)) c.tx.ensures
+    ∙ ap (λ (tx : ℕ). c.gather_group.new.numbers ++ map tx_of (filter (is_tx tx) c.active.result)) c.tx.ensures
     ∙ ap (λ (ms : List Member). c.gather_group.new.numbers ++ map tx_of (filter (is_tx asker.tx) ms))
-    c.as_slice-2.ensures.value
+    c.active.ensures
     ∙ ap (λ (ns : List ℕ). c.gather_group.new.numbers ++ ns)
     (sym (ap (map tx_of) (filter_mapped (in_run inside.locks inside.groups) (is_tx asker.tx) (is_tx asker.tx)
-    (λ m. refl) inside.active.items)
-    ∙ numbers_in_run inside.locks inside.groups (filter (is_tx asker.tx) inside.active.items)))
+    (λ m. refl) inside.members.active)
+    ∙ numbers_in_run inside.locks inside.groups (filter (is_tx asker.tx) inside.members.active)))
     ∙ ap (λ (ns : List ℕ). ns ++ map tx_of (filter (is_tx asker.tx) active))
     (c.gather_group.ensures.list
-    ∙ ap (λ (ns : List ℕ). ns ++ map tx_of (filter (is_labelled inside.groups c.group.result) c.as_slice.result.now))
+    ∙ ap (λ (ns : List ℕ). ns ++ map tx_of (filter (is_labelled inside.groups c.group.result) c.prepared.result))
     c.new-pass.ensures
-    ∙ ap (λ (group : ℕ). map tx_of (filter (is_labelled inside.groups group) c.as_slice.result.now)) c.group.ensures
-    ∙ ap (λ (ms : List Member). map tx_of (filter (is_labelled inside.groups asker.group) ms)) c.as_slice.ensures.value
-    ∙ numbers_labelled inside.locks inside.groups inside.prepared.items asker.group)
+    ∙ ap (λ (group : ℕ). map tx_of (filter (is_labelled inside.groups group) c.prepared.result)) c.group.ensures
+    ∙ ap (λ (ms : List Member). map tx_of (filter (is_labelled inside.groups asker.group) ms)) c.prepared.ensures
+    ∙ numbers_labelled inside.locks inside.groups inside.members.prepared asker.group)
     ∙ ap (λ (run : Run). passed_numbers asker run) c.self.view_is
 
 pub pass_itself-requires-clause-order : goal.pass_itself-requires-clause-order
 pass_itself-requires-clause-order c =
     let inside = c.self.inside in
-    subst (λ (ms : List Member). IsAscending (map tx_of ms)) (sym c.as_slice-2.ensures.value)
-    (own_ascending inside.locks inside.groups inside.active.items c.self.invariant.0.0.run.ascending)
+    subst (λ (ms : List Member). IsAscending (map tx_of ms)) (sym c.active.ensures)
+    (own_ascending inside.locks inside.groups inside.members.active c.self.invariant.0.0.run.ascending)

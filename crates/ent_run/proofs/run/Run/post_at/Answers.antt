@@ -1,22 +1,23 @@
-use Rattle.std.proofs.Common.{ℕ, ◌<◌, List, get_or, length, map, nat_eq, sym, ap, subst, ◌∙◌}
-use Rattle.std.specs.List.{IsDistinct}
-use Rattle.std.proofs.lemmas.List.{with_items_is}
-use Rattle.ent_members.specs.Changes.{posted}
-use Rattle.ent_members.specs.Order.{tx_of}
+use Rattle.std.proofs.Common.{ℕ, ◌<◌, List, get_or, length, sym, ap, subst, ◌∙◌}
 use Rattle.ent_protocol.specs.State.{Member}
 use Rattle.ent_run.specs.Grouped.{IsRunOf}
+use Rattle.ent_run.specs.InRuns.{in_runs}
 use Rattle.ent_run.specs.Locks.{Locks}
-use Rattle.ent_run.specs.Places.{Changes, IsAt}
 use Rattle.ent_run.specs.Run.{Run}
-use Rattle.ent_run.proofs.Lookups.{own_distinct, within_own}
+use Rattle.ent_run.proofs.Lookups.{numbers_apart, within_own}
 use Rattle.ent_run.proofs.Granted.{Granting, granted_prepared, posted_carried, posted_run}
 use Rattle.ent_run.proofs.run.Run.post_at.Goals as goal
 
-pub post-requires-clause-distinct : goal.post-requires-clause-distinct
-post-requires-clause-distinct c =
+pub post-requires-clause-within : goal.post-requires-clause-within
+post-requires-clause-within c =
     let inside = c.self.inside in
-    subst (λ (ms : List Member). IsDistinct nat_eq (map tx_of ms)) (sym c.as_mut_slice.ensures.value)
-    (own_distinct inside.locks inside.groups inside.active.items c.self.invariant.0.0.run.distinct)
+    within_own inside.locks inside.groups inside.members.active c.args.place
+    (subst (λ (run : Run). c.args.place < length run.active) (sym c.self.view_is) c.requires)
+
+pub post-requires-clause-numbers : goal.post-requires-clause-numbers
+post-requires-clause-numbers c =
+    let inside = c.self.inside in
+    numbers_apart inside.locks inside.groups inside.members c.self.invariant
 
 pub invariant_of-self-2 : goal.invariant_of-self-2
 invariant_of-self-2 c =
@@ -25,17 +26,17 @@ invariant_of-self-2 c =
     let next = c.lock.new.locks in
     let asked = c.args.asked.now in
     let place = c.args.place in
-    let active = inside.active.items in
-    let member = c.index-as_slice-place.result in
+    let active = inside.members.active in
+    let member = c.at.result.now in
     let within = within_own locks inside.groups active place
     (subst (λ (run : Run). place < length run.active) (sym c.self.view_is) c.requires) in
-    let is = c.index-as_slice-place.is
-    ∙ ap (λ (ms : List Member). get_or ms place member) c.as_slice.ensures.value in
+    let is = c.at.ensures member
+    ∙ ap (λ (ms : List Member). get_or ms place member) c.active.ensures in
     let g : Granting = record {
       locks = locks;
       next = next;
       groups = inside.groups;
-      prepared = inside.prepared.items;
+      prepared = inside.members.prepared;
       active = active;
       place = place;
       asked = asked;
@@ -46,13 +47,8 @@ invariant_of-self-2 c =
       more = subst (λ (n : ℕ). Locks n asked locks next) c.tx-tx.ensures c.in_ok-lock.ensures.ok;
       still = c.in_ok-lock.ensures.by_number c.self.invariant.1;
     } in
-    let was = c.as_mut_slice.ensures.value in
-    let last = c.post.new.members in
-    let posts = subst (λ (ms : List Member). (tx : ℕ) → IsAt ms tx place → Changes posted tx ms last) was
-    c.post.ensures.changed in
-    let numbers = c.post.ensures.numbers ∙ ap (map tx_of) was in
-    let items = with_items_is inside.active last (c.post.auto.members ∙ c.as_mut_slice.ensures.len) in
-    subst (IsRunOf next inside.groups inside.prepared.items) (sym items) (posted_run g last posts numbers)
+    subst (λ (ms : List Member). IsRunOf next inside.groups ms c.post.new.members.active) (sym c.post.ensures.prepared)
+    (posted_run g c.post.new.members.active c.post.ensures.changed c.post.ensures.numbers)
 
 pub returns-clause-ok : goal.returns-clause-ok
 returns-clause-ok c =
@@ -61,17 +57,17 @@ returns-clause-ok c =
     let next = c.lock.new.locks in
     let asked = c.args.asked.now in
     let place = c.args.place in
-    let active = inside.active.items in
-    let member = c.index-as_slice-place.result in
+    let active = inside.members.active in
+    let member = c.at.result.now in
     let within = within_own locks inside.groups active place
     (subst (λ (run : Run). place < length run.active) (sym c.self.view_is) c.requires) in
-    let is = c.index-as_slice-place.is
-    ∙ ap (λ (ms : List Member). get_or ms place member) c.as_slice.ensures.value in
+    let is = c.at.ensures member
+    ∙ ap (λ (ms : List Member). get_or ms place member) c.active.ensures in
     let g : Granting = record {
       locks = locks;
       next = next;
       groups = inside.groups;
-      prepared = inside.prepared.items;
+      prepared = inside.members.prepared;
       active = active;
       place = place;
       asked = asked;
@@ -82,14 +78,8 @@ returns-clause-ok c =
       more = subst (λ (n : ℕ). Locks n asked locks next) c.tx-tx.ensures c.in_ok-lock.ensures.ok;
       still = c.in_ok-lock.ensures.by_number c.self.invariant.1;
     } in
-    let was = c.as_mut_slice.ensures.value in
-    let last = c.post.new.members in
-    let posts = subst (λ (ms : List Member). (tx : ℕ) → IsAt ms tx place → Changes posted tx ms last) was
-    c.post.ensures.changed in
-    let numbers = c.post.ensures.numbers ∙ ap (map tx_of) was in
-    let items = with_items_is inside.active last (c.post.auto.members ∙ c.as_mut_slice.ensures.len) in
-    λ tx at. posted_carried g last posts numbers _ c.args.self.now.active items
-    (ap (λ (run : Run). run.active) c.self.view_is) tx at
+    λ tx at. posted_carried g c.post.new.members.active c.post.ensures.changed c.post.ensures.numbers
+    c.args.self.now.active (ap (λ (run : Run). run.active) c.self.view_is) tx at
 
 pub returns-clause-prepared : goal.returns-clause-prepared
 returns-clause-prepared c =
@@ -98,17 +88,17 @@ returns-clause-prepared c =
     let next = c.lock.new.locks in
     let asked = c.args.asked.now in
     let place = c.args.place in
-    let active = inside.active.items in
-    let member = c.index-as_slice-place.result in
+    let active = inside.members.active in
+    let member = c.at.result.now in
     let within = within_own locks inside.groups active place
     (subst (λ (run : Run). place < length run.active) (sym c.self.view_is) c.requires) in
-    let is = c.index-as_slice-place.is
-    ∙ ap (λ (ms : List Member). get_or ms place member) c.as_slice.ensures.value in
+    let is = c.at.ensures member
+    ∙ ap (λ (ms : List Member). get_or ms place member) c.active.ensures in
     let g : Granting = record {
       locks = locks;
       next = next;
       groups = inside.groups;
-      prepared = inside.prepared.items;
+      prepared = inside.members.prepared;
       active = active;
       place = place;
       asked = asked;
@@ -119,4 +109,5 @@ returns-clause-prepared c =
       more = subst (λ (n : ℕ). Locks n asked locks next) c.tx-tx.ensures c.in_ok-lock.ensures.ok;
       still = c.in_ok-lock.ensures.by_number c.self.invariant.1;
     } in
-    granted_prepared g ∙ ap (λ (run : Run). run.prepared) c.self.view_is
+    ap (in_runs next inside.groups) c.post.ensures.prepared ∙ granted_prepared g
+    ∙ ap (λ (run : Run). run.prepared) c.self.view_is

@@ -18,8 +18,8 @@ leaving c = record {
   next = c.drop_group.new.self;
   groups = c.self.inside.groups;
   left = c.leave.new.groups;
-  prepared = c.self.inside.prepared.items;
-  active = c.self.inside.active.items;
+  prepared = c.self.inside.members.prepared;
+  active = c.self.inside.members.active;
   run = c.self.invariant;
   are = c.numbers-numbers.ensures ∙ ap numbers_in (c.run_attempts-run_attempts.ensures
       ∙ ap (λ (run : Run). run_attempts_in c.args.group (run.prepared ++ run.active)) (sym c.self.view_is));
@@ -27,20 +27,20 @@ leaving c = record {
   leaves = c.leave.ensures;
 }
 
-stay_prepared : (c : After-leave) → in_runs c.drop_group.new.self c.leave.new.groups c.remove.new.members.items
+stay_prepared : (c : After-leave) → in_runs c.drop_group.new.self c.leave.new.groups c.remove.new.self.prepared
     ≡ filter (is_not_of c.numbers-numbers.result) c.args.self.now.prepared
 stay_prepared c =
-    ap (in_runs c.drop_group.new.self c.leave.new.groups) c.remove.ensures ∙ left_prepared (leaving c)
+    ap (in_runs c.drop_group.new.self c.leave.new.groups) c.remove.ensures.prepared ∙ left_prepared (leaving c)
     ∙ ap (λ (run : Run). filter (is_not_of c.numbers-numbers.result) run.prepared) c.self.view_is
 
-stay_active : (c : After-leave) → in_runs c.drop_group.new.self c.leave.new.groups c.remove-2.new.members.items
+stay_active : (c : After-leave) → in_runs c.drop_group.new.self c.leave.new.groups c.remove.new.self.active
     ≡ filter (is_not_of c.numbers-numbers.result) c.args.self.now.active
 stay_active c =
-    ap (in_runs c.drop_group.new.self c.leave.new.groups) c.remove-2.ensures ∙ left_active (leaving c)
+    ap (in_runs c.drop_group.new.self c.leave.new.groups) c.remove.ensures.active ∙ left_active (leaving c)
     ∙ ap (λ (run : Run). filter (is_not_of c.numbers-numbers.result) run.active) c.self.view_is
 
 pub invariant_of-self : goal.invariant_of-self
-invariant_of-self c = rw (c.remove.ensures, c.remove-2.ensures) (left_run (leaving c))
+invariant_of-self c = rw (c.remove.ensures.prepared, c.remove.ensures.active) (left_run (leaving c))
 
 pub returns-clause-group : goal.returns-clause-group
 returns-clause-group c = λ s.

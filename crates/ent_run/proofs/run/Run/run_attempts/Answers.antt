@@ -13,13 +13,13 @@ pub returns : goal.returns
 returns c =
     let locks = c.self.inside.locks in
     let groups = c.self.inside.groups in
-    let prepared = c.self.inside.prepared.items in
-    let active = c.self.inside.active.items in
+    let prepared = c.self.inside.members.prepared in
+    let active = c.self.inside.members.active in
     c.gather.ensures.list locks
     ∙ ap (λ (ms : List Member). gathered c.args.group (in_runs locks groups ms) c.gather_by_number-run_attempts.result)
-    c.as_slice-2.ensures.value
+    c.prepared.ensures
     ∙ ap (gathered c.args.group (in_runs locks groups prepared)) (c.gather_by_number-run_attempts.ensures.list locks
-    ∙ ap (λ (ms : List Member). run_attempts_in c.args.group (in_runs locks groups ms)) c.as_slice.ensures.value)
+    ∙ ap (λ (ms : List Member). run_attempts_in c.args.group (in_runs locks groups ms)) c.active.ensures)
     ∙ sym (gathered-append c.args.group (in_runs locks groups prepared) (in_runs locks groups active) [])
     ∙ ap (λ (run : Run). run_attempts_in c.args.group (run.prepared ++ run.active)) c.self.view_is
 
@@ -27,5 +27,5 @@ pub gather_by_number-run_attempts-requires-clause-ascending :
     goal.gather_by_number-run_attempts-requires-clause-ascending
 gather_by_number-run_attempts-requires-clause-ascending c =
     let inside = c.self.inside in
-    subst (λ (ms : List Member). IsAscending (map tx_of ms)) (sym c.as_slice.ensures.value)
-    (own_ascending inside.locks inside.groups inside.active.items c.self.invariant.0.0.run.ascending)
+    subst (λ (ms : List Member). IsAscending (map tx_of ms)) (sym c.active.ensures)
+    (own_ascending inside.locks inside.groups inside.members.active c.self.invariant.0.0.run.ascending)

@@ -8,7 +8,7 @@ use Rattle.ent_run.proofs.run.Run.start.Goals as goal
 
 pub invariant_of-result : goal.invariant_of-result
 invariant_of-result c =
-    rw (c.new.ensures.items, c.in_ok-active.ensures, c.new-2.ensures) (
+    rw (c.in_ok-members.ensures.prepared, c.in_ok-members.ensures.active, c.new.ensures) (
       subst (λ (ms : List Member). IsRunWith finite.empty c.each_alone.result [] ms)
           (sym (fresh_in_runs c.each_alone.result c.args.entrants.now c.each_alone.ensures))
           (starts_with c.args.entrants.now c.each_alone.result c.requires.bound c.requires.distinct
@@ -18,5 +18,5 @@ invariant_of-result c =
 
 pub returns-clause-active : goal.returns-clause-active
 returns-clause-active c =
-    rw (c.in_ok-active.ensures, c.new-2.ensures)
+    rw (c.in_ok-members.ensures.active, c.new.ensures)
     (fresh_in_runs c.each_alone.result c.args.entrants.now c.each_alone.ensures)
