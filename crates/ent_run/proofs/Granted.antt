@@ -179,39 +179,53 @@ module _ (g : Granting) where
 
 -- ---- or memory runs out
 
-module _ (locks next : Uses) (groups : List Membership) (prepared active : List Member) (place : ℕ) (asked : List Use)
-    (member : Member) (run : IsRunOf locks groups prepared active) (within : place < length active)
-    (is : member ≡ get_or active place member) where
-  abbrev granting : Locks member.tx asked locks next → (AreByNumber locks → AreByNumber next) → Granting
+pub record Trying : Type 0 where
+  pub locks : Uses
+  pub next : Uses
+  pub groups : List Membership
+  pub prepared : List Member
+  pub active : List Member
+  pub place : ℕ
+  pub asked : List Use
+  pub member : Member
+  pub run : IsRunOf locks groups prepared active
+  pub within : place < length active
+  pub is : member ≡ get_or active place member
+
+module _ (t : Trying) where
+  abbrev granting : Locks t.member.tx t.asked t.locks t.next → (AreByNumber t.locks → AreByNumber t.next) → Granting
   granting more still = record {
-    locks = locks;
-    next = next;
-    groups = groups;
-    prepared = prepared;
-    active = active;
-    place = place;
-    asked = asked;
-    member = member;
-    run = run;
-    within = within;
-    is = is;
+    locks = t.locks;
+    next = t.next;
+    groups = t.groups;
+    prepared = t.prepared;
+    active = t.active;
+    place = t.place;
+    asked = t.asked;
+    member = t.member;
+    run = t.run;
+    within = t.within;
+    is = t.is;
     more = more;
-    still = still run.1;
+    still = still t.run.1;
   }
 
-  pub tried_run : {T E : Type 0} (r : Result T E) → OnOk r (Locks member.tx asked locks next)
-      → OnOk r (AreByNumber locks → AreByNumber next) → OnErr r (next ≡ locks) → IsRunOf next groups prepared active
+  pub tried_run : {T E : Type 0} (r : Result T E) → OnOk r (Locks t.member.tx t.asked t.locks t.next)
+      → OnOk r (AreByNumber t.locks → AreByNumber t.next) → OnErr r (t.next ≡ t.locks)
+      → IsRunOf t.next t.groups t.prepared t.active
   tried_run (Ok x) more still same = granted_run (granting more still)
-  tried_run (Err e) more still same = subst (λ ls. IsRunOf ls groups prepared active) (sym same) run
+  tried_run (Err e) more still same = subst (λ ls. IsRunOf ls t.groups t.prepared t.active) (sym same) t.run
 
-  pub tried_changes : {T E : Type 0} (r : Result T E) → OnOk r (Locks member.tx asked locks next)
-      → OnOk r (AreByNumber locks → AreByNumber next) → (tx : ℕ) → IsAt (in_runs locks groups active) tx place
-      → OnOk r (Changes (λ m. holding m asked) tx (in_runs locks groups active) (in_runs next groups active))
+  pub tried_changes : {T E : Type 0} (r : Result T E) → OnOk r (Locks t.member.tx t.asked t.locks t.next)
+      → OnOk r (AreByNumber t.locks → AreByNumber t.next) → (tx : ℕ)
+      → IsAt (in_runs t.locks t.groups t.active) tx t.place
+      → OnOk r (Changes (λ m. holding m t.asked) tx (in_runs t.locks t.groups t.active)
+      (in_runs t.next t.groups t.active))
   tried_changes (Ok x) more still tx at = granted_changes (granting more still) tx at
   tried_changes (Err e) more still tx at = tt
 
-  pub tried_prepared : {T E : Type 0} (r : Result T E) → OnOk r (Locks member.tx asked locks next)
-      → OnOk r (AreByNumber locks → AreByNumber next) → OnErr r (next ≡ locks)
-      → in_runs next groups prepared ≡ in_runs locks groups prepared
+  pub tried_prepared : {T E : Type 0} (r : Result T E) → OnOk r (Locks t.member.tx t.asked t.locks t.next)
+      → OnOk r (AreByNumber t.locks → AreByNumber t.next) → OnErr r (t.next ≡ t.locks)
+      → in_runs t.next t.groups t.prepared ≡ in_runs t.locks t.groups t.prepared
   tried_prepared (Ok x) more still same = granted_prepared (granting more still)
-  tried_prepared (Err e) more still same = ap (λ ls. in_runs ls groups prepared) same
+  tried_prepared (Err e) more still same = ap (λ ls. in_runs ls t.groups t.prepared) same

@@ -7,6 +7,26 @@ use Rattle.ent_run.specs.Run.{Run}
 use Rattle.ent_run.proofs.Lookups.{numbers_apart, within_own}
 use Rattle.ent_run.proofs.Granted.{Granting, granted_prepared, posted_carried, posted_run}
 use Rattle.ent_run.proofs.run.Run.post_at.Goals as goal
+use Rattle.ent_run.proofs.run.Run.post_at.Goals.{After-post}
+
+abbrev granting : After-post → Granting
+granting c = record {
+  locks = c.self.inside.locks;
+  next = c.lock.new.locks;
+  groups = c.self.inside.groups;
+  prepared = c.self.inside.members.prepared;
+  active = c.self.inside.members.active;
+  place = c.args.place;
+  asked = c.args.asked.now;
+  member = c.at.result.now;
+  run = c.self.invariant;
+  within = within_own c.self.inside.locks c.self.inside.groups c.self.inside.members.active c.args.place
+      (subst (λ (run : Run). c.args.place < length run.active) (sym c.self.view_is) c.requires);
+  is = c.at.ensures c.at.result.now ∙ ap (λ (ms : List Member). get_or ms c.args.place c.at.result.now) c.active.ensures;
+  more = subst (λ (n : ℕ). Locks n c.args.asked.now c.self.inside.locks c.lock.new.locks) c.tx-tx.ensures
+      c.in_ok-lock.ensures.ok;
+  still = c.in_ok-lock.ensures.by_number c.self.invariant.1;
+}
 
 pub post-requires-clause-within : goal.post-requires-clause-within
 post-requires-clause-within c =
@@ -21,93 +41,19 @@ post-requires-clause-numbers c =
 
 pub invariant_of-self-2 : goal.invariant_of-self-2
 invariant_of-self-2 c =
-    let inside = c.self.inside in
-    let locks = inside.locks in
-    let next = c.lock.new.locks in
-    let asked = c.args.asked.now in
-    let place = c.args.place in
-    let active = inside.members.active in
-    let member = c.at.result.now in
-    let within = within_own locks inside.groups active place
-    (subst (λ (run : Run). place < length run.active) (sym c.self.view_is) c.requires) in
-    let is = c.at.ensures member
-    ∙ ap (λ (ms : List Member). get_or ms place member) c.active.ensures in
-    let g : Granting = record {
-      locks = locks;
-      next = next;
-      groups = inside.groups;
-      prepared = inside.members.prepared;
-      active = active;
-      place = place;
-      asked = asked;
-      member = member;
-      run = c.self.invariant;
-      within = within;
-      is = is;
-      more = subst (λ (n : ℕ). Locks n asked locks next) c.tx-tx.ensures c.in_ok-lock.ensures.ok;
-      still = c.in_ok-lock.ensures.by_number c.self.invariant.1;
-    } in
-    subst (λ (ms : List Member). IsRunOf next inside.groups ms c.post.new.members.active) (sym c.post.ensures.prepared)
-    (posted_run g c.post.new.members.active c.post.ensures.changed c.post.ensures.numbers)
+    let w = (goal.at.invariant_of-self-2 c).After-post in
+    subst (λ (ms : List Member). IsRunOf c.lock.new.locks c.self.inside.groups ms c.post.new.members.active)
+    (sym c.post.ensures.prepared)
+    (posted_run (granting w) c.post.new.members.active c.post.ensures.changed c.post.ensures.numbers)
 
 pub returns-clause-ok : goal.returns-clause-ok
 returns-clause-ok c =
-    let inside = c.self.inside in
-    let locks = inside.locks in
-    let next = c.lock.new.locks in
-    let asked = c.args.asked.now in
-    let place = c.args.place in
-    let active = inside.members.active in
-    let member = c.at.result.now in
-    let within = within_own locks inside.groups active place
-    (subst (λ (run : Run). place < length run.active) (sym c.self.view_is) c.requires) in
-    let is = c.at.ensures member
-    ∙ ap (λ (ms : List Member). get_or ms place member) c.active.ensures in
-    let g : Granting = record {
-      locks = locks;
-      next = next;
-      groups = inside.groups;
-      prepared = inside.members.prepared;
-      active = active;
-      place = place;
-      asked = asked;
-      member = member;
-      run = c.self.invariant;
-      within = within;
-      is = is;
-      more = subst (λ (n : ℕ). Locks n asked locks next) c.tx-tx.ensures c.in_ok-lock.ensures.ok;
-      still = c.in_ok-lock.ensures.by_number c.self.invariant.1;
-    } in
-    λ tx at. posted_carried g c.post.new.members.active c.post.ensures.changed c.post.ensures.numbers
-    c.args.self.now.active (ap (λ (run : Run). run.active) c.self.view_is) tx at
+    let w = (goal.at.returns-clause-ok c).After-post in
+    posted_carried (granting w) c.post.new.members.active c.post.ensures.changed c.post.ensures.numbers
+    c.args.self.now.active (ap (λ (run : Run). run.active) c.self.view_is)
 
 pub returns-clause-prepared : goal.returns-clause-prepared
 returns-clause-prepared c =
-    let inside = c.self.inside in
-    let locks = inside.locks in
-    let next = c.lock.new.locks in
-    let asked = c.args.asked.now in
-    let place = c.args.place in
-    let active = inside.members.active in
-    let member = c.at.result.now in
-    let within = within_own locks inside.groups active place
-    (subst (λ (run : Run). place < length run.active) (sym c.self.view_is) c.requires) in
-    let is = c.at.ensures member
-    ∙ ap (λ (ms : List Member). get_or ms place member) c.active.ensures in
-    let g : Granting = record {
-      locks = locks;
-      next = next;
-      groups = inside.groups;
-      prepared = inside.members.prepared;
-      active = active;
-      place = place;
-      asked = asked;
-      member = member;
-      run = c.self.invariant;
-      within = within;
-      is = is;
-      more = subst (λ (n : ℕ). Locks n asked locks next) c.tx-tx.ensures c.in_ok-lock.ensures.ok;
-      still = c.in_ok-lock.ensures.by_number c.self.invariant.1;
-    } in
-    ap (in_runs next inside.groups) c.post.ensures.prepared ∙ granted_prepared g
+    let w = (goal.at.returns-clause-prepared c).After-post in
+    ap (in_runs c.lock.new.locks c.self.inside.groups) c.post.ensures.prepared ∙ granted_prepared (granting w)
     ∙ ap (λ (run : Run). run.prepared) c.self.view_is
