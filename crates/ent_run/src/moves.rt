@@ -39,7 +39,7 @@ pub(crate) fn remove(live: &mut Slab<Progress>, numbers: &Members)
     live.retain(|_key, member| !numbers.contains(member.tx()));
 }
 
-/// The member under a key leaves the slab and comes to others, if it is of the group with a label; there is room for it.
+/// If the member under a key is of the group with a label, it leaves the slab and comes to others, which have room.
 fn take_one(
     live: &mut Slab<Progress>,
     key: usize,

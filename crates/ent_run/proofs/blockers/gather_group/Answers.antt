@@ -17,7 +17,8 @@ next_passed : (c : goal.Joined-is_labelled) (b : Bool) → c.is_labelled.result 
 next_passed c b is =
     passed_more (is_labelled c.args.groups.now c.args.group) c.args.members.now c.loop-place.place
     c.at-member.result.now b
-    (subst (λ (n : ℕ). c.loop-place.place < n) c.len-place-end.ensures c.loop-place-test.true) (c.at-member.ensures c.at-member.result.now) (sym c.is_labelled.ensures ∙ is)
+    (subst (λ (n : ℕ). c.loop-place.place < n) c.len-place-end.ensures c.loop-place-test.true)
+    (c.at-member.ensures c.at-member.result.now) (sym c.is_labelled.ensures ∙ is)
 
 pub loop-place-preserved : goal.loop-place-preserved
 loop-place-preserved c =

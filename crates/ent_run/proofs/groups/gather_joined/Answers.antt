@@ -11,7 +11,8 @@ next_numbers : (c : goal.Joined-is_one_of) (b : Bool) → c.is_one_of.result ≡
     ++ (if b then c.at-member.result.now.tx ∷ [] else [])
 next_numbers c b is =
     numbers_more c.args.numbers.now c.args.members.now c.loop-place.place c.at-member.result.now b
-    (subst (λ (n : ℕ). c.loop-place.place < n) c.len-place-end.ensures c.loop-place-test.true) (c.at-member.ensures c.at-member.result.now)
+    (subst (λ (n : ℕ). c.loop-place.place < n) c.len-place-end.ensures c.loop-place-test.true)
+    (c.at-member.ensures c.at-member.result.now)
     (sym c.is_one_of.ensures ∙ is)
 
 pub loop-place-preserved : goal.loop-place-preserved

@@ -1,4 +1,5 @@
-use Rattle.std.proofs.Common.{◌≡◌, ℕ, Bool, true, false, ◌||◌, if◌then◌else◌, List, [], ◌∷◌, is_some, refl, sym, ap, ◌∙◌}
+use Rattle.std.proofs.Common.{◌≡◌, ℕ, Bool, true, false, ◌||◌, if◌then◌else◌, List, [], ◌∷◌, is_some, refl, sym, ap}
+use Rattle.std.proofs.Common.{◌∙◌}
 use Rattle.std.specs.Prelude.{IfSome, IsNone, None, Option, Some, filter}
 use Rattle.std.specs.List.{list_any}
 use Rattle.ent_protocol.specs.Member.{is_tx}
@@ -12,7 +13,8 @@ any_found [] tx = refl
 any_found (x ∷ xs) tx = by (is_tx tx x) (any_found xs tx)
   where
     by : (b : Bool) → list_any (is_tx tx) xs ≡ is_some (found xs tx)
-        → (b || list_any (is_tx tx) xs) ≡ is_some (first_of (if b then x ∷ filter (is_tx tx) xs else filter (is_tx tx) xs))
+        → (b || list_any (is_tx tx) xs)
+        ≡ is_some (first_of (if b then x ∷ filter (is_tx tx) xs else filter (is_tx tx) xs))
     by true rest = refl
     by false rest = rest
 

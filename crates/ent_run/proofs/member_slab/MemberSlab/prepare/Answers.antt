@@ -20,7 +20,8 @@ low c =
 last : (c : After-push_reserved)
     → c.push_reserved.new.self.items ≡ c.self.inside.prepared.items ++ c.remove-key.result ∷ []
 last c =
-    c.push_reserved.ensures.items ∙ ap (λ (keys : List ℕ). keys ++ c.remove-key.result ∷ []) c.in_ok-reserve.ensures.items
+    c.push_reserved.ensures.items
+    ∙ ap (λ (keys : List ℕ). keys ++ c.remove-key.result ∷ []) c.in_ok-reserve.ensures.items
 
 pub invariant_of-self-2 : goal.invariant_of-self-2
 invariant_of-self-2 c =

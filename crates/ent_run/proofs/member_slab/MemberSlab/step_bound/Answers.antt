@@ -21,8 +21,8 @@ returns-clause-ok c = λ d.
     c.index_mut.ensures.value d in
     on_ok_then c.step_bound.result (c.step_bound.new.self ≡ change one) _
     (λ is. written inside.live inside.prepared.items inside.active.items c.self.invariant old c.self.view_is
-    c.requires.numbers c.args.place c.requires.within c.as_slice.result.now c.as_slice.ensures.value c.step_bound.new.self
-    (change (get_or old.active c.args.place d)) (is ∙ ap change own))
+    c.requires.numbers c.args.place c.requires.within c.as_slice.result.now c.as_slice.ensures.value
+    c.step_bound.new.self (change (get_or old.active c.args.place d)) (is ∙ ap change own))
     c.step_bound.ensures.ok
 
 pub returns-clause-err : goal.returns-clause-err
@@ -31,6 +31,7 @@ returns-clause-err c =
     let one = c.index_mut.result.now in
     on_err_then c.step_bound.result (c.step_bound.new.self ≡ one) _
     (unwritten inside.live inside.prepared.items inside.active.items c.self.invariant c.args.self.now c.self.view_is
-    c.requires.numbers c.args.place c.requires.within c.as_slice.result.now c.as_slice.ensures.value c.step_bound.new.self one
+    c.requires.numbers c.args.place c.requires.within c.as_slice.result.now c.as_slice.ensures.value
+    c.step_bound.new.self one
     c.index_mut.ensures.value)
     c.step_bound.ensures.err

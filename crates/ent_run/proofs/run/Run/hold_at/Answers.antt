@@ -24,10 +24,12 @@ trying c = record {
   run = c.self.invariant;
   within = within_own c.self.inside.locks c.self.inside.groups c.self.inside.members.active c.args.place
       (subst (λ (run : Run). c.args.place < length run.active) (sym c.self.view_is) c.requires);
-  is = c.at.ensures c.at.result.now ∙ ap (λ (ms : List Member). get_or ms c.args.place c.at.result.now) c.active.ensures;
+  is = c.at.ensures c.at.result.now
+      ∙ ap (λ (ms : List Member). get_or ms c.args.place c.at.result.now) c.active.ensures;
 }
 
-more : (c : After-lock) → OnOk c.lock.result (Locks c.at.result.now.tx c.args.asked.now c.self.inside.locks c.lock.new.locks)
+more : (c : After-lock)
+    → OnOk c.lock.result (Locks c.at.result.now.tx c.args.asked.now c.self.inside.locks c.lock.new.locks)
 more c =
     subst (λ (n : ℕ). OnOk c.lock.result (Locks n c.args.asked.now c.self.inside.locks c.lock.new.locks))
     c.tx-tx.ensures c.lock.ensures.ok

@@ -31,7 +31,8 @@ merging c = record {
       (λ i. c.prepared-prepared.ensures i ++ c.active-active.ensures i)
       ∙ ap (λ (ms : List Member). option_map (joined_label (labels_in c.args.numbers.now ms))
       (group_of c.self.inside.groups x))
-      (both_in_runs c.self.inside.locks c.self.inside.groups c.self.inside.members.prepared c.self.inside.members.active);
+      (both_in_runs c.self.inside.locks c.self.inside.groups c.self.inside.members.prepared
+      c.self.inside.members.active);
   run = c.self.invariant.0;
 }
 

@@ -22,7 +22,8 @@ granting c = record {
   run = c.self.invariant;
   within = within_own c.self.inside.locks c.self.inside.groups c.self.inside.members.active c.args.place
       (subst (λ (run : Run). c.args.place < length run.active) (sym c.self.view_is) c.requires);
-  is = c.at.ensures c.at.result.now ∙ ap (λ (ms : List Member). get_or ms c.args.place c.at.result.now) c.active.ensures;
+  is = c.at.ensures c.at.result.now
+      ∙ ap (λ (ms : List Member). get_or ms c.args.place c.at.result.now) c.active.ensures;
   more = subst (λ (n : ℕ). Locks n c.args.asked.now c.self.inside.locks c.lock.new.locks) c.tx-tx.ensures
       c.in_ok-lock.ensures.ok;
   still = c.in_ok-lock.ensures.by_number c.self.invariant.1;

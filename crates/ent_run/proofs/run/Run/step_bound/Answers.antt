@@ -45,14 +45,16 @@ invariant_of-self c =
 pub returns-clause-ok : goal.returns-clause-ok
 returns-clause-ok c =
     let inside = c.self.inside in
-    changes_carried inside.locks inside.groups c.step_bound.result (stepping c.args.answer c.args.bound.items) (λ m. refl) c.args.tx
+    changes_carried inside.locks inside.groups c.step_bound.result (stepping c.args.answer c.args.bound.items)
+    (λ m. refl) c.args.tx
     inside.members.active c.step_bound.new.members.active c.args.self.now.active
     (ap (λ (run : Run). run.active) c.self.view_is) c.step_bound.ensures.ok
 
 pub returns-clause-prepared : goal.returns-clause-prepared
 returns-clause-prepared c =
     let inside = c.self.inside in
-    ap (in_runs inside.locks inside.groups) c.step_bound.ensures.prepared ∙ ap (λ (run : Run). run.prepared) c.self.view_is
+    ap (in_runs inside.locks inside.groups) c.step_bound.ensures.prepared
+    ∙ ap (λ (run : Run). run.prepared) c.self.view_is
 
 pub returns-clause-err : goal.returns-clause-err
 returns-clause-err c =
