@@ -13,6 +13,7 @@ use Rattle.ent_waits.specs.Waits.{nothing}
 use Rattle.ent_waits.specs.declared.changers.ChangersRow.{ChangersRow}
 use Rattle.ent_waits.specs.declared.changers.GroupRow.{GroupRow}
 use Rattle.ent_waits.specs.declared.rows.Askers.{Askers}
+use Rattle.ent_waits.specs.declared.rows.MarkedGroups.{MarkedGroups}
 
 -- both have a place, and the row of the one has a mark at the place of the other
 pub record IsMarkedPair (numbers rows : List ℕ) (pair : ℕ × ℕ) : Type 0 where
@@ -51,6 +52,10 @@ MarksGroup run group row =
 -- the same of the group of the member of a number
 abbrev pub MarksGroupOf : Run → ℕ → ℕ → Type 0
 MarksGroupOf run tx row = (member : Member) → IsMember run member → member.tx ≡ tx → MarksGroup run member.group row
+
+-- the group that was marked last in a row has its marks there
+abbrev pub HasLast : Run → MarkedGroups → Type 0
+HasLast run marked = IfSome marked.last (λ group. MarksGroup run group marked.row)
 
 -- a member is of those who ask: of their group, and the only one if they are one
 abbrev pub IsOf : Askers → Member → Type 0

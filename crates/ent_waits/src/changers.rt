@@ -3,11 +3,12 @@ ghost use Rattle.std.specs.Prelude.{◌≡◌, ◌<◌, [], ◌∷◌, IfSome};
 ghost use Rattle.ent_run.specs.Run.{with_run};
 ghost use Rattle.ent_run.specs.Waits.{is_awaited};
 ghost use Rattle.ent_protocol.specs.Uses.{exclusive};
-ghost use Rattle.ent_waits.specs.Rows.{HasMarksOf, IsOfChangers, IsOfGroup, IsRowOfAny, MarksAll, MarksGroupOf};
+ghost use Rattle.ent_waits.specs.Rows.{HasLast, HasMarksOf, IsOfChangers, IsOfGroup, IsRowOfAny, MarksAll};
+ghost use Rattle.ent_waits.specs.Rows.{MarksGroupOf};
 ghost use Rattle.ent_waits.specs.Waits.{nothing};
 
 use crate::marks::share_mark;
-use crate::rows::{Askers, mark_group, row_of, row_of_askers};
+use crate::rows::{Askers, MarkedGroups, mark_next_group, row_of, row_of_askers};
 use ent_group::{MOST_MEMBERS, Row, Tx, with_mark};
 use ent_members::{Member, Use};
 use ent_run::Run;
@@ -29,14 +30,16 @@ struct GroupRow {
     row: Row,
 }
 
-/// A row with marks too at the members of the group of the member of a number, save the prepared ones.
-fn mark_group_of(row: Row, run: &Run, tx: Tx) -> Row
-    ensures kept { HasMarksOf result row }
-    ensures marked { MarksGroupOf run.now tx result }
+/// Marks too at the members of the group of the member of a number, save the prepared ones.
+fn mark_group_of(marked: MarkedGroups, run: &Run, tx: Tx) -> MarkedGroups
+    requires { HasLast run.now marked }
+    ensures kept { HasMarksOf result.row marked.row }
+    ensures marked { MarksGroupOf run.now tx result.row }
+    ensures last { HasLast run.now result }
 {
     match run.label_of(tx) {
-        Some(group) => mark_group(row, run, group),
-        None => row,
+        Some(group) => mark_next_group(marked, run, group),
+        None => marked,
     }
 }
 
@@ -44,11 +47,11 @@ fn mark_group_of(row: Row, run: &Run, tx: Tx) -> Row
 fn row_of_any(run: &Run, table: usize) -> Row
     ensures { IsRowOfAny run.now (exclusive table ∷ []) result }
 {
-    let mut row = 0;
+    let mut marked = MarkedGroups { row: 0, last: None };
     for held in run.holders(table) {
-        row = mark_group_of(row, run, held.holder);
+        marked = mark_group_of(marked, run, held.holder);
     }
-    row
+    marked.row
 }
 
 /// The row of whoever changes a table, which may be known.

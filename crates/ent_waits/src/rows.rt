@@ -4,7 +4,7 @@ ghost use Rattle.ent_run.specs.Run.{with_run};
 ghost use Rattle.ent_run.specs.Waits.{is_awaited, waits_by};
 ghost use Rattle.ent_protocol.specs.State.{Member as Seen};
 ghost use Rattle.ent_protocol.specs.Uses.{statement_uses};
-ghost use Rattle.ent_waits.specs.Rows.{HasMarksOf, IsInTheWay, IsOfChangers, IsRowOf, MarksAll, MarksGroup};
+ghost use Rattle.ent_waits.specs.Rows.{HasLast, HasMarksOf, IsInTheWay, IsOfChangers, IsRowOf, MarksAll, MarksGroup};
 ghost use Rattle.ent_waits.specs.Rows.{MarksInConflict, MarksOne, MarksOver, StandsAt};
 ghost use Rattle.ent_waits.specs.Waits.{awaits_now, nothing};
 
@@ -22,6 +22,13 @@ use ent_run::Run;
 pub(crate) struct Askers {
     pub(crate) group: Tx,
     pub(crate) only: Option<Tx>,
+}
+
+/// A row, and the label of the group that was marked in it last: those who hold a table are often of one group.
+#[derive(Clone, Copy)]
+pub(crate) struct MarkedGroups {
+    pub(crate) row: Row,
+    pub(crate) last: Option<Tx>,
 }
 
 /// Whether those who ask pass the member of a number, whose group has the label: it is a prepared one of their group,
@@ -49,7 +56,7 @@ fn mark_one(row: Row, run: &Run, tx: Tx) -> Row
 }
 
 /// A row with marks too at the members of the group with a label, save the prepared ones.
-pub(crate) fn mark_group(row: Row, run: &Run, group: Tx) -> Row
+fn mark_group(row: Row, run: &Run, group: Tx) -> Row
     ensures kept { HasMarksOf result row }
     ensures marked { MarksGroup run.now group result }
 {
@@ -60,30 +67,51 @@ pub(crate) fn mark_group(row: Row, run: &Run, group: Tx) -> Row
     marked
 }
 
-/// A row with marks too at those for whom a member of a group waits, with the member of a number and a label blocking
-/// it.
-fn mark_awaited(row: Row, run: &Run, own: Tx, tx: Tx, group: Tx) -> Row
-    ensures kept { HasMarksOf result row }
-    ensures marked { MarksAll run.now.active (λ other. waits_by own other tx (Some group)) result }
+/// Marks too at the members of the group with a label, save the prepared ones. The group that was marked last has them.
+pub(crate) fn mark_next_group(marked: MarkedGroups, run: &Run, group: Tx) -> MarkedGroups
+    requires { HasLast run.now marked }
+    ensures kept { HasMarksOf result.row marked.row }
+    ensures marked { MarksGroup run.now group result.row }
+    ensures last { HasLast run.now result }
 {
-    if group == own {
-        mark_one(row, run, tx)
-    } else {
-        mark_group(row, run, group)
+    if marked.last == Some(group) {
+        return marked;
+    }
+    MarkedGroups {
+        row: mark_group(marked.row, run, group),
+        last: Some(group),
     }
 }
 
-/// A row with marks too at those for whom others wait who ask, with the member of a number blocking them; the same row
-/// where they pass it.
-fn mark_over(row: Row, run: &Run, askers: Askers, tx: Tx) -> Row
-    ensures kept { HasMarksOf result row }
-    ensures marked { (holder : Seen) → holder.tx ≡ tx → MarksOver run.now askers holder result }
+/// Marks too at those for whom a member of a group waits, with the member of a number and a label blocking it.
+fn mark_awaited(marked: MarkedGroups, run: &Run, own: Tx, tx: Tx, group: Tx) -> MarkedGroups
+    requires { HasLast run.now marked }
+    ensures kept { HasMarksOf result.row marked.row }
+    ensures marked { MarksAll run.now.active (λ other. waits_by own other tx (Some group)) result.row }
+    ensures last { HasLast run.now result }
+{
+    if group == own {
+        MarkedGroups {
+            row: mark_one(marked.row, run, tx),
+            last: marked.last,
+        }
+    } else {
+        mark_next_group(marked, run, group)
+    }
+}
+
+/// Marks too at those for whom others wait who ask, with the member of a number blocking them; none where they pass it.
+fn mark_over(marked: MarkedGroups, run: &Run, askers: Askers, tx: Tx) -> MarkedGroups
+    requires { HasLast run.now marked }
+    ensures kept { HasMarksOf result.row marked.row }
+    ensures marked { (holder : Seen) → holder.tx ≡ tx → MarksOver run.now askers holder result.row }
+    ensures last { HasLast run.now result }
 {
     match run.label_of(tx) {
         Some(group) if !is_passed(run, askers, tx, group) => {
-            mark_awaited(row, run, askers.group, tx, group)
+            mark_awaited(marked, run, askers.group, tx, group)
         }
-        _ => row,
+        _ => marked,
     }
 }
 
@@ -92,13 +120,13 @@ fn mark_holders(row: Row, run: &Run, askers: Askers, asked: Use) -> Row
     ensures kept { HasMarksOf result row }
     ensures marked { MarksInConflict run.now askers asked result }
 {
-    let mut marked = row;
+    let mut marked = MarkedGroups { row, last: None };
     for held in run.holders(asked.table()) {
         if held.mode.in_conflict(asked.mode()) {
             marked = mark_over(marked, run, askers, held.holder);
         }
     }
-    marked
+    marked.row
 }
 
 /// The row of those who ask for uses: marks at those for whom they wait.

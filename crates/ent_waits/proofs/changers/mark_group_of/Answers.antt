@@ -6,9 +6,9 @@ use Rattle.ent_waits.proofs.changers.mark_group_of.Goals as goal
 pub returns-in-Some-clause-marked : goal.returns-in-Some-clause-marked
 returns-in-Some-clause-marked c = λ member there own.
     let run = c.args.run.now in
-    subst (λ (group : ℕ). MarksGroup run group c.mark_group.result)
+    subst (λ (group : ℕ). MarksGroup run group c.mark_next_group.result.row)
     (sym (label_is run c.args.tx c.in-Some.group c.label_of.result c.label_of.ensures c.in-Some.is member there own))
-    c.mark_group.ensures.marked
+    c.mark_next_group.ensures.marked
 
 pub returns-in-None-clause-marked : goal.returns-in-None-clause-marked
 returns-in-None-clause-marked c = λ member there own.

@@ -7,7 +7,7 @@ returns-in-Some-clause-marked c = λ holder own in_way.
     let run = c.args.run.now in
     let label = label_is run c.args.tx c.in-Some.group c.label_of.result c.label_of.ensures c.in-Some.is holder
     (is_way run c.args.askers holder in_way) own in
-    over_marked run c.args.askers c.args.tx c.in-Some.group c.mark_awaited.result holder label own
+    over_marked run c.args.askers c.args.tx c.in-Some.group c.mark_awaited.result.row holder label own
     c.mark_awaited.ensures.marked
 
 pub returns-in_default-clause-marked : goal.returns-in_default-clause-marked
