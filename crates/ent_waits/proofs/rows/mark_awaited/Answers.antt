@@ -13,7 +13,8 @@ still_marked run (Some group) row new kept marks = λ member there own place oth
 
 pub returns-then-group-own-clause-last : goal.returns-then-group-own-clause-last
 returns-then-group-own-clause-last c =
-    still_marked c.args.run.now c.args.marked.last c.args.marked.row c.mark_one.result c.mark_one.ensures.kept c.requires
+    still_marked c.args.run.now c.args.marked.last c.args.marked.row c.mark_one.result c.mark_one.ensures.kept
+    c.requires
 
 pub returns-else-group-own-clause-marked : goal.returns-else-group-own-clause-marked
 returns-else-group-own-clause-marked c =
