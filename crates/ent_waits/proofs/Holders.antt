@@ -30,7 +30,7 @@ use Rattle.ent_protocol.specs.Member.{active_member, is_of, is_prepared, is_tx}
 use Rattle.ent_protocol.specs.Rollback.{group_numbers}
 use Rattle.ent_protocol.specs.State.{Member, State, Use, by_number, first_of}
 use Rattle.ent_protocol.specs.Uses.{conflicting, exclusive, is_conflicting, not_passed, uses_conflict}
-use Rattle.ent_waits.specs.Rows.{IsInTheWay, IsMember, IsRowOf, IsRowOfAny, MarksAll}
+use Rattle.ent_waits.specs.Rows.{IsMember, IsNotPassed, IsRowOf, IsRowOfAny, MarksAll}
 use Rattle.ent_waits.specs.Rows.{MarksGroup, MarksGroupOf, MarksInConflict, MarksOne, MarksOver, StandsAt}
 use Rattle.ent_waits.specs.Waits.{nothing}
 use Rattle.ent_waits.specs.declared.rows.Askers.{Askers}
@@ -129,10 +129,10 @@ module _ (run : Run) where
       absurd (nobody tx other none (place, stands.0, stands.1) (sym (same_number tx other.tx is)))
 
   -- of those whom an asker doesn't pass, the prepared ones are of another group, and the others aren't the asker
-  way_cases : (asker holder : Member) → Contains (not_passed s asker) holder
+  unpassed_cases : (asker holder : Member) → Contains (not_passed s asker) holder
       → (Contains run.prepared holder × ((holder.group == asker.group) ≡ false))
       ⊎ (Contains run.active holder × ((holder.tx == asker.tx) ≡ false))
-  way_cases asker holder there =
+  unpassed_cases asker holder there =
       elim (Contains-append_cases (filter of_other run.prepared) (filter is_other run.active) holder there) [
         | inl early ↦
             let at = out_of_filter of_other run.prepared holder early in
@@ -149,29 +149,29 @@ module _ (run : Run) where
       is_other m = not (m.tx == asker.tx)
 
   member_by : (asker holder : Member) → Contains (not_passed s asker) holder → IsMember run holder
-  member_by asker holder there = elim (way_cases asker holder there) [
+  member_by asker holder there = elim (unpassed_cases asker holder there) [
     | inl early ↦ Contains-append_left run.prepared run.active holder early.0
     | inr late ↦ Contains-append_right run.prepared run.active holder late.0
   ]
 
-  pub is_way : (askers : Askers) (holder : Member) → IsInTheWay run askers holder → IsMember run holder
-  is_way askers holder (asker, is_asker, there) = member_by asker holder there
+  pub unpassed_member : (askers : Askers) (holder : Member) → IsNotPassed run askers holder → IsMember run holder
+  unpassed_member askers holder (asker, is_asker, there) = member_by asker holder there
 
-  -- a prepared member in their way is of another group
+  -- a prepared member that some of them don't pass is of another group
   pub other_group : (askers : Askers) (holder : Member) (tx group : ℕ) → active_member s tx ≡ None
-      → IsInTheWay run askers holder → holder.tx ≡ tx → holder.group ≡ group → (group == askers.group) ≡ false
+      → IsNotPassed run askers holder → holder.tx ≡ tx → holder.group ≡ group → (group == askers.group) ≡ false
   other_group askers holder tx group none (asker, is_asker, there) own label =
-      elim (way_cases asker holder there) [
+      elim (unpassed_cases asker holder there) [
         | inl early ↦
             ap (λ (n : ℕ). n == askers.group) (sym label) ∙ ap (λ (n : ℕ). holder.group == n) is_asker.0 ∙ early.1
         | inr late ↦ absurd (nobody tx holder none late.0 own)
       ]
 
-  -- another member in their way isn't the only one of them
+  -- another member that some of them don't pass isn't the only one of them
   pub other_one : (askers : Askers) (holder : Member) (tx : ℕ) → is_prepared s tx ≡ false
-      → IsInTheWay run askers holder → holder.tx ≡ tx → option_eq nat_eq askers.only (Some tx) ≡ false
+      → IsNotPassed run askers holder → holder.tx ≡ tx → option_eq nat_eq askers.only (Some tx) ≡ false
   other_one askers holder tx active (asker, is_asker, there) own =
-      elim (way_cases asker holder there) [
+      elim (unpassed_cases asker holder there) [
         | inl early ↦ clash (is_prepared s tx) (any_of (is_tx tx) run.prepared holder early.0
             (ap (λ (n : ℕ). n == tx) own ∙ number_itself tx)) active
         | inr late ↦ not_only askers.only is_asker.1 (λ same. differ holder.tx asker.tx late.1 (own ∙ same))
@@ -234,11 +234,11 @@ module _ (run : Run) where
   pub holders_marked : (askers : Askers) (asked : Use) (holders : List Holder) (row : ℕ)
       → AreHolders asked.table holders → ForEach (MarksHolder askers asked) holders row
       → MarksInConflict run askers asked row
-  holders_marked askers asked holders row are each = λ holder way in_way.
+  holders_marked askers asked holders row are each = λ holder way unpassed.
       let hold = held_use asked holder way in
       let held : Holder = record { holder = holder.tx; mode = hold.0 } in
-      each held ((are holder.tx hold.0).1 (holder, is_way askers holder in_way, refl, hold.1)) hold.2 holder refl
-      in_way
+      each held ((are holder.tx hold.0).1 (holder, unpassed_member askers holder unpassed, refl, hold.1)) hold.2 holder
+      refl unpassed
 
   pub row_marks : (askers : Askers) (asked : List Use) (row : ℕ) → ForEach (MarksInConflict run askers) asked row
       → IsRowOf run askers asked row

@@ -62,14 +62,14 @@ abbrev pub IsOf : Askers → Member → Type 0
 IsOf askers asker = (askers.group ≡ asker.group) × IfSome askers.only (λ tx. tx ≡ asker.tx)
 
 -- some of those who ask don't pass a member
-abbrev pub IsInTheWay : Run → Askers → Member → Type 0
-IsInTheWay run askers holder =
+abbrev pub IsNotPassed : Run → Askers → Member → Type 0
+IsNotPassed run askers holder =
     (asker : Member) × IsOf askers asker × Contains (not_passed (with_run run nothing) asker) holder
 
--- a row has the marks of those for whom others wait who ask, with a member blocking them, where it is in their way
+-- a row has the marks of those for whom others wait who ask, with a member blocking them, where some don't pass it
 abbrev pub MarksOver : Run → Askers → Member → ℕ → Type 0
 MarksOver run askers holder row =
-    IsInTheWay run askers holder → MarksAll run.active (λ other. waits_over askers.group other holder) row
+    IsNotPassed run askers holder → MarksAll run.active (λ other. waits_over askers.group other holder) row
 
 -- the same of each member that holds a use in conflict with one that is asked for
 abbrev pub MarksInConflict : Run → Askers → Use → ℕ → Type 0

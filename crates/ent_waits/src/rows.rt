@@ -4,7 +4,7 @@ ghost use Rattle.ent_run.specs.Run.{with_run};
 ghost use Rattle.ent_run.specs.Waits.{is_awaited, waits_by};
 ghost use Rattle.ent_protocol.specs.State.{Member as Seen};
 ghost use Rattle.ent_protocol.specs.Uses.{statement_uses};
-ghost use Rattle.ent_waits.specs.Rows.{HasLast, HasMarksOf, IsInTheWay, IsOfChangers, IsRowOf, MarksAll, MarksGroup};
+ghost use Rattle.ent_waits.specs.Rows.{HasLast, HasMarksOf, IsNotPassed, IsOfChangers, IsRowOf, MarksAll, MarksGroup};
 ghost use Rattle.ent_waits.specs.Rows.{MarksInConflict, MarksOne, MarksOver, StandsAt};
 ghost use Rattle.ent_waits.specs.Waits.{awaits_now, nothing};
 
@@ -34,7 +34,7 @@ pub(crate) struct MarkedGroups {
 /// Whether those who ask pass the member of a number, whose group has the label: it is a prepared one of their group,
 /// or it isn't prepared and is the only one of them.
 fn is_passed(run: &Run, askers: Askers, tx: Tx, group: Tx) -> bool
-    ensures { (holder : Seen) → IsInTheWay run.now askers holder → holder.tx ≡ tx → holder.group ≡ group
+    ensures { (holder : Seen) → IsNotPassed run.now askers holder → holder.tx ≡ tx → holder.group ≡ group
         → result ≡ false }
 {
     if run.is_prepared(tx) {

@@ -25,8 +25,8 @@ loop-held-preserved c =
                 (λ place own. kept place (so_far.kept place own));
             each = subst (λ (m : MarkedGroups). ForEach marks (take (at + 1) holders) m.row) (sym w.marked-is)
                 (each_next marks holders at none row new c.loop-held-test.true
-                (λ held over conflict holder own in_way place other stands waits.
-                kept place (over conflict holder own in_way place other stands waits))
+                (λ held over conflict holder own unpassed place other stands waits.
+                kept place (over conflict holder own unpassed place other stands waits))
                 (λ conflict. w.mark_over-marked.ensures.marked) so_far.each);
             last = subst (HasLast c.args.run.now) (sym w.marked-is) w.mark_over-marked.ensures.last;
           }

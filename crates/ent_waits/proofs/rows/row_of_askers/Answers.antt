@@ -10,8 +10,8 @@ pub loop-own-preserved : goal.loop-own-preserved
 loop-own-preserved c =
     each_more (MarksInConflict c.args.run.now c.args.askers) c.args.asked.now c.loop-own.own-index c.own-item.result
     c.loop-own.row c.mark_holders-row.result c.loop-own-test.true (sym c.own-item.is)
-    (λ own marks holder way in_way place other stands waits.
-    c.mark_holders-row.ensures.kept place (marks holder way in_way place other stands waits))
+    (λ own marks holder way unpassed place other stands waits.
+    c.mark_holders-row.ensures.kept place (marks holder way unpassed place other stands waits))
     c.mark_holders-row.ensures.marked c.loop-own.invariant
 
 pub returns : goal.returns
