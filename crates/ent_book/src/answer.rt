@@ -1,5 +1,5 @@
 //! The text of answers.
-ghost use Rattle.std.specs.Prelude.{◌≡◌, ◌++◌, OnOk};
+ghost use Rattle.std.specs.Prelude.{◌≡◌, ◌++◌, OnErr, OnOk};
 ghost use Rattle.ent_book.specs.Report.{answer_text, answers_text, fact_text, facts_text};
 
 use crate::piece::{append_number, append_rows};
@@ -56,8 +56,22 @@ fn append_answer(alloc: Global, out: &mut Vec<u8>, answer: &Answer) -> Result<()
     }
 }
 
-/// Answers in order of their statements, each behind its place, from 1.
+/// Answers in order of their statements, each behind its place, from 1. Where memory runs out nothing is put.
 pub fn append_answers(
+    alloc: Global,
+    out: &mut Vec<u8>,
+    answers: &[Answer],
+) -> Result<(), AllocError>
+    ensures ok { OnOk result (out.new.items ≡ out.old.items ++ answers_text 1 answers.now) }
+    ensures err { OnErr result (out.new.items ≡ out.old.items) }
+{
+    let mut piece = Vec::new(alloc);
+    put_answers(alloc, &mut piece, answers)?;
+    out.extend_from_slice(piece.as_slice())
+}
+
+/// The same; where memory runs out some of it may have been put.
+pub(crate) fn put_answers(
     alloc: Global,
     out: &mut Vec<u8>,
     answers: &[Answer],

@@ -1,14 +1,15 @@
 //! Numbers and rows, put at the end of bytes.
-ghost use Rattle.std.specs.Prelude.{◌≡◌, ◌++◌, OnOk};
+ghost use Rattle.std.specs.Prelude.{◌≡◌, ◌++◌, OnErr, OnOk};
 ghost use Rattle.std.specs.Fmt.{decimal};
 ghost use Rattle.ent_book.specs.Report.{row_line, rows_text};
 
 use ent_value::{Row, print_row};
 use std::alloc::{AllocError, Global};
 
-/// A number in decimal digits, without zeros in front of them.
+/// A number in decimal digits, without zeros in front of them. Where memory runs out nothing is put.
 pub fn append_number(alloc: Global, out: &mut Vec<u8>, number: u64) -> Result<(), AllocError>
-    ensures { OnOk result (out.new.items ≡ out.old.items ++ decimal number) }
+    ensures ok { OnOk result (out.new.items ≡ out.old.items ++ decimal number) }
+    ensures err { OnErr result (out.new.items ≡ out.old.items) }
 {
     let digits = format!(in alloc; "{number}")?;
     out.extend_from_slice(digits.as_bytes())

@@ -1,5 +1,5 @@
 //! The tables of a book, and their text.
-ghost use Rattle.std.specs.Prelude.{◌≡◌, ◌++◌, IfOk, MatchOption, OnOk};
+ghost use Rattle.std.specs.Prelude.{◌≡◌, ◌++◌, IfOk, MatchOption, OnErr, OnOk};
 ghost use Rattle.ent_set.specs.Sets as set;
 ghost use Rattle.ent_book.specs.Report.{names_by_bytes, table_text, tables_text};
 ghost use Rattle.ent_book.specs.Tables.{tables_database};
@@ -32,12 +32,23 @@ pub fn table_named<'a>(tables: &'a [NamedTable], name: &Name) -> Option<&'a Tabl
 }
 
 /// A table as the report has it: a line with its name and how many rows it has, and a line for each row, ascending.
+/// Where memory runs out nothing is put.
 pub fn append_table(
     alloc: Global,
     out: &mut Vec<u8>,
     name: &Name,
     table: &Table,
 ) -> Result<(), AllocError>
+    ensures ok { OnOk result (out.new.items ≡ out.old.items ++ table_text name.now table.now.rows) }
+    ensures err { OnErr result (out.new.items ≡ out.old.items) }
+{
+    let mut piece = Vec::new(alloc);
+    put_table(alloc, &mut piece, name, table)?;
+    out.extend_from_slice(piece.as_slice())
+}
+
+/// The same; where memory runs out some of it may have been put.
+fn put_table(alloc: Global, out: &mut Vec<u8>, name: &Name, table: &Table) -> Result<(), AllocError>
     ensures { OnOk result (out.new.items ≡ out.old.items ++ table_text name.now table.now.rows) }
 {
     out.extend_from_slice(b"table ")?;
@@ -83,7 +94,7 @@ pub(crate) fn append_tables(
 {
     for name in names {
         match table_named(tables, name) {
-            Some(table) => append_table(alloc, out, name, table)?,
+            Some(table) => put_table(alloc, out, name, table)?,
             None => append_no_table(out, name)?,
         }
     }

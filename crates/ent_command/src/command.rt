@@ -43,7 +43,23 @@ where
             say_what_is_read(rt, is_terminal, "a trace");
             draw_trace(rt, picked.as_slice())
         }
-        Err(fault) => said(rt, show_command_line(rt, &fault)),
+        Err(fault) => {
+            let ending = show_command_line(rt, &fault);
+            if fault.kind() == ErrorKind::UnknownArgument {
+                hint_at_standard_input(rt, words.as_slice());
+            }
+            said(rt, ending)
+        }
+    }
+}
+
+/// Says how a file is read, where the last word may name one: each subcommand reads standard input.
+fn hint_at_standard_input<R: Eprint>(rt: &R, words: &[String]) {
+    let (Some(subcommand), Some(last)) = (words.get(1), words.last()) else {
+        return;
+    };
+    if words.len() > 2 && !last.as_str().starts_with('-') {
+        let _ = eprintln!(rt; "hint: entangle {subcommand} < {last}");
     }
 }
 

@@ -1,7 +1,7 @@
 //! What is shown of a text at an offset: the line and the column, that line or a part of it, and carets below.
 //!
 //! A caller may rely on the place, on the line, and on it that an excerpt tells what is left out. How an excerpt is
-//! printed, and how wide characters are, rests on rows of examples, which `ent_fault_rows` plays.
+//! printed, and how wide characters are, rests on rows of examples, which `ent_told_rows` plays.
 #![tactic(auto)]
 
 mod excerpt;

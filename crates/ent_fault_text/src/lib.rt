@@ -1,7 +1,7 @@
 //! Faults of an input, told to people: where one stands, what is wrong there, and what helps.
 //!
 //! A caller may rely on the place, the line and the column of characters, and on the excerpt, which is that line or a
-//! part of it. What the sentences say rests on rows of examples, which `ent_fault_rows` plays.
+//! part of it. What the sentences say rests on rows of examples, which `ent_told_rows` plays.
 #![tactic(auto)]
 
 mod absent;

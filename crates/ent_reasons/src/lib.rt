@@ -5,7 +5,7 @@
 //!
 //! [`Observations`] keep what a watcher saw of members that can't move, and which joint answers connect a group. They
 //! have what was handed in, and no contract says more. [`Reasons`] rest on both, and on the text of the input for the
-//! lines of its statements. Rows of examples test the sentences; `ent_reason_rows` plays them.
+//! lines of its statements. Rows of examples test the sentences; `ent_told_rows` plays them.
 #![tactic(auto)]
 
 mod demand;

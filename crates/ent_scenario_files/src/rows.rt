@@ -3,43 +3,45 @@ ghost use Rattle.std.specs.Prelude.{◌≡◌, IsTrue, ◌↔◌};
 
 use anyhow::{Context, Result, ensure};
 use std::alloc::Global;
+use std::fs;
 use std::io::Read;
-use std::{env, fs};
 
-/// Goes over rows, of each of which `said` says something. Without a word it goes over the stored ones, shows what is
-/// said of each of which it is something else than it must, and is refused where there are such; with a word it reads
-/// one from standard input and writes what is said of it.
-pub fn run_rows<F: Fn(Global, &[u8]) -> Result<String>>(rt: &HostRuntime, said: F) -> Result<()>
+/// Goes over the rows of a folder, of each of which `said` says something, and writes how many there are. Where
+/// something else is said of one than must be, it shows what is said, and is refused at the end.
+pub fn run_rows<F: Fn(Global, &[u8]) -> Result<String>>(
+    rt: &HostRuntime,
+    folder: &str,
+    said: F,
+) -> Result<()>
     requires { F.IsAlwaysCallable said }
 {
-    if env::args(rt)?.nth(1).is_some() {
-        return tell(rt, said);
-    }
-    let index = fs::read_to_string(rt, "rows/INDEX")?;
+    let alloc = rt.alloc();
+    let index = fs::read_to_string(rt, format!(in alloc; "{folder}/INDEX")?)?;
     let mut count = 0usize;
     let mut wrong = 0usize;
     for name in index.lines() {
-        if !check(rt, name, &said).context(format_args!("row {name}"))? {
+        if !check(rt, folder, name, &said).context(format_args!("row {name}"))? {
             wrong = wrong.saturating_add(1);
         }
         count = count.saturating_add(1);
     }
     ensure!(wrong == 0, "{wrong} of {count} rows are wrong");
-    println!(rt; "{count} rows")?;
+    println!(rt; "{folder}: {count} rows")?;
     Ok(())
 }
 
 /// Whether of a stored row is said what must be; else it shows what is said.
 fn check<F: Fn(Global, &[u8]) -> Result<String>>(
     rt: &HostRuntime,
+    folder: &str,
     name: &str,
     said: F,
 ) -> Result<bool>
     requires { F.IsAlwaysCallable said }
 {
     let alloc = rt.alloc();
-    let input = fs::read(rt, format!(in alloc; "rows/{name}.in")?)?;
-    let wanted = fs::read_to_string(rt, format!(in alloc; "rows/{name}.out")?)?;
+    let input = fs::read(rt, format!(in alloc; "{folder}/{name}.in")?)?;
+    let wanted = fs::read_to_string(rt, format!(in alloc; "{folder}/{name}.out")?)?;
     let given = said(alloc, input.as_slice())?;
     let is_right = is_equal(given.as_str(), wanted.as_str());
     if !is_right {
@@ -56,7 +58,7 @@ fn is_equal(given: &str, wanted: &str) -> bool
 }
 
 /// Writes what is said of standard input.
-fn tell<F: Fn(Global, &[u8]) -> Result<String>>(rt: &HostRuntime, said: F) -> Result<()>
+pub fn tell_row<F: Fn(Global, &[u8]) -> Result<String>>(rt: &HostRuntime, said: F) -> Result<()>
     requires { F.IsAlwaysCallable said }
 {
     let mut input = Vec::new(rt.alloc());

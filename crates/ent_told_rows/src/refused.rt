@@ -1,7 +1,5 @@
 //! Shows that `run_rows` and `run_scenarios` say no. Each stored text is answered by itself; one row and one scenario
 //! expect another answer. So both calls must be refused: the program writes what for, and fails where one isn't.
-#![tactic(auto)]
-
 ghost use Rattle.std.specs.Prelude.{◌≡◌, IfOk, IsErr, OnOk};
 ghost use Rattle.std.specs.String.{string_bytes};
 
@@ -10,11 +8,12 @@ use ent_scenario_files::{run_rows, run_scenarios};
 use std::alloc::Global;
 use std::str;
 
-fn main(rt: HostRuntime) -> Result<()> {
-    let of_rows = run_rows(&rt, same_row);
-    tell_refusal(&rt, "rows", of_rows)?;
-    let of_scenarios = run_scenarios(&rt, same_text);
-    tell_refusal(&rt, "scenarios", of_scenarios)
+/// Runs the rows and the scenarios of which one expects another answer, and writes what each call was refused for.
+pub(crate) fn show_refusals(rt: &HostRuntime) -> Result<()> {
+    let of_rows = run_rows(rt, "refused", same_row);
+    tell_refusal(rt, "rows", of_rows)?;
+    let of_scenarios = run_scenarios(rt, same_text);
+    tell_refusal(rt, "scenarios", of_scenarios)
 }
 
 /// A row, as it is.

@@ -1,18 +1,26 @@
 //! What was told of transactions, a line each: their numbers, a colon, and what changes for all of them; and what was
 //! seen of them.
-use anyhow::{Result, anyhow, bail};
+use anyhow::{Context, Result, anyhow, bail};
 use ent_group::{Members, Tx};
 use ent_lock::Mode;
 use ent_reasons::{Block, Change, LastStatus, Need, Notes, Observation, Observations, Reasons};
 use ent_semantics::Failure;
 use ent_value::{Name, is_word};
 use std::alloc::Global;
+use std::str;
 
 /// Stands between the input and what was told.
 const TOLD: &str = "== told\n";
 
+/// Why transactions didn't commit, as it is told.
+pub(crate) fn reasons_told(alloc: Global, input: &[u8]) -> Result<String> {
+    let text = str::from_utf8(input).context("the row isn't UTF-8")?;
+    let reasons = reasons_of(alloc, text)?;
+    Ok(format!(in alloc; "{reasons}")?)
+}
+
 /// Why transactions didn't commit, by an input and by what was told behind it.
-pub(crate) fn reasons_of(alloc: Global, text: &str) -> Result<Reasons> {
+fn reasons_of(alloc: Global, text: &str) -> Result<Reasons> {
     let Some((input, told)) = text.split_once(TOLD) else {
         bail!("nothing is told");
     };

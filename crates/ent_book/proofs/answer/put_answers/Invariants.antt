@@ -1,6 +1,6 @@
 use Rattle.std.proofs.Common.{◌≡◌, ◌+◌, ◌++◌, drop}
 use Rattle.ent_book.specs.Report.{answers_text}
-use Rattle.ent_book.proofs.answer.append_answers.Given as goal
+use Rattle.ent_book.proofs.answer.put_answers.Given as goal
 
 -- what is out, and the text of what is left
 abbrev pub invariant-loop-answer : goal.invariant-loop-answer

@@ -7,8 +7,14 @@ use ent_tree::Input;
 use ent_value::Refusal;
 use std::alloc::Global;
 
+/// The fault of an input, which has one, explained.
+pub(crate) fn fault_told(alloc: Global, input: &[u8]) -> Result<String> {
+    let fault = fault_of(alloc, input)?;
+    told(alloc, input, fault)
+}
+
 /// The first fault of an input, which has one.
-pub(crate) fn fault_of(alloc: Global, bytes: &[u8]) -> Result<InputFault> {
+fn fault_of(alloc: Global, bytes: &[u8]) -> Result<InputFault> {
     let text = valid_text(bytes);
     if text.len() < bytes.len() {
         return Ok(InputFault::NotUtf8);
@@ -51,7 +57,7 @@ fn number_of(fault: InputFault) -> u16 {
 }
 
 /// What the program says of a fault, and the explanation below it.
-pub(crate) fn told(alloc: Global, bytes: &[u8], fault: InputFault) -> Result<String> {
+fn told(alloc: Global, bytes: &[u8], fault: InputFault) -> Result<String> {
     let text = valid_text(bytes);
     let number = number_of(fault);
     let offset = fault.offset(text);
