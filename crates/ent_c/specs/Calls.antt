@@ -1,11 +1,11 @@
 -- What C's calls do. `old` and `new` are the caller's buffer before and after the call, `told` what is told beside it,
 -- and `status` what the call answers.
-use Rattle.std.specs.Prelude.{◌≡◌, ◌⊎◌, ◌<◌, ℕ, ℤ, pos, List, length}
+use Rattle.std.specs.Prelude.{◌≡◌, ◌≢◌, ◌⊎◌, ◌<◌, ℕ, ℤ, pos, List, length}
 use Rattle.ent_check_report.specs.Fault.{verdict_text}
 use Rattle.ent_check_report.specs.Verdicts.{IsVerdict}
 use Rattle.ent_check_report.specs.declared.check.TheConstants.{MOST_REPORT_BYTES}
 use Rattle.ent_check_report.specs.declared.fault.CheckFault.{CheckFault}
-use Rattle.ent_check_report.specs.declared.fault.CheckFault.TheVariants.{TooLong}
+use Rattle.ent_check_report.specs.declared.fault.CheckFault.TheVariants.{ReadFault, TooLong}
 use Rattle.ent_check_report.specs.declared.verdict.Verdict.{Verdict}
 use Rattle.ent_engine.specs.Fault.{status as fault_status}
 use Rattle.ent_engine.specs.Reading.{IsRefused}
@@ -57,5 +57,5 @@ abbrev pub Checks : List ℕ → List ℕ → List ℕ → Told → ℤ → Type
 Checks report old new told status =
     ((verdict : Verdict) × IsVerdict report verdict × HandsOut (verdict_text verdict) old new told
     × (status ≡ pos (verdict_status verdict)))
-    ⊎ ((fault : CheckFault) × (fault ≡ TooLong → MOST_REPORT_BYTES < length report)
+    ⊎ ((fault : CheckFault) × (fault ≢ ReadFault) × (fault ≡ TooLong → MOST_REPORT_BYTES < length report)
     × Refuses (Check fault) report old new told status)

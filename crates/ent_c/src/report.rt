@@ -3,11 +3,10 @@ ghost use Rattle.std.specs.Prelude.{IfErr, IfOk};
 ghost use Rattle.ent_c.specs.Text.{IsReport};
 ghost use Rattle.ent_engine.specs.Reading.{IsRefused};
 
-use ent_engine::{ReportVersion, RunFault, RunOptions, run};
-use ent_value::Watched;
+use ent_engine::{ReportVersion, RunFault, RunOptions, report_of as report_in_memory};
 use std::alloc::Global;
 
-/// The report of an input, of this version. Bytes that can't be taken are a want of memory, since they go into memory.
+/// The report of an input, of this version.
 pub(crate) fn report_of(
     alloc: Global,
     input: &[u8],
@@ -20,11 +19,5 @@ pub(crate) fn report_of(
         report: version,
         ..RunOptions::default()
     };
-    let mut reader = Watched::new(input);
-    let mut writer = Watched::new(Vec::new(alloc));
-    match run(alloc, &mut reader, &mut writer, options) {
-        Ok(()) => Ok(writer.into_inner()),
-        Err(RunFault::WriteFault) => Err(RunFault::Memory),
-        Err(fault) => Err(fault),
-    }
+    report_in_memory(alloc, input, options)
 }

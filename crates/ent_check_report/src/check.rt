@@ -1,5 +1,6 @@
 //! A whole check: bytes in, verdict out.
-ghost use Rattle.std.specs.Prelude.{◌≡◌, ◌≤◌, ◌<◌, ◌^◌, [], length, IfErr, IfOk, IfSome, None, Some};
+ghost use Rattle.std.specs.Prelude.{◌≡◌, ◌≤◌, ◌<◌, ◌^◌, [], false, length, IfErr, IfOk, IfSome, OnOk, None};
+ghost use Rattle.std.specs.Prelude.{Some};
 ghost use Rattle.std.specs.List.{AllByRecursion};
 ghost use Rattle.ent_check_report.specs.Fault.{is_read_fault};
 ghost use Rattle.ent_check_report.specs.Verdicts.{IsVerdict, IsVerdictOn};
@@ -82,8 +83,25 @@ fn judge(alloc: Global, text: &[u8]) -> Result<Verdict, AllocError>
     }
 }
 
-/// Reads a report whole, and judges it: [`Verdict::Yes`] exactly where its text tells of a legal book, else the first
-/// rule that it breaks and the line that this rule names.
+/// Judges a report in memory, of [`MOST_REPORT_BYTES`] at most: [`Verdict::Yes`] exactly where its text tells of a legal
+/// book, else the first rule that it breaks and the line that this rule names. It reads no stream, so no fault of one is
+/// answered.
+pub fn check_text(alloc: Global, text: &[u8]) -> Result<Verdict, CheckFault>
+    ensures verdict { IfOk result (λ verdict. IsVerdict text.now verdict) }
+    ensures limit { OnOk result (length text.now ≤ MOST_REPORT_BYTES) }
+    ensures too_long { IfErr result (λ fault. fault ≡ TooLong → MOST_REPORT_BYTES < length text.now) }
+    ensures no_stream { is_read_fault result ≡ false }
+{
+    if text.len() > MOST_REPORT_BYTES {
+        return Err(CheckFault::TooLong);
+    }
+    match judge(alloc, text) {
+        Ok(verdict) => Ok(verdict),
+        Err(AllocError) => Err(CheckFault::Memory),
+    }
+}
+
+/// Reads a report whole, and judges it, as [`check_text`] does.
 ///
 /// The reader is handed in unmarked, as [`Watched::new`] makes it, so that its mark tells of this call. The bytes are
 /// counted while they come, and none beyond [`MOST_REPORT_BYTES`] is kept.
@@ -99,5 +117,5 @@ pub fn check_report<R: Read>(alloc: Global, reader: &mut Watched<R>) -> Result<V
     ensures marks { reader.new.failed ≡ is_read_fault result }
 {
     let text = read_text(alloc, reader)?;
-    Ok(judge(alloc, text.as_slice())?)
+    check_text(alloc, text.as_slice())
 }

@@ -11,7 +11,7 @@ mod first;
 mod law;
 mod verdict;
 
-pub use check::{MOST_REPORT_BYTES, check_report};
+pub use check::{MOST_REPORT_BYTES, check_report, check_text};
 pub use fault::{CheckFault, status_of};
 pub use first::first_finding;
 pub use law::reports_that_are_right_tell_of_legal_books;

@@ -50,12 +50,11 @@ IsNotSubmitted bytes driver fault = OfOpen driver fault (λ s. IsNotTaken bytes 
 abbrev pub Runs : Driver → Driver → Type 0
 Runs old new = (s s' : State) × (old ≡ drivers.Open s) × (new ≡ drivers.Open s') × RunsOnce s s'
 
--- memory ran out, and what was done stands; or nothing is open
+-- memory ran out, and what was done stands
 abbrev pub StopsRun : Driver → Driver → DriverFault → Type 0
 StopsRun old new fault =
-    ((s s' : State) × (count : ℕ) × (old ≡ drivers.Open s) × (new ≡ drivers.Open s')
+    OfOpen old fault (λ s. (s' : State) × (count : ℕ) × (new ≡ drivers.Open s')
     × LeadsOn resolved_forms count s s' × (fault ≡ Text Memory))
-    ⊎ ((new ≡ old) × (fault ≡ Vacant))
 
 -- ---- what is told
 

@@ -4,6 +4,7 @@ ghost use Rattle.ent_driver.specs.Drives.{Answers, Closes, IsNotClosed, IsUnansw
 ghost use Rattle.ent_driver.specs.Drives.{Shows, IsUnshown, Stands, StandsNowhere, Submits, IsNotSubmitted};
 ghost use Rattle.ent_driver.specs.Drives.{IsUnreported};
 ghost use Rattle.ent_driver.specs.Renewal.{IsNotRenewed, Renews};
+ghost use Rattle.ent_driver.specs.declared.fault.DriverFault.TheVariants.{Vacant};
 ghost use Rattle.ent_engine.specs.Reading.{IsRefused};
 
 use crate::closing::close;
@@ -60,6 +61,7 @@ impl Driver {
     pub fn run(&mut self, alloc: Global) -> Result<(), DriverFault>
         ensures ok { OnOk result (Runs self.old self.new) }
         ensures stopped { IfErr result (λ fault. StopsRun self.old self.new fault) }
+        ensures vacant { IfErr result (λ fault. fault ≡ Vacant → self.new ≡ self.old) }
     {
         match replace(self, Driver::Vacant) {
             Driver::Open(core) => match run_once(alloc, core) {

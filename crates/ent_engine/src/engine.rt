@@ -1,7 +1,7 @@
 //! A whole run: bytes in, report out.
 ghost use Rattle.std.specs.Prelude.{IfErr, IfSome, OnOk};
 ghost use Rattle.ent_value.specs.Watched.{IsUnmarked};
-ghost use Rattle.ent_engine.specs.Reading.{IsRefused};
+ghost use Rattle.ent_engine.specs.Reading.{IsRefusedInRun};
 ghost use Rattle.ent_engine.specs.Io.{IsReaderMarkedBy, IsWriterMarkedBy, IsSilent, WritesReport, WritesBeginning};
 
 use crate::fault::RunFault;
@@ -28,7 +28,7 @@ pub fn run_watched<R: Read, W: Write, T: Watcher>(
     requires writer_unmarked { IsUnmarked writer.old }
     ensures report { OnOk result (IfSome (R.remaining reader.old.inner) (λ bytes.
         WritesReport options.report bytes (W.contents writer.old.inner) (W.contents writer.new.inner))) }
-    ensures refused { IfErr result (λ fault. IfSome (R.remaining reader.old.inner) (λ bytes. IsRefused bytes fault)) }
+    ensures refused { IfErr result (λ fault. IfSome (R.remaining reader.old.inner) (λ bytes. IsRefusedInRun bytes fault)) }
     // A fault of the reader is answered exactly where that one failed; one of the writer exactly where that one failed
     // or took no byte.
     ensures reader_marks { IsReaderMarkedBy result reader.new }
@@ -67,7 +67,7 @@ pub fn run<R: Read, W: Write>(
     requires writer_unmarked { IsUnmarked writer.old }
     ensures report { OnOk result (IfSome (R.remaining reader.old.inner) (λ bytes.
         WritesReport options.report bytes (W.contents writer.old.inner) (W.contents writer.new.inner))) }
-    ensures refused { IfErr result (λ fault. IfSome (R.remaining reader.old.inner) (λ bytes. IsRefused bytes fault)) }
+    ensures refused { IfErr result (λ fault. IfSome (R.remaining reader.old.inner) (λ bytes. IsRefusedInRun bytes fault)) }
     // A fault of the reader is answered exactly where that one failed; one of the writer exactly where that one failed
     // or took no byte.
     ensures reader_marks { IsReaderMarkedBy result reader.new }
