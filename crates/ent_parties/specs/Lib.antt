@@ -1,0 +1,4 @@
+pub mod Pattern
+pub mod Known
+pub mod Party
+pub mod Meeting
