@@ -1,5 +1,5 @@
 -- Sets of parties in which each demand may be met.
-use Rattle.std.specs.Prelude.{ℕ, Bool, ◌≡◌, ◌≤◌, List, length}
+use Rattle.std.specs.Prelude.{ℕ, Bool, ◌≡◌, List}
 use Rattle.std.specs.List.{All, AllPass, list_any, flat_map, count_by}
 use Rattle.ent_parties.specs.Pattern.{may_meet}
 use Rattle.ent_parties.specs.declared.party.Party.{Party}

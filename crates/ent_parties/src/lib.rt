@@ -6,9 +6,8 @@
 //! here doesn't depend on tables, and a meeting that the tables forbid is not ruled out.
 #![tactic(auto)]
 
-mod known;
 mod party;
 mod pattern;
 
 pub use party::Party;
-pub use pattern::Pattern;
+pub use pattern::{Pattern, may_be_one};

@@ -1,8 +1,8 @@
 //! What a script offers and demands.
+ghost use Rattle.std.specs.Prelude.{◌≡◌};
+
 use crate::pattern::Pattern;
-use ent_tree::Script;
 use ent_value::Sequence;
-use std::alloc::{AllocError, Global};
 
 /// What a script offers to the others, and what it demands of them, as far as its text knows it: the heads and the
 /// postconditions of its entangled statements, in order of the text.
@@ -13,12 +13,7 @@ pub struct Party {
 }
 
 impl Party {
-    /// What a script offers and demands.
-    pub fn of(alloc: Global, script: &Script) -> Result<Self, AllocError>
-        ensures { IfOk result (λ party. party ≡ party_of script.now) }
-    {
-        todo
-    }
+    ghost use Rattle.ent_parties.specs.Meeting.{offers};
 
     /// Whether one of its offers may meet the demand.
     pub fn offers(&self, demand: &Pattern) -> bool

@@ -1,10 +1,9 @@
 //! Rows of answer relations, as far as a text knows them.
-ghost use Rattle.std.specs.Prelude.{◌≡◌, IfOk};
+ghost use Rattle.std.specs.Prelude.{◌≡◌};
 ghost use Rattle.std.specs.Cmp.Lexicographic.{pointwise};
 ghost use Rattle.ent_parties.specs.Pattern.{may_be_one, may_meet};
 
 use ent_value::{Name, Sequence, Value};
-use std::alloc::{AllocError, Global};
 
 /// A row of an answer relation, as far as the text of its statement knows it: of each term the value, or nothing.
 #[derive(Drop)]
@@ -19,11 +18,27 @@ pub fn may_be_one(demanded: &Option<Value>, offered: &Option<Value>) -> bool
 {
     match demanded {
         Some(known) => match offered {
-            Some(other) => known == other,
+            Some(other) => known.cmp(other).is_eq(),
             None => true,
         },
         None => true,
     }
+}
+
+/// Whether each demanded term and the offered one in its place may have one value, and there are as many of both.
+fn may_be_row(demanded: &[Option<Value>], offered: &[Option<Value>]) -> bool
+    ensures { result ≡ pointwise may_be_one demanded.now offered.now }
+{
+    if demanded.len() != offered.len() {
+        return false;
+    }
+    for index in 0..demanded.len() {
+        let may_be_one = may_be_one(&demanded[index], &offered[index]);
+        if !may_be_one {
+            return false;
+        }
+    }
+    true
 }
 
 impl Pattern {
@@ -32,6 +47,6 @@ impl Pattern {
     pub fn may_meet(&self, offer: &Pattern) -> bool
         ensures { result ≡ may_meet self.now offer.now }
     {
-        todo
+        self.relation == offer.relation && may_be_row(self.terms.as_slice(), offer.terms.as_slice())
     }
 }
