@@ -6,6 +6,7 @@
 //! here doesn't depend on tables, and a meeting that the tables forbid is not ruled out.
 #![tactic(auto)]
 
+mod known;
 mod party;
 mod pattern;
 
