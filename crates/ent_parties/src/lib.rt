@@ -7,8 +7,10 @@
 #![tactic(auto)]
 
 mod known;
+mod meeting;
 mod party;
 mod pattern;
 
+pub use meeting::is_met;
 pub use party::Party;
 pub use pattern::{Pattern, may_be_one};
