@@ -4,6 +4,7 @@ use Rattle.std.specs.List.{filter, list_any}
 use Rattle.ent_lists.specs.Elements.{In, any_in, any_some, contains_in, in_contains, in_flat, nth_in, of_filter, of_map}
 use Rattle.ent_lists.specs.Elements.{to_filter, to_map}
 use Rattle.ent_tree.specs.declared.entangled.Entangled.{Entangled}
+use Rattle.ent_tree.specs.declared.script.Script.{Script}
 use Rattle.ent_tree.specs.declared.script.Statement.{Statement}
 use Rattle.ent_tree.specs.declared.script.Statement.TheVariants as statements
 use Rattle.ent_semantics.specs.declared.book.Book.{Book}
@@ -21,7 +22,7 @@ use Rattle.ent_parties.specs.declared.party.Party.{Party}
 use Rattle.ent_parties.specs.declared.pattern.Pattern.{Pattern}
 use Rattle.ent_meeting_laws.specs.Answered.{KeepsTogether}
 use Rattle.ent_meeting_laws.specs.Known.{demands_at, known_before, offers_at, view_at, viewed}
-use Rattle.ent_meeting_laws.proofs.Partners.{met_by}
+use Rattle.ent_meeting_laws.proofs.Partners.{met_by, one_script, of_book, of_turn}
 use Rattle.ent_meeting_laws.proofs.Places.{of_place, of_script}
 use Rattle.ent_meeting_laws.proofs.Ran.{scripts_seen}
 
@@ -95,15 +96,21 @@ module _ (book : Book Database) (legal : IsLegal book) where
     turn_met turn demand at demands =
         let own = of_filter (λ (t : Turn). are_some t.tx) legal.turns turn at in
         let stands = answered turn demand own.0 demands in
-        let by = met_by book legal stands.joint stands.in_book stands.member turn.script demand stands.is_member
-        (ap (numbered book.scripts) stands.own
+        let by = met_by book.opening.tables (book_read_views book legal.turns) book.scripts (of_book book legal)
+        stands.joint.members stands.member turn.script demand (legal.good stands.joint stands.in_book)
+        stands.is_member (ap (numbered book.scripts) stands.own
         ∙ legal.runs.own_scripts turn (in_contains legal.turns turn own.0)) stands.demands in
-        let is_some = together stands.joint stands.member by.partner stands.in_book stands.is_member by.is_member
-        (ap are_some stands.own ∙ own.1) in
-        any_in (offers demand) parties (party_in by.turn)
-        (to_map party_in some_turns by.turn (to_filter (λ (t : Turn). are_some t.tx) legal.turns by.turn by.at
-        (ap are_some by.own ∙ is_some)))
-        (script_offers by.turn by.partner.place demand by.offers)
+        let partner = of_turn book legal by.partner by.seen in
+        let script_is : by.script ≡ partner.turn.script =
+        one_script by.script partner.turn.script (sym by.of_list ∙ ap (numbered book.scripts) (sym partner.own)
+        ∙ legal.runs.own_scripts partner.turn (in_contains legal.turns partner.turn partner.at)) in
+        let is_some = together stands.joint stands.member (member_of by.partner) stands.in_book stands.is_member
+        by.is_member (ap are_some stands.own ∙ own.1) in
+        any_in (offers demand) parties (party_in partner.turn)
+        (to_map party_in some_turns partner.turn (to_filter (λ (t : Turn). are_some t.tx) legal.turns partner.turn
+        partner.at (ap are_some partner.own ∙ is_some)))
+        (script_offers partner.turn by.partner.place demand
+        (subst (λ (s : Script). list_any (may_meet demand) (offers_at s by.partner.place) ≡ true) script_is by.offers))
 
     party_met : (party : Party) (demand : Pattern) → In party parties → In demand party.demands
         → is_met parties demand ≡ true

@@ -2,9 +2,9 @@
 use Rattle.std.proofs.Common.{◌≡◌, true, List, [], ◌∷◌, Some, Contains, sym, ap, subst, ◌∙◌, inl, inr}
 use Rattle.std.specs.List.{flat_map, list_any}
 use Rattle.ent_lists.specs.Elements.{In, any_in, contains_in, in_contains, in_either, in_first}
+use Rattle.ent_tree.specs.declared.declaration.Create.{Create}
 use Rattle.ent_tree.specs.declared.script.Script.{Script}
 use Rattle.ent_semantics.specs.declared.book.Book.{Book}
-use Rattle.ent_semantics.specs.declared.book.JointAnswer.{JointAnswer}
 use Rattle.ent_semantics.specs.declared.book.Member.{Member}
 use Rattle.ent_semantics.specs.Book.{IsLegal, book_read_views}
 use Rattle.ent_semantics.specs.Database.{Database, opening_database}
@@ -19,7 +19,7 @@ use Rattle.ent_meeting_laws.proofs.Alike.{rows_may_meet}
 use Rattle.ent_meeting_laws.proofs.Covering.{demand_covers, head_covered}
 use Rattle.ent_meeting_laws.proofs.Seeing.{scripts_see}
 
-one_script : (first second : Script) → Some first ≡ Some second → first ≡ second
+pub one_script : (first second : Script) → Some first ≡ Some second → first ≡ second
 one_script first second e = cc
 
 -- the text of an entangled statement that was seen
@@ -46,6 +46,74 @@ module _ (script : Script) (read_view : ReadView) (known : IsKnownThere script r
       subst (λ (views : List TextView). In pattern (flat_map given views)) (sym one_view)
       (in_first (given (text_of script read_view)) [] pattern at)
 
+-- an entangled statement of a run, and the script of its transaction
+pub record IsOfScript (scripts : List Script) (read_view : ReadView) : Type 0 where
+  pub script : Script
+  pub of_list : numbered scripts read_view.tx ≡ Some script
+  pub known : IsKnownThere script read_view
+
+-- a member of the joint answer that offers it, as the run has it, and its script
+pub record IsMetBy (run : List ReadView) (scripts : List Script) (members : List Member) (demand : Pattern) : Type 0 where
+  pub partner : ReadView
+  pub seen : Contains run partner
+  pub is_member : Contains members (member_of partner)
+  pub script : Script
+  pub of_list : numbered scripts partner.tx ≡ Some script
+  pub offers : list_any (may_meet demand) (offers_at script partner.place) ≡ true
+
+-- a run whose statements are of these scripts, and see what the texts know
+module _ (declared : List Create) (run : List ReadView) (scripts : List Script)
+    (known : (read_view : ReadView) → Contains run read_view → IsOfScript scripts read_view) where
+  pub met_by : (members : List Member) (member : Member) (script : Script) (demand : Pattern)
+      → IsGood declared run members → Contains members member → numbered scripts member.tx ≡ Some script
+      → Contains (demands_at script member.place) demand → IsMetBy run scripts members demand
+  met_by members member script demand good is_member of_list demands =
+      let seen = good.of_run member is_member in
+      let read_view = seen.0 in
+      let of = known read_view seen.1 in
+      let same = seen.2 in
+      let script_is : script ≡ of.script =
+      one_script script of.script
+      (sym of_list ∙ ap (λ (m : Member). numbered scripts m.tx) same ∙ of.of_list) in
+      let there : In demand (demands_at of.script read_view.place) =
+      subst (λ (s : Script). In demand (demands_at s read_view.place)) script_is
+      (subst (λ (m : Member). In demand (demands_at script m.place)) same
+      (contains_in (demands_at script member.place) demand demands)) in
+      let own = given_there of.script read_view of.known view_demands demand there in
+      let post = demand_covers (text_of of.script read_view) read_view.environment read_view.valuation
+      of.known.agrees demand (in_contains (view_demands (text_of of.script read_view)) demand own) in
+      let met = good.met read_view (seen.1, subst (Contains members) same is_member) post.0 post.1 in
+      let partner = met.0 in
+      let by = known partner met.1.0 in
+      let offer = head_covered (text_of by.script partner) partner.environment partner.valuation
+      by.known.agrees post.0 met.2 in
+      let offered = stands_there by.script partner by.known view_offers offer.0
+      (contains_in (view_offers (text_of by.script partner)) offer.0 offer.1) in
+      record {
+        partner = partner;
+        seen = met.1.0;
+        is_member = met.1.1;
+        script = by.script;
+        of_list = by.of_list;
+        offers = any_in (may_meet demand) (offers_at by.script partner.place) offer.0 offered
+            (rows_may_meet demand offer.0 post.0 post.2 offer.2);
+      }
+
+  pub met_among : (members : List Member) (member : Member) (script : Script) (demand : Pattern)
+      → IsGood declared run members → Contains members member → numbered scripts member.tx ≡ Some script
+      → Contains (demands_at script member.place) demand → IsMetAmong scripts members demand
+  met_among members member script demand good is_member of_list demands =
+      let r = met_by members member script demand good is_member of_list demands in
+      record {
+        partner = member_of r.partner;
+        script = r.script;
+        is_member = r.is_member;
+        of_list = r.of_list;
+        offers = r.offers;
+      }
+
+-- ---- the run of a legal book
+
 module _ (book : Book Database) (legal : IsLegal book) where
   -- the turn of an entangled statement of the run
   pub record IsOfTurn (read_view : ReadView) : Type 0 where
@@ -60,71 +128,13 @@ module _ (book : Book Database) (legal : IsLegal book) where
       (contains_in (book_read_views book legal.turns) read_view has) in
       record { turn = r.0; at = r.1; own = r.2; known = r.3 }
 
-  pub script_of : (read_view : ReadView) (of : IsOfTurn read_view)
-      → numbered book.scripts read_view.tx ≡ Some of.turn.script
-  script_of read_view of =
-      ap (numbered book.scripts) (sym of.own)
-      ∙ legal.runs.own_scripts of.turn (in_contains legal.turns of.turn of.at)
-
-  -- a member of the joint answer that offers it, and the turn of its transaction
-  pub record IsMetBy (members : List Member) (demand : Pattern) : Type 0 where
-    pub partner : Member
-    pub is_member : Contains members partner
-    pub turn : Turn
-    pub at : In turn legal.turns
-    pub own : turn.tx ≡ partner.tx
-    pub offers : list_any (may_meet demand) (offers_at turn.script partner.place) ≡ true
-
-  module _ (joint : JointAnswer) (in_book : Contains book.joint_answers joint) where
-    good : IsGood book.opening.tables (book_read_views book legal.turns) joint.members
-    good = legal.good joint in_book
-
-    pub met_by : (member : Member) (script : Script) (demand : Pattern) → Contains joint.members member
-        → numbered book.scripts member.tx ≡ Some script → Contains (demands_at script member.place) demand
-        → IsMetBy joint.members demand
-    met_by member script demand is_member of_list demands =
-        let run = book_read_views book legal.turns in
-        let seen = good.of_run member is_member in
-        let read_view = seen.0 in
-        let of = of_turn read_view seen.1 in
-        let same = seen.2 in
-        let script_is : script ≡ of.turn.script =
-        one_script script of.turn.script
-        (sym of_list ∙ ap (λ (m : Member). numbered book.scripts m.tx) same ∙ script_of read_view of) in
-        let there : In demand (demands_at of.turn.script read_view.place) =
-        subst (λ (s : Script). In demand (demands_at s read_view.place)) script_is
-        (subst (λ (m : Member). In demand (demands_at script m.place)) same
-        (contains_in (demands_at script member.place) demand demands)) in
-        let own = given_there of.turn.script read_view of.known view_demands demand there in
-        let post = demand_covers (text_of of.turn.script read_view) read_view.environment read_view.valuation
-        of.known.agrees demand (in_contains (view_demands (text_of of.turn.script read_view)) demand own) in
-        let met = good.met read_view (seen.1, subst (Contains joint.members) same is_member) post.0 post.1 in
-        let partner = met.0 in
-        let by = of_turn partner met.1.0 in
-        let offer = head_covered (text_of by.turn.script partner) partner.environment partner.valuation
-        by.known.agrees post.0 met.2 in
-        let offered = stands_there by.turn.script partner by.known view_offers offer.0
-        (contains_in (view_offers (text_of by.turn.script partner)) offer.0 offer.1) in
-        record {
-          partner = member_of partner;
-          is_member = met.1.1;
-          turn = by.turn;
-          at = by.at;
-          own = by.own;
-          offers = any_in (may_meet demand) (offers_at by.turn.script partner.place) offer.0 offered
-              (rows_may_meet demand offer.0 post.0 post.2 offer.2);
-        }
-
-    pub met_among : (member : Member) (script : Script) (demand : Pattern) → Contains joint.members member
-        → numbered book.scripts member.tx ≡ Some script → Contains (demands_at script member.place) demand
-        → IsMetAmong book.scripts joint.members demand
-    met_among member script demand is_member of_list demands =
-        let r = met_by member script demand is_member of_list demands in
-        record {
-          partner = r.partner;
-          script = r.turn.script;
-          is_member = r.is_member;
-          of_list = ap (numbered book.scripts) (sym r.own)
-              ∙ legal.runs.own_scripts r.turn (in_contains legal.turns r.turn r.at);
-          offers = r.offers;
-        }
+  pub of_book : (read_view : ReadView) → Contains (book_read_views book legal.turns) read_view
+      → IsOfScript book.scripts read_view
+  of_book read_view has =
+      let of = of_turn read_view has in
+      record {
+        script = of.turn.script;
+        of_list = ap (numbered book.scripts) (sym of.own)
+            ∙ legal.runs.own_scripts of.turn (in_contains legal.turns of.turn of.at);
+        known = of.known;
+      }
