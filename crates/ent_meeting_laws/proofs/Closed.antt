@@ -27,7 +27,7 @@ use Rattle.ent_meeting_laws.proofs.Places.{of_place, of_script}
 use Rattle.ent_meeting_laws.proofs.Ran.{scripts_seen}
 
 -- what has a view is an entangled statement
-asked : (known : Environment) (statement : Option Statement) (view : TextView) → In view (viewed known statement)
+pub asked : (known : Environment) (statement : Option Statement) (view : TextView) → In view (viewed known statement)
     → (entangled : Entangled) × (statement ≡ Some (statements.Entangled entangled))
 asked known (Some (statements.Entangled entangled)) view at = (entangled, refl)
 asked known (Some (statements.Select select)) view at = absurd at
@@ -41,14 +41,13 @@ abbrev party_in : Turn → Party
 party_in turn = party_of turn.script
 
 -- what a statement offers, its script offers
-script_offers : (turn : Turn) (place : ℕ) (demand : Pattern)
-    → list_any (may_meet demand) (offers_at turn.script place) ≡ true → offers demand (party_in turn) ≡ true
-script_offers turn place demand is =
-    let r = any_some (may_meet demand) (offers_at turn.script place) is in
-    any_in (may_meet demand) (party_in turn).offers r.0
-    (contains_in (party_in turn).offers r.0
-    (of_script view_offers turn.script r.0 place (in_contains (offers_at turn.script place) r.0 r.1)))
-    r.2
+pub script_offers : (script : Script) (place : ℕ) (demand : Pattern)
+    → list_any (may_meet demand) (offers_at script place) ≡ true → offers demand (party_of script) ≡ true
+script_offers script place demand is =
+    let r = any_some (may_meet demand) (offers_at script place) is in
+    any_in (may_meet demand) (party_of script).offers r.0
+    (contains_in (party_of script).offers r.0
+    (of_script view_offers script r.0 place (in_contains (offers_at script place) r.0 r.1))) r.2
 
 module _ (book : Book Database) (legal : IsLegal book) where
   -- each demand of a committed script, and the joint answer in which its statement stands
@@ -109,7 +108,7 @@ module _ (book : Book Database) (legal : IsLegal book) where
         any_in (offers demand) parties (party_in partner.turn)
         (to_map party_in some_turns partner.turn (to_filter (λ (t : Turn). are_some t.tx) legal.turns partner.turn
         partner.at (ap are_some partner.own ∙ is_some)))
-        (script_offers partner.turn by.partner.place demand
+        (script_offers partner.turn.script by.partner.place demand
         (subst (λ (s : Script). list_any (may_meet demand) (offers_at s by.partner.place) ≡ true) script_is by.offers))
 
     party_met : (party : Party) (demand : Pattern) → In party parties → In demand party.demands

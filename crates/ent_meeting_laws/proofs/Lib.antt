@@ -1,7 +1,9 @@
-mod Covering
 mod Alike
-pub mod Places
-pub mod Seeing
-mod Ran
-mod Partners
+mod Covering
 mod Closed
+mod Groups
+mod Histories
+mod Partners
+mod Places
+mod Ran
+mod Seeing

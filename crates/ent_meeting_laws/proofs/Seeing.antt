@@ -180,12 +180,12 @@ abbrev pub statement_of : Operation → Statement
 statement_of operation = operation.statement
 
 -- an entangled statement behind so many others, and what is known before it
-record IsSeenBehind (tx place : ℕ) (known : Environment) (texts : List Statement) (read_view : ReadView) : Type 0 where
-  own : read_view.tx ≡ tx
-  earlier : ℕ
-  at_place : read_view.place ≡ place + earlier
-  statement : slice_get texts earlier ≡ Some (statements.Entangled read_view.entangled)
-  agrees : Agrees (known_after_all known (take earlier texts)) read_view.environment
+pub record IsSeenBehind (tx place : ℕ) (known : Environment) (texts : List Statement) (read_view : ReadView) : Type 0 where
+  pub own : read_view.tx ≡ tx
+  pub earlier : ℕ
+  pub at_place : read_view.place ≡ place + earlier
+  pub statement : slice_get texts earlier ≡ Some (statements.Entangled read_view.entangled)
+  pub agrees : Agrees (known_after_all known (take earlier texts)) read_view.environment
 
 sees_here : (tx place : ℕ) (statement : Statement) (valuation : Valuation) (more : List Statement)
     (database : Database) (known environment : Environment) (read_view : ReadView) → Agrees known environment
@@ -212,7 +212,7 @@ goes_on : (outcome : Outcome) (more : Database → Environment → List ReadView
 goes_on (Ok effect) more read_view at = (effect, refl, at)
 goes_on (Err failure) more read_view at = absurd at
 
-sees_behind : (declared : List Create) (tx place : ℕ) (operations : List Operation) (database : Database)
+pub sees_behind : (declared : List Create) (tx place : ℕ) (operations : List Operation) (database : Database)
     (known environment : Environment) (read_view : ReadView) → Agrees known environment
     → In read_view (read_views declared tx place operations database environment)
     → IsSeenBehind tx place known (map statement_of operations) read_view
@@ -276,7 +276,7 @@ operations_are (statement ∷ more) oracle operations is =
 
 -- ---- scripts
 
-nothing_agrees : (environment : Environment) → Agrees nothing_bound environment
+pub nothing_agrees : (environment : Environment) → Agrees nothing_bound environment
 nothing_agrees environment variable value is = cc (is)
 
 module _ (declared : List Create) where

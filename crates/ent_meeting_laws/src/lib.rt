@@ -6,8 +6,10 @@
 #![tactic(auto)]
 
 mod law;
+mod running;
 
 pub use law::{
     answered_demands_may_be_met, committed_scripts_are_closed, parties_are_of_statements,
     patterns_of_one_row_may_meet, texts_cover_what_is_given, texts_know_what_is_seen,
 };
+pub use running::{joint_demands_may_be_met, passed_demands_may_be_met, whole_groups_are_closed};
