@@ -7,6 +7,7 @@
 
 mod names;
 mod offer;
+mod postcondition;
 mod warnings;
 
 pub use warnings::Warnings;

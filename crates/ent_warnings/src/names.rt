@@ -1,5 +1,6 @@
 //! Answer relations and texts that may be meant.
 use ent_fault_text::nearest;
+use ent_parties::Party;
 use ent_tree::{
     Condition, Entangled, Identifier, Literal, Script, Statement, Term, Tuple, ValueSpecification,
 };
@@ -12,22 +13,6 @@ pub(crate) fn text_of(name: &Name) -> &str {
     str::from_utf8(name.as_bytes()).unwrap_or("")
 }
 
-/// The entangled statements of some scripts.
-pub(crate) fn entangled_of<'a>(
-    alloc: Global,
-    scripts: &'a [Script],
-) -> Result<Vec<&'a Entangled>, AllocError> {
-    let mut all = Vec::new(alloc);
-    for script in scripts {
-        for statement in script.statements.as_slice() {
-            if let Statement::Entangled(asked) = statement {
-                all.push(asked)?;
-            }
-        }
-    }
-    Ok(all)
-}
-
 /// The answer relations that are offered, and those that are demanded, each once, where it stands first.
 #[derive(Drop)]
 pub(crate) struct Relations<'a> {
@@ -36,22 +21,31 @@ pub(crate) struct Relations<'a> {
 }
 
 impl<'a> Relations<'a> {
-    pub(crate) fn of(alloc: Global, all: &[&'a Entangled]) -> Result<Self, AllocError> {
+    pub(crate) fn of(alloc: Global, scripts: &'a [Script]) -> Result<Self, AllocError> {
         let mut relations = Relations {
             offered: Vec::new(alloc),
             demanded: Vec::new(alloc),
         };
-        for asked in all {
-            for relation in asked.relations.as_slice() {
-                put(&mut relations.offered, relation)?;
-            }
-            for condition in asked.conditions.as_slice() {
-                if let Condition::InAnswer(_, relation) = condition {
-                    put(&mut relations.demanded, relation)?;
+        for script in scripts {
+            for statement in script.statements.as_slice() {
+                if let Statement::Entangled(asked) = statement {
+                    relations.add(asked)?;
                 }
             }
         }
         Ok(relations)
+    }
+
+    fn add(&mut self, asked: &'a Entangled) -> Result<(), AllocError> {
+        for relation in asked.relations.as_slice() {
+            put(&mut self.offered, relation)?;
+        }
+        for condition in asked.conditions.as_slice() {
+            if let Condition::InAnswer(_, relation) = condition {
+                put(&mut self.demanded, relation)?;
+            }
+        }
+        Ok(())
     }
 }
 
@@ -84,11 +78,10 @@ pub(crate) struct Meant<'a> {
     pub(crate) near: &'a str,
 }
 
-/// The first text of a demanded tuple for which one that is near is offered, in statements that offer rows of the
-/// relation.
+/// The first text that is written in a demanded tuple and for which one that is near is offered, in rows of the relation.
 pub(crate) fn meant_text<'a>(
     alloc: Global,
-    all: &[&'a Entangled],
+    parties: &'a [Party],
     tuple: &'a Tuple,
     relation: &Name,
 ) -> Result<Option<Meant<'a>>, AllocError> {
@@ -96,7 +89,7 @@ pub(crate) fn meant_text<'a>(
         let Some((written, text)) = written_text(term) else {
             continue;
         };
-        let offered = offered_texts(alloc, all, relation, column)?;
+        let offered = offered_texts(alloc, parties, relation, column)?;
         if offered.iter().any(|other| *other == text) {
             continue;
         }
@@ -110,29 +103,37 @@ pub(crate) fn meant_text<'a>(
 /// The text that a term is, where it is written.
 fn written_text(term: &Term) -> Option<(&Literal, &str)> {
     match term {
-        Term::Value(ValueSpecification::Literal(literal)) => match &literal.value {
-            Value::Text(text) => Some((literal, str::from_utf8(text.as_bytes()).ok()?)),
-            Value::Int(_) => None,
-        },
+        Term::Value(ValueSpecification::Literal(literal)) => {
+            Some((literal, text_in(&literal.value)?))
+        }
         _ => None,
     }
 }
 
-/// The texts that are written in a column of what is offered of a relation.
+/// The text that a value is, where it is one.
+fn text_in(value: &Value) -> Option<&str> {
+    match value {
+        Value::Text(text) => str::from_utf8(text.as_bytes()).ok(),
+        Value::Int(_) => None,
+    }
+}
+
+/// The texts that are known in a column of what is offered of a relation.
 fn offered_texts<'a>(
     alloc: Global,
-    all: &[&'a Entangled],
+    parties: &'a [Party],
     relation: &Name,
     column: usize,
 ) -> Result<Vec<&'a str>, AllocError> {
     let mut texts = Vec::new(alloc);
-    for asked in all {
-        if !asked.relations.iter().any(|own| own.name == *relation) {
-            continue;
-        }
-        if let Some(item) = asked.items.as_slice().get(column) {
-            if let Some((_, text)) = written_text(&item.term) {
-                texts.push(text)?;
+    for party in parties {
+        for offer in party.offers.as_slice() {
+            if offer.relation == *relation {
+                if let Some(Some(value)) = offer.terms.get(column) {
+                    if let Some(text) = text_in(value) {
+                        texts.push(text)?;
+                    }
+                }
             }
         }
     }

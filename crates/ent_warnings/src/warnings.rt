@@ -1,10 +1,12 @@
 //! Demands that nothing in an input is offered for, and answer relations that nobody demands.
-use crate::names::{Meant, Relations, entangled_of, meant_text, near_relation, text_of};
-use crate::offer::{is_demanded, is_named, is_offered};
+use crate::names::{Meant, Relations, meant_text, near_relation, text_of};
+use crate::offer::{is_demanded, is_named, parties_of};
+use crate::postcondition::Postcondition;
 use ent_excerpt::{Excerpt, Line, Place};
 use ent_fault_text::Explanation;
+use ent_parties::{Party, Pattern, is_met};
 use ent_sql::parse_input;
-use ent_tree::{Condition, Entangled, Identifier, Script, Tuple};
+use ent_tree::{Identifier, Script};
 use ent_value::Refusal;
 use std::alloc::{AllocError, Global};
 use std::fmt;
@@ -38,20 +40,21 @@ impl<'a> Warnings<'a> {
     }
 
     fn warn(&mut self, alloc: Global, scripts: &[Script]) -> Result<(), AllocError> {
-        let all = entangled_of(alloc, scripts)?;
-        let relations = Relations::of(alloc, all.as_slice())?;
+        let parties = parties_of(alloc, scripts)?;
+        let parties = parties.as_slice();
+        let relations = Relations::of(alloc, scripts)?;
         for relation in relations.demanded.iter() {
-            if !is_named(scripts, &relation.name) {
+            if !is_named(parties, &relation.name) {
                 self.warn_unoffered(alloc, relation, relations.offered.as_slice())?;
             }
         }
         for relation in relations.offered.iter() {
-            if !is_demanded(scripts, &relation.name) {
+            if !is_demanded(parties, &relation.name) {
                 self.warn_undemanded(alloc, relation, relations.demanded.as_slice())?;
             }
         }
-        for asked in all.iter() {
-            self.warn_demands(alloc, scripts, all.as_slice(), asked)?;
+        for (script, party) in scripts.iter().zip(parties.iter()) {
+            self.warn_demands(alloc, parties, script, party)?;
         }
         Ok(())
     }
@@ -82,19 +85,18 @@ impl<'a> Warnings<'a> {
         self.push(alloc, relation.place, name.len(), sentence, near)
     }
 
-    /// The demands of a statement for which nobody offers anything, though rows of their relations are offered.
+    /// The demands of a script for which nobody offers anything, though rows of their relations are offered.
     fn warn_demands(
         &mut self,
         alloc: Global,
-        scripts: &[Script],
-        all: &[&Entangled],
-        asked: &Entangled,
+        parties: &[Party],
+        script: &Script,
+        party: &Party,
     ) -> Result<(), AllocError> {
-        for condition in asked.conditions.as_slice() {
-            if let Condition::InAnswer(tuple, relation) = condition {
-                if is_named(scripts, &relation.name) && !is_offered(scripts, tuple, relation) {
-                    self.warn_demand(alloc, all, tuple, relation)?;
-                }
+        let written = Postcondition::all_of(alloc, script)?;
+        for (postcondition, demand) in written.iter().zip(party.demands.iter()) {
+            if is_named(parties, &demand.relation) && !is_met(parties, demand) {
+                self.warn_demand(alloc, parties, postcondition, demand)?;
             }
         }
         Ok(())
@@ -103,12 +105,13 @@ impl<'a> Warnings<'a> {
     fn warn_demand(
         &mut self,
         alloc: Global,
-        all: &[&Entangled],
-        tuple: &Tuple,
-        relation: &Identifier,
+        parties: &[Party],
+        postcondition: &Postcondition<'_>,
+        demand: &Pattern,
     ) -> Result<(), AllocError> {
-        let name = text_of(&relation.name);
-        match meant_text(alloc, all, tuple, &relation.name)? {
+        let name = text_of(&demand.relation);
+        let tuple = postcondition.tuple;
+        match meant_text(alloc, parties, tuple, &demand.relation)? {
             Some(Meant { written, near }) => {
                 let sentence = format!(in alloc;
                     "no statement offers a row of {name} with this text"

@@ -1,0 +1,9 @@
+mod Alike
+mod Covering
+mod Closed
+mod Groups
+mod Histories
+mod Partners
+mod Places
+mod Ran
+mod Seeing

@@ -1,0 +1,4 @@
+pub mod Cover
+pub mod Known
+pub mod Answered
+pub mod Running
