@@ -1,0 +1,4 @@
+mod Steps
+mod Itself
+mod Kept
+mod Texts

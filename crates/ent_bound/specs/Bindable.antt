@@ -1,5 +1,5 @@
 -- Which values a caller may bind to a host variable: those that a script can spell.
-use Rattle.std.specs.Prelude.{◌≡◌, ◌≢◌, ◌<◌, ◌≤◌, ℕ, ℤ, negsuc, List, length, Option, Some, FitsSigned}
+use Rattle.std.specs.Prelude.{◌≡◌, ◌≢◌, ◌<◌, ◌≤◌, ℕ, ℤ, negsuc, List, length, Some, FitsSigned}
 use Rattle.std.specs.Char.{is_ascii_control}
 use Rattle.std.specs.Int.{w64}
 use Rattle.std.specs.List.{position_from}
@@ -17,10 +17,14 @@ use Rattle.ent_bound.specs.declared.fault.ValueFault.TheVariants.{LeastNumber, T
 abbrev pub least_number : ℤ
 least_number = negsuc 9223372036854775807
 
--- a number but for the least, or a text of characters within the limit, without control characters
+-- a text of characters within the limit, without control characters
+abbrev pub IsBindableText : List ℕ → Type 0
+IsBindableText content = (length content ≤ LONGEST_TEXT) × IsUtf8 content × IsPlain content
+
+-- a number but for the least, or such a text
 abbrev pub IsBindable : Value → Type 0
 IsBindable (Int number) = FitsSigned w64 number × (number ≢ least_number)
-IsBindable (Text content) = (length content ≤ LONGEST_TEXT) × IsUtf8 content × IsPlain content
+IsBindable (Text content) = IsBindableText content
 
 -- why a text can't be bound: its length, else where it stops being UTF-8, else its first control character
 abbrev pub IsTextFault : List ℕ → ValueFault → Type 0

@@ -20,8 +20,6 @@ use Rattle.ent_tree.specs.declared.entangled.Tuple.{Tuple}
 use Rattle.ent_tree.specs.declared.entangled.Condition.{Condition}
 use Rattle.ent_tree.specs.declared.entangled.Condition.TheVariants as conditions
 use Rattle.ent_tree.specs.declared.entangled.Entangled.{Entangled}
-use Rattle.ent_tree.specs.declared.statement.Insert.{Insert}
-use Rattle.ent_tree.specs.declared.statement.Delete.{Delete}
 use Rattle.ent_tree.specs.declared.statement.Assignment.{Assignment}
 use Rattle.ent_tree.specs.declared.statement.Update.{Update}
 use Rattle.ent_tree.specs.declared.statement.Set.{Set}

@@ -5,7 +5,7 @@ ghost use Rattle.ent_bound.specs.Refused.{first_fault, variable_fault, IsRefused
 
 use crate::fault::BindingFault;
 use crate::part::Part;
-use crate::statement::is_set;
+use crate::setting::is_set;
 use crate::variable::{BoundVariable, is_bound};
 use ent_tree::Script;
 use ent_value::{Name, Refusal};
@@ -19,11 +19,7 @@ pub struct NotBound {
 }
 
 /// What is wrong with a variable behind earlier ones.
-fn variable_fault(
-    script: &Script,
-    earlier: &[BoundVariable],
-    name: &Name,
-) -> Option<BindingFault>
+fn variable_fault(script: &Script, earlier: &[BoundVariable], name: &Name) -> Option<BindingFault>
     ensures { result ≡ variable_fault script.now earlier.now name.now }
 {
     let number = earlier.len();
@@ -72,11 +68,7 @@ pub fn bound(
 
 /// The script itself, with literals in the place of host variables as [`bound`] puts them. Where nothing is bound it is
 /// moved. At a refusal it comes back as it was.
-pub fn bind(
-    alloc: Global,
-    script: Script,
-    variables: &[BoundVariable],
-) -> Result<Script, NotBound>
+pub fn bind(alloc: Global, script: Script, variables: &[BoundVariable]) -> Result<Script, NotBound>
     ensures ok { IfOk result (λ made. made ≡ bound_script variables.now script) }
     ensures formed { IfOk result (λ made. first_fault variables.now script ≡ None) }
     ensures fault { IfErr result (λ back. IsRefusedFor (first_fault variables.now script) back.refusal) }

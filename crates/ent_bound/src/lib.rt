@@ -12,6 +12,7 @@ mod law;
 mod list;
 mod operand;
 mod part;
+mod setting;
 mod statement;
 mod value;
 mod variable;

@@ -1,9 +1,9 @@
 //! A value that can be bound.
-ghost use Rattle.std.specs.Prelude.{◌≡◌, ◌≢◌, IfErr, IfOk};
+ghost use Rattle.std.specs.Prelude.{◌≡◌, ◌≢◌, IfErr, IfOk, MatchOption};
 ghost use Rattle.std.specs.Char.{is_ascii_control};
 ghost use Rattle.std.specs.List.{position_from};
 ghost use Rattle.ent_value.specs.declared.value.Value.TheVariants.{Int, Text as Texts};
-ghost use Rattle.ent_bound.specs.Bindable.{IsBindable, RefusesText, least_number};
+ghost use Rattle.ent_bound.specs.Bindable.{IsBindable, IsBindableText, IsTextFault, RefusesText, least_number};
 ghost use Rattle.ent_bound.specs.declared.fault.ValueFault.TheVariants.{LeastNumber};
 
 use crate::fault::ValueFault;
@@ -51,14 +51,8 @@ impl BoundValue {
         ensures ok { IfOk result (λ made. (made ≡ Texts bytes.now) × IsBindable (Texts bytes.now)) }
         ensures fault { IfErr result (λ refusal. RefusesText bytes.now refusal) }
     {
-        if bytes.len() > LONGEST_TEXT {
-            return Err(Refusal::Fault(ValueFault::TooLong));
-        }
-        if let Err(fault) = str::from_utf8(bytes) {
-            return Err(Refusal::Fault(ValueFault::NotUtf8(fault.valid_up_to())));
-        }
-        if let Some(place) = control_character(bytes) {
-            return Err(Refusal::Fault(ValueFault::ControlCharacter(place)));
+        if let Some(fault) = text_fault(bytes) {
+            return Err(Refusal::Fault(fault));
         }
         let text = Text::from_bytes(alloc, bytes)?;
         Ok(BoundValue {
@@ -73,6 +67,19 @@ impl BoundValue {
     {
         &self.value
     }
+}
+
+/// Why a text can't be bound, if it can't.
+fn text_fault(bytes: &[u8]) -> Option<ValueFault>
+    ensures { MatchOption result (IsBindableText bytes.now) (λ fault. IsTextFault bytes.now fault) }
+{
+    if bytes.len() > LONGEST_TEXT {
+        return Some(ValueFault::TooLong);
+    }
+    if let Err(fault) = str::from_utf8(bytes) {
+        return Some(ValueFault::NotUtf8(fault.valid_up_to()));
+    }
+    Some(ValueFault::ControlCharacter(control_character(bytes)?))
 }
 
 /// Where the first control character stands, if one does. They are ASCII.
