@@ -1,4 +1,3 @@
 mod Steps
-mod Itself
-mod Kept
+pub mod Itself
 mod Texts

@@ -8,7 +8,6 @@
 mod binding;
 mod entangled;
 mod fault;
-mod law;
 mod list;
 mod operand;
 mod part;
@@ -19,6 +18,5 @@ mod variable;
 
 pub use binding::{NotBound, bind, bound};
 pub use fault::{BindingFault, ValueFault};
-pub use law::{bound_variables_are_used_no_more, nothing_bound_changes_nothing};
 pub use value::BoundValue;
 pub use variable::BoundVariable;
