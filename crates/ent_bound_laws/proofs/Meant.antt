@@ -25,7 +25,6 @@ use Rattle.ent_tree.specs.declared.select.Select.{Select}
 use Rattle.ent_tree.specs.declared.entangled.Term.{Term}
 use Rattle.ent_tree.specs.declared.entangled.Term.TheVariants as terms
 use Rattle.ent_tree.specs.declared.entangled.EntangledItem.{EntangledItem}
-use Rattle.ent_tree.specs.declared.entangled.Tuple.{Tuple}
 use Rattle.ent_tree.specs.declared.entangled.Condition.{Condition}
 use Rattle.ent_tree.specs.declared.entangled.Condition.TheVariants as conditions
 use Rattle.ent_tree.specs.declared.entangled.Entangled.{Entangled}
@@ -39,7 +38,6 @@ use Rattle.ent_semantics.specs.declared.answer.Answer.{Answer}
 use Rattle.ent_semantics.specs.declared.answer.Answer.TheVariants as answers
 use Rattle.ent_semantics.specs.declared.answer.Failure.{Failure}
 use Rattle.ent_semantics.specs.declared.answer.Failure.TheVariants.{TableFull}
-use Rattle.ent_semantics.specs.declared.answer.Fact.{Fact}
 use Rattle.ent_semantics.specs.Change.{all_there, assigned_value, assigned_values, image, matched, updated}
 use Rattle.ent_semantics.specs.Database.{Name, Rows, Database, Environment, same_name, is_among, nothing_bound}
 use Rattle.ent_semantics.specs.Database.{with_value, with_values, table_named, Table}
@@ -48,17 +46,17 @@ use Rattle.ent_semantics.specs.Entangled.{Valuation, first_of_each, term_variabl
 use Rattle.ent_semantics.specs.Entangled.{written_variables, variable_value, term_value, term_worth, facts, heads}
 use Rattle.ent_semantics.specs.Entangled.{condition_posts, posts, condition_holds, is_grounding, item_binds, bound_values}
 use Rattle.ent_semantics.specs.Names.{equal_names, name_itself}
-use Rattle.ent_semantics.specs.Selection.{compares, holds, meets, selection, item_row, source_rows, select_worth, select_rows}
+use Rattle.ent_semantics.specs.Selection.{compares, holds, meets, selection, item_row, source_rows, select_rows}
 use Rattle.ent_semantics.specs.Serial.{Operation, Run, after, answered_first, ended, is_entangled, operation_first}
 use Rattle.ent_semantics.specs.Serial.{operations_of, run, script_run, with_answer}
-use Rattle.ent_semantics.specs.Statement.{statement_meaning, table_worth}
-use Rattle.ent_semantics.specs.Term.{Worth, SourceColumn, known_value, no_value, operand_value, expression_value}
+use Rattle.ent_semantics.specs.Statement.{statement_meaning}
+use Rattle.ent_semantics.specs.Term.{SourceColumn, known_value, no_value, operand_value, expression_value}
 use Rattle.ent_semantics.specs.Term.{in_64_bits, number_of, source_columns, table_columns}
 use Rattle.ent_bound.specs.Bound.{bound_script, bound_value, literal_or, value_bound}
 use Rattle.ent_bound_laws.specs.Meaning.{with_bound, script_run_from, run_with_bound}
 use Rattle.ent_bound.specs.Over.{Making, operand_over, expression_over, test_over, items_over, tests_over, select_over}
-use Rattle.ent_bound.specs.Over.{term_over, item_over, tuple_over, condition_over, entangled_over, assignment_over}
-use Rattle.ent_bound.specs.Over.{statement_over, script_over}
+use Rattle.ent_bound.specs.Over.{term_over, item_over, condition_over, entangled_over, assignment_over}
+use Rattle.ent_bound.specs.Over.{statement_over}
 use Rattle.ent_bound.specs.Refused.{is_bound, or_else, variable_fault, fault_behind, first_fault}
 use Rattle.ent_bound.specs.Values.{item_sets, statement_sets, is_set, is_used}
 use Rattle.ent_bound.specs.declared.fault.BindingFault.{BindingFault}
@@ -238,8 +236,8 @@ module _ (variables : List BoundVariable) (environment : Environment) where
       λ i. record {
         relation = relation.name;
         values = mapped (term_over (bound_value variables))
-        (term_worth environment (entangled_over (bound_value variables) x) valuation)
-        (term_worth (with_bound variables environment) x valuation) (worth x valuation) tuple.terms i;
+            (term_worth environment (entangled_over (bound_value variables) x) valuation)
+            (term_worth (with_bound variables environment) x valuation) (worth x valuation) tuple.terms i;
       }
       ∷ []
   post_over x valuation (conditions.Test test) = refl
@@ -426,10 +424,10 @@ statement variables declared (statements.Select x) free valuation database envir
 statement variables declared (statements.Entangled x) free valuation database environment =
     let binds = bound_values environment (entangled_over (bound_value variables) x) valuation in
     let e : with_values (with_bound variables environment) (bound_values (with_bound variables environment) x valuation)
-      ≡ with_bound variables (with_values environment binds) =
-      items_beside variables (term_worth (with_bound variables environment) x valuation) x.items free environment
-      ∙ ap (λ (bound : List (Name × Value)). with_bound variables (with_values environment bound))
-      (sym (binds_over variables environment x valuation))
+    ≡ with_bound variables (with_values environment binds) =
+    items_beside variables (term_worth (with_bound variables environment) x valuation) x.items free environment
+    ∙ ap (λ (bound : List (Name × Value)). with_bound variables (with_values environment bound))
+    (sym (binds_over variables environment x valuation))
     in
     λ i. Ok (record {
       database = database;
@@ -454,7 +452,7 @@ statement variables declared (statements.Update x) free valuation database envir
     let columns = table_columns declared x.table.name x.table.name in
     let matches = meets (operand_value environment columns) (tests_over (bound_value variables) x.tests) in
     let images = image (operand_value environment columns) (map (assignment_over (bound_value variables)) x.assignments)
-      columns
+    columns
     in
     (λ i. replacement table (λ row. sym (met variables environment columns x.tests row) i)
     (λ row. sym (imaged variables environment columns x.assignments row) i) database

@@ -1,6 +1,6 @@
 -- What a script means where host variables have values from the start.
 use Rattle.std.specs.Prelude.{List, Option}
-use Rattle.std.specs.Option.{option_and_then, option_map, option_or}
+use Rattle.std.specs.Option.{option_and_then, option_or}
 use Rattle.ent_tree.specs.declared.declaration.Create.{Create}
 use Rattle.ent_tree.specs.declared.script.Script.{Script}
 use Rattle.ent_semantics.specs.Database.{Database, Environment}
