@@ -22,8 +22,8 @@ pub enum ValueFault {
 /// 0.
 #[derive(Clone, Copy, Debug, PartialEq, Eq, Error)]
 pub enum BindingFault {
-    /// Its value can't be bound. [`crate::bind`] never answers it, since a [`crate::BoundValue`] can be bound: who makes
-    /// the values of a list says so which one isn't made.
+    /// Its value can't be bound. [`crate::bind`] never answers it, since a [`crate::BoundValue`] can be bound: who
+    /// makes the values of a list says by it which one can't be made.
     #[error("variable {0}: {1}")]
     Value(usize, ValueFault),
     /// An earlier one has the same name.

@@ -45,8 +45,8 @@ impl BoundValue {
         })
     }
 
-    /// A text of its own with these bytes, or the first fault of them: their length comes first, then UTF-8, then control
-    /// characters.
+    /// A text of its own with these bytes, or the first fault of them: their length comes first, then UTF-8, then
+    /// control characters.
     pub fn text(alloc: Global, bytes: &[u8]) -> Result<Self, Refusal<ValueFault>>
         ensures ok { IfOk result (λ made. (made ≡ Texts bytes.now) × IsBindable (Texts bytes.now)) }
         ensures fault { IfErr result (λ refusal. RefusesText bytes.now refusal) }
