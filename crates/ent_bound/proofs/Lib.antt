@@ -1,0 +1,3 @@
+mod Steps
+pub mod Itself
+mod Texts

@@ -1,0 +1,5 @@
+pub mod Bindable
+pub mod Over
+pub mod Values
+pub mod Bound
+pub mod Refused
