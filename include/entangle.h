@@ -16,8 +16,8 @@
  *
  * The library can't test these conditions, which hold for every call:
  *
- *   - `input`, `script`, `name` and `report` point to `length` bytes that can be read, `buffer` to `capacity` bytes that
- *     can be written, and `told`, `number`, `reply` and `position` each to one object of its type, aligned as C
+ *   - `input`, `script`, `name` and `report` point to `length` bytes that can be read, and `buffer` to `capacity` bytes
+ *     that can be written; `told`, `number`, `reply` and `position` each point to one object of its type, aligned as C
  *     requires. During the call nothing else reads or writes what the call writes, nothing writes what it reads, and
  *     none of these overlap. Length and capacity are below 2 to the power of 63.
  *   - malloc, realloc and free come from one allocator, and malloc aligns as C requires.
@@ -57,7 +57,7 @@ extern "C" {
 #define ENTANGLE_VERSION "0.9.0"
 
 /* How many bytes of stack are enough for any call; docs/EMBEDDING.md says how this was measured. */
-#define ENTANGLE_STACK_BYTES 262144
+#define ENTANGLE_STACK_BYTES 524288
 
 /* What a call answers: the exit statuses of the program. */
 enum entangle_status {

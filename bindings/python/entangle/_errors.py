@@ -37,8 +37,9 @@ class Fault(Error):
         """Keeps what is said of the fault; a traceback shows the lines below the first, from Python 3.11 on."""
         self.explanation = explanation
         _, _, note = explanation.rstrip("\n").partition("\n")
-        if note and sys.version_info >= (3, 11):
-            self.add_note(note)
+        if sys.version_info >= (3, 11):
+            if note:
+                self.add_note(note)
 
 
 class Refused(Fault):
@@ -60,3 +61,8 @@ class StateError(Error):
 
 class LibraryError(Error, ImportError):
     """The shared object isn't there, or isn't the one of this package. It is raised by `import entangle`."""
+
+
+# A public name stands where it is imported from, in tracebacks and in pickles too.
+for _error in (Error, Fault, Refused, OutOfMemory, StateError, LibraryError):
+    _error.__module__ = "entangle"

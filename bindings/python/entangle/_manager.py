@@ -140,8 +140,8 @@ class Manager:
         """Makes one run as run() does, and tells what each commit changed in these tables, in the order of the commits.
 
         It makes the run event by event, and reads the tables behind each statement: so it is for tables of some
-        thousand rows. Raises Refused (E401) if there is no such table, and OutOfMemory. If a run is on, since memory ran
-        out or by step(), it goes on with that run, and doesn't tell what was changed or committed in it before.
+        thousand rows. Raises Refused (E401) if there is no such table, and OutOfMemory. If a run is on, by step() or
+        since memory ran out, it goes on with that run, and doesn't tell what was changed or committed in it before.
         """
         with self._lock:
             return ToldRun(self, tables).make()

@@ -71,7 +71,8 @@ class Errors(unittest.TestCase):
     def test_all_have_one_base(self):
         for error in (entangle.Refused, entangle.OutOfMemory, entangle.StateError, entangle.LibraryError):
             self.assertTrue(issubclass(error, entangle.Error) and issubclass(entangle.Error, Exception))
-        self.assertTrue(issubclass(entangle.Refused, entangle.Fault) and issubclass(entangle.OutOfMemory, entangle.Fault))
+        for error in (entangle.Refused, entangle.OutOfMemory):
+            self.assertTrue(issubclass(error, entangle.Fault))
         self.assertTrue(issubclass(entangle.OutOfMemory, MemoryError))
         self.assertTrue(issubclass(entangle.LibraryError, ImportError))
         memory = entangle.OutOfMemory()

@@ -65,7 +65,7 @@ impl StandardError for Fault {}
 
 /// Why a call of a manager does nothing.
 ///
-/// Printed it is a sentence. Its [source](StandardError::source) is the fault, if it has one, whose line has the number.
+/// Printed it is a sentence. Its [source](StandardError::source) is the fault, if it has one: its line has the number.
 #[derive(Clone, Copy, Debug, PartialEq, Eq, Hash)]
 #[non_exhaustive]
 pub enum Error {

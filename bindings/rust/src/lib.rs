@@ -140,8 +140,8 @@ pub fn report_of_bytes(input: &[u8], version: Version) -> Result<String, Fault> 
     }
 }
 
-/// What is said of the fault of an input, as `entangle run --explain` says it: several lines, with their ends. `None` if
-/// the input has no fault; its scripts were run to find that out, so ask only if [`report`] failed.
+/// What is said of the fault of an input, as `entangle run --explain` says it: several lines, with their ends. `None`
+/// if the input has no fault; its scripts were run to find that out, so ask only if [`report`] failed.
 ///
 /// # Errors
 ///
