@@ -91,5 +91,5 @@ class Errors(unittest.TestCase):
     def test_names_are_those_of_the_package(self):
         for name in entangle.__all__:
             thing = getattr(entangle, name)
-            if isinstance(thing, type):
+            if isinstance(thing, type) and name != "Row":  # a list of values, which Python 3.9 calls a type too
                 self.assertEqual((thing.__module__, thing.__qualname__), ("entangle", name))

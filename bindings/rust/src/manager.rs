@@ -51,6 +51,16 @@ pub enum Failure {
     TableFull,
 }
 
+impl Failure {
+    fn numbered(number: u32) -> Self {
+        match number {
+            1 => Failure::Overflow,
+            2 => Failure::TableFull,
+            other => unreachable!("a statement fails in one of two ways, and {other} isn't one"),
+        }
+    }
+}
+
 /// Where a transaction stands.
 #[derive(Clone, Copy, Debug, PartialEq, Eq, Hash)]
 #[non_exhaustive]
@@ -76,7 +86,8 @@ impl Standing {
             6 => Fate::Committed { number, runs },
             7 => Fate::GaveUp { runs },
             8 => Fate::RolledBack { runs },
-            _ => Fate::Failed { failure: if failure == 1 { Failure::Overflow } else { Failure::TableFull }, runs },
+            9 => Fate::Failed { failure: Failure::numbered(failure), runs },
+            other => unreachable!("a transaction stands in one of nine ways, and {other} isn't one"),
         };
         Standing::Finished(fate)
     }

@@ -34,7 +34,7 @@ fn form_fault_of(alloc: Global, input: &Input) -> Result<InputFault> {
     Err(anyhow!("the input has no fault"))
 }
 
-fn refused(refusal: Refusal<FormFault>) -> Result<InputFault> {
+pub(crate) fn refused(refusal: Refusal<FormFault>) -> Result<InputFault> {
     match refusal {
         Refusal::Fault(fault) => Ok(InputFault::Form(fault)),
         Refusal::Memory => Err(anyhow!("out of memory")),
@@ -42,7 +42,7 @@ fn refused(refusal: Refusal<FormFault>) -> Result<InputFault> {
 }
 
 /// The number of a fault.
-fn number_of(fault: InputFault) -> u16 {
+pub(crate) fn number_of(fault: InputFault) -> u16 {
     match fault {
         InputFault::NotUtf8 => 100,
         InputFault::Sql(fault) => fault.code(),
