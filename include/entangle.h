@@ -16,12 +16,15 @@
  *
  * The library can't test these conditions, which hold for every call:
  *
- *   - `input` and `report` point to `length` bytes that can be read, `buffer` to `capacity` bytes that can be written,
- *     `told` to a struct. During the call nothing else reads or writes the buffer and the struct, nothing writes the
- *     input, and the three don't overlap. Length and capacity are below 2 to the power of 63.
+ *   - `input`, `script`, `name` and `report` point to `length` bytes that can be read, and `buffer` to `capacity` bytes
+ *     that can be written; `told`, `number`, `reply` and `position` each point to one object of its type, aligned as C
+ *     requires. During the call nothing else reads or writes what the call writes, nothing writes what it reads, and
+ *     none of these overlap. Length and capacity are below 2 to the power of 63.
  *   - malloc, realloc and free come from one allocator, and malloc aligns as C requires.
  *   - The call isn't made from a signal handler, nor from a forked child of a process that has threads.
- *   - The thread that makes the call has enough stack for it.
+ *   - The thread that makes the call has enough stack for it: ENTANGLE_STACK_BYTES are enough.
+ *   - The library is the one of this header: a program that loads it as a shared object asks
+ *     entangle_is_of_this_header() first.
  *
  * Calls without a manager keep nothing and free what they allocate. Any number of threads may make them concurrently.
  *
@@ -44,10 +47,17 @@
 #include <stdbool.h>
 #include <stddef.h>
 #include <stdint.h>
+#include <string.h>
 
 #ifdef __cplusplus
 extern "C" {
 #endif
+
+/* The version of this header, and of the library that belongs to it. */
+#define ENTANGLE_VERSION "0.9.0"
+
+/* How many bytes of stack are enough for any call; docs/EMBEDDING.md says how this was measured. */
+#define ENTANGLE_STACK_BYTES 524288
 
 /* What a call answers: the exit statuses of the program. */
 enum entangle_status {
@@ -127,8 +137,28 @@ enum entangle_reply {
 /* A manager. C code doesn't see what it has. */
 typedef struct entangle_manager entangle_manager;
 
+/* The structs are laid out as the library has them. */
+#if defined(__cplusplus) && __cplusplus >= 201103L
+#define ENTANGLE_ASSERT(holds, words) static_assert(holds, words)
+#elif !defined(__cplusplus) && defined(__STDC_VERSION__) && __STDC_VERSION__ >= 201112L
+#define ENTANGLE_ASSERT(holds, words) _Static_assert(holds, words)
+#endif
+#ifdef ENTANGLE_ASSERT
+ENTANGLE_ASSERT(sizeof(size_t) == 8 && sizeof(bool) == 1, "the library is for machines of 64 bits");
+ENTANGLE_ASSERT(sizeof(entangle_told) == 40, "entangle_told is laid out otherwise than in the library");
+ENTANGLE_ASSERT(offsetof(entangle_told, code) == 32 && offsetof(entangle_told, has_place) == 34,
+                "entangle_told is laid out otherwise than in the library");
+ENTANGLE_ASSERT(sizeof(entangle_position) == 24, "entangle_position is laid out otherwise than in the library");
+ENTANGLE_ASSERT(offsetof(entangle_position, kind) == 16 && offsetof(entangle_position, failure) == 20,
+                "entangle_position is laid out otherwise than in the library");
+#undef ENTANGLE_ASSERT
+#endif
+
 /* The exports of the library, for languages that can't use the inline functions below. They have the conditions above,
  * and one more: no pointer is null, not even if its length or capacity is 0. */
+int32_t ent_c_version(uint8_t *buffer, size_t capacity, entangle_told *told);
+size_t ent_c_size_of_told(void);
+size_t ent_c_size_of_position(void);
 int32_t ent_c_report(const uint8_t *input, size_t length, uint32_t version, uint8_t *buffer, size_t capacity,
                      entangle_told *told);
 int32_t ent_c_explain(const uint8_t *input, size_t length, uint8_t *buffer, size_t capacity, entangle_told *told);
@@ -136,6 +166,8 @@ int32_t ent_c_check(const uint8_t *report, size_t length, uint8_t *buffer, size_
 int32_t ent_c_open(entangle_manager **manager, const uint8_t *input, size_t length, entangle_told *told);
 int32_t ent_c_submit(entangle_manager **manager, const uint8_t *script, size_t length, uint64_t *number,
                      entangle_told *told);
+int32_t ent_c_explain_script(entangle_manager **manager, const uint8_t *script, size_t length, uint8_t *buffer,
+                             size_t capacity, entangle_told *told);
 int32_t ent_c_run(entangle_manager **manager);
 int32_t ent_c_make(entangle_manager **manager, uint32_t move, uint64_t number, uint32_t *reply);
 int32_t ent_c_why(entangle_manager **manager, uint64_t number, uint8_t *buffer, size_t capacity, entangle_told *told);
@@ -154,6 +186,27 @@ void ent_c_free(entangle_manager **manager);
 static inline bool entangle_is_misused(const void *text, size_t length, const void *buffer, size_t capacity,
                                        const void *told) {
     return !told || (!text && length) || (!buffer && capacity);
+}
+
+/* Gives the version of the library, as `entangle --version` prints it behind the program's name, without the LF: its
+ * number, and by what it is proved.
+ *
+ * ENTANGLE_DONE: the text is the version. */
+static inline int32_t entangle_version(void *buffer, size_t capacity, entangle_told *told) {
+    uint8_t none = 0;
+    if (entangle_is_misused(&none, 0, buffer, capacity, told)) return ENTANGLE_MISUSED;
+    return ent_c_version(buffer ? (uint8_t *)buffer : &none, capacity, told);
+}
+
+/* Whether the library that the program runs with is of the version of this header, and writes structs of the sizes that
+ * this header declares. If it isn't, make no call that writes a struct. */
+static inline bool entangle_is_of_this_header(void) {
+    char text[sizeof ENTANGLE_VERSION];
+    entangle_told told;
+    if (ent_c_size_of_told() != sizeof told || ent_c_size_of_position() != sizeof(entangle_position)) return false;
+    if (entangle_version(text, sizeof text, &told) != ENTANGLE_DONE || told.needed < sizeof text - 1) return false;
+    return !memcmp(text, ENTANGLE_VERSION, sizeof text - 1) &&
+           (told.needed == sizeof text - 1 || text[sizeof text - 1] == ',');
 }
 
 /* Gives the report of an input, in this version (1 or 2): all scripts are submitted in order and run on one thread, as
@@ -219,6 +272,20 @@ static inline int32_t entangle_submit(entangle_manager **manager, const void *sc
     uint8_t none = 0;
     if (!manager || !number || entangle_is_misused(script, length, &none, 0, told)) return ENTANGLE_MISUSED;
     return ent_c_submit(manager, script ? (const uint8_t *)script : &none, length, number, told);
+}
+
+/* Gives the explanation of a script's fault, as entangle_explain does for an input: for a script that entangle_submit
+ * refused. The lines are those of this text, and hints name the manager's tables. Nothing is submitted.
+ *
+ * ENTANGLE_REFUSED: the text is the explanation, and the fault is told, whose place counts from the start of this text.
+ * ENTANGLE_DONE: the script has no fault, and there is no text. ENTANGLE_OUT_OF_MEMORY: E900 is told, and the text is
+ * `E900` with an LF, or there is none. */
+static inline int32_t entangle_explain_script(entangle_manager **manager, const void *script, size_t length,
+                                              void *buffer, size_t capacity, entangle_told *told) {
+    uint8_t none = 0;
+    if (!manager || entangle_is_misused(script, length, buffer, capacity, told)) return ENTANGLE_MISUSED;
+    return ent_c_explain_script(manager, script ? (const uint8_t *)script : &none, length,
+                                buffer ? (uint8_t *)buffer : &none, capacity, told);
 }
 
 /* Makes one run, if any script waits for one: the first 64 scripts that wait take part, and the run ends when none of

@@ -31,6 +31,22 @@ static bool tells_fault(const entangle_told *told, size_t needed) {
            told->column == 28;
 }
 
+/* The library is the one of the header, and says its version. */
+static void version(void) {
+    char buffer[64], expected[64];
+    entangle_told told;
+    CHECK(entangle_is_of_this_header());
+    CHECK(ent_c_size_of_told() == sizeof told && ent_c_size_of_position() == sizeof(entangle_position));
+    memset(buffer, '#', sizeof buffer);
+    CHECK(entangle_version(buffer, sizeof buffer, &told) == ENTANGLE_DONE && tells_text(&told, told.needed));
+    int length = snprintf(expected, sizeof expected, "%s, proved by logic ", ENTANGLE_VERSION);
+    CHECK(told.needed == (size_t)length + 16 && buffer[told.needed] == '#');
+    CHECK(!memcmp(buffer, expected, (size_t)length));
+    CHECK(entangle_version(NULL, 0, &told) == ENTANGLE_DONE && tells_text(&told, (size_t)length + 16));
+    CHECK(entangle_version(buffer, 1, NULL) == ENTANGLE_MISUSED);
+    CHECK(entangle_version(NULL, 1, &told) == ENTANGLE_MISUSED);
+}
+
 /* Buffers of each length take what fits them of a report, and no byte behind that is touched. */
 static void reports(void) {
     char buffer[sizeof REPORT + 8];
@@ -116,6 +132,34 @@ static void moves(entangle_manager **manager) {
     CHECK(entangle_why(manager, 2, buffer, sizeof buffer, &told) == ENTANGLE_REFUSED && told.code == 401);
 }
 
+static const char BAD_SCRIPT[] = "BEGIN TRANSACTION;\nINSERT INTO U VALUES (1);\nCOMMIT;\n";
+static const char BAD_SAID[] = "E301 at 31\nline 2, column 13: there is no table U\n  INSERT INTO U VALUES (1);\n"
+                               "              ^\nthe tables are T\n";
+
+/* The fault of a script is explained in the script's own lines, as far as the buffer reaches; nothing is submitted. */
+static void explained_script(entangle_manager **manager) {
+    char buffer[256];
+    entangle_told told;
+    entangle_position position;
+    size_t length = sizeof BAD_SCRIPT - 1, needed = sizeof BAD_SAID - 1;
+    for (size_t capacity = 0; capacity <= needed + 4; capacity++) {
+        memset(buffer, '#', sizeof buffer);
+        CHECK(entangle_explain_script(manager, BAD_SCRIPT, length, buffer, capacity, &told) == ENTANGLE_REFUSED);
+        CHECK(told.needed == needed && told.code == 301 && told.has_place && told.offset == 31);
+        CHECK(told.line == 2 && told.column == 13);
+        size_t written = capacity < needed ? capacity : needed;
+        CHECK(!memcmp(buffer, BAD_SAID, written) && buffer[written] == '#');
+    }
+    CHECK(entangle_explain_script(manager, NULL, 0, buffer, sizeof buffer, &told) == ENTANGLE_REFUSED);
+    CHECK(told.code == 201 && told.offset == 0 && !memcmp(buffer, "E201 at 0\n", 10));
+    CHECK(entangle_explain_script(manager, SCRIPT, sizeof SCRIPT - 1, buffer, sizeof buffer, &told) == ENTANGLE_DONE);
+    CHECK(tells_text(&told, 0) && entangle_standing(manager, 1, &position) == ENTANGLE_REFUSED);
+    CHECK(entangle_explain_script(NULL, SCRIPT, 1, buffer, 1, &told) == ENTANGLE_MISUSED);
+    CHECK(entangle_explain_script(manager, NULL, 1, buffer, 1, &told) == ENTANGLE_MISUSED);
+    CHECK(entangle_explain_script(manager, SCRIPT, 1, NULL, 1, &told) == ENTANGLE_MISUSED);
+    CHECK(entangle_explain_script(manager, SCRIPT, 1, buffer, 1, NULL) == ENTANGLE_MISUSED);
+}
+
 /* A manager from its opening to its end; the calls that want another state change nothing. */
 static void managers(void) {
     char buffer[256];
@@ -127,10 +171,13 @@ static void managers(void) {
     CHECK(entangle_submit(&manager, SCRIPT, sizeof SCRIPT - 1, &number, &told) == ENTANGLE_MISUSED && number == 7);
     CHECK(entangle_standing(&manager, 1, &position) == ENTANGLE_MISUSED && position.kind == 7);
     CHECK(entangle_answers(&manager, 1, buffer, sizeof buffer, &told) == ENTANGLE_MISUSED && tells_text(&told, 0));
+    CHECK(entangle_explain_script(&manager, SCRIPT, sizeof SCRIPT - 1, buffer, 9, &told) == ENTANGLE_MISUSED);
+    CHECK(tells_text(&told, 0) && !manager);
     CHECK(entangle_open(&manager, WRONG, WRONG_LENGTH, &told) == ENTANGLE_REFUSED && tells_fault(&told, 0) && !manager);
     CHECK(entangle_open(&manager, TABLE, sizeof TABLE - 1, &told) == ENTANGLE_DONE && manager && tells_text(&told, 0));
     entangle_manager *at = manager;
     CHECK(entangle_open(&manager, TABLE, sizeof TABLE - 1, &told) == ENTANGLE_MISUSED && manager == at);
+    explained_script(&manager);
     CHECK(entangle_submit(&manager, TABLE, sizeof TABLE - 1, &number, &told) == ENTANGLE_REFUSED && number == 7);
     CHECK(told.code == 201 && told.has_place && told.offset == 0 && told.line == 1 && told.column == 1);
     CHECK(entangle_submit(&manager, SCRIPT, sizeof SCRIPT - 1, &number, &told) == ENTANGLE_DONE && number == 1);
@@ -147,6 +194,7 @@ static void managers(void) {
     CHECK(entangle_closed_report(&manager, 1, buffer, 256, &told) == ENTANGLE_MISUSED && tells_text(&told, 0));
     CHECK(entangle_renew(&manager) == ENTANGLE_MISUSED);
     CHECK(entangle_close(&manager) == ENTANGLE_DONE && entangle_run(&manager) == ENTANGLE_MISUSED);
+    CHECK(entangle_explain_script(&manager, SCRIPT, sizeof SCRIPT - 1, buffer, 9, &told) == ENTANGLE_MISUSED);
     CHECK(entangle_closed_report(&manager, 3, buffer, 256, &told) == ENTANGLE_MISUSED && tells_text(&told, 0));
     CHECK(entangle_closed_report(&manager, 1, buffer, 256, &told) == ENTANGLE_DONE);
     CHECK(tells_text(&told, sizeof AFTER - 1) && !memcmp(buffer, AFTER, sizeof AFTER - 1));
@@ -209,73 +257,70 @@ static void refusals(bool explains, int32_t whole) {
     printf("%ld allocations refused\n", count);
 }
 
-/* Submits a script to a manager and makes its run event by event, each call again where memory ran out for it. */
-static bool moved(entangle_manager **manager) {
+/* How often a call told that memory ran out. */
+static long told_refusals = 0;
+
+/* Makes a call until it answers this status; each time before, it has told that memory ran out, and this holds. */
+#define REPEATED(call, wanted, holds)                                                                                  \
+    for (int32_t status; (status = (call)) != (wanted); told_refusals++)                                               \
+    CHECK(status == ENTANGLE_OUT_OF_MEMORY && (holds))
+
+/* Submits a script to a manager and makes its run event by event, each call again if memory ran out for it. */
+static void moved(entangle_manager **manager) {
     static const uint32_t made[] = {ENTANGLE_START_RUN, ENTANGLE_BEGIN, ENTANGLE_BEGIN, ENTANGLE_END_RUN};
     static const uint32_t replied[] = {ENTANGLE_REPLY_STARTED, ENTANGLE_REPLY_STEPPED, ENTANGLE_REPLY_COMMITTED,
                                        ENTANGLE_REPLY_ENDED};
     char buffer[64];
     entangle_told told;
     uint64_t tx = 0;
-    int32_t status;
-    bool refused = false;
-    while ((status = entangle_submit(manager, SCRIPT, sizeof SCRIPT - 1, &tx, &told)) != ENTANGLE_DONE)
-        CHECK(status == ENTANGLE_OUT_OF_MEMORY && told.code == 900 && !tx && (refused = true));
+    REPEATED(entangle_submit(manager, SCRIPT, sizeof SCRIPT - 1, &tx, &told), ENTANGLE_DONE, told.code == 900 && !tx);
     for (size_t at = 0; at < sizeof made / sizeof *made; at++) {
         uint32_t reply = 0;
-        while ((status = entangle_why(manager, tx, buffer, sizeof buffer, &told)) != ENTANGLE_DONE)
-            CHECK(status == ENTANGLE_OUT_OF_MEMORY && told.code == 900 && (refused = true));
-        while ((status = entangle_make(manager, made[at], tx, &reply)) != ENTANGLE_DONE)
-            CHECK(status == ENTANGLE_OUT_OF_MEMORY && !reply && (refused = true));
+        REPEATED(entangle_why(manager, tx, buffer, sizeof buffer, &told), ENTANGLE_DONE, told.code == 900);
+        REPEATED(entangle_make(manager, made[at], tx, &reply), ENTANGLE_DONE, !reply);
         CHECK(reply == replied[at]);
     }
-    return refused;
 }
 
-/* Opens a manager, has it make a run, closes it and goes on with its tables, where one allocation behind a beginning
- * fails: the first call for which that is so. Each call is made again then, and comes to the same. */
+/* Opens a manager, explains a script, makes a run, closes the manager and goes on with its tables, while one allocation
+ * fails. Each call that tells so is made again, and comes to the same. Whether there were so many allocations. */
 static bool driven(long number) {
     char buffer[256];
     entangle_manager *manager = NULL;
     entangle_told told;
     uint64_t tx = 0;
-    int32_t status;
-    bool refused = false;
     until = number;
-    while ((status = entangle_open(&manager, TABLE, sizeof TABLE - 1, &told)) != ENTANGLE_DONE)
-        CHECK(status == ENTANGLE_OUT_OF_MEMORY && told.code == 900 && !manager && (refused = true));
-    while ((status = entangle_submit(&manager, SCRIPT, sizeof SCRIPT - 1, &tx, &told)) != ENTANGLE_DONE)
-        CHECK(status == ENTANGLE_OUT_OF_MEMORY && told.code == 900 && !tx && (refused = true));
-    while ((status = entangle_run(&manager)) != ENTANGLE_DONE)
-        CHECK(status == ENTANGLE_OUT_OF_MEMORY && (refused = true));
-    while ((status = entangle_answers(&manager, 1, buffer, 256, &told)) != ENTANGLE_DONE)
-        CHECK(status == ENTANGLE_OUT_OF_MEMORY && told.code == 900 && (refused = true));
-    while ((status = entangle_table(&manager, "T", 1, buffer, 256, &told)) != ENTANGLE_DONE)
-        CHECK(status == ENTANGLE_OUT_OF_MEMORY && told.code == 900 && (refused = true));
-    while ((status = entangle_close(&manager)) != ENTANGLE_DONE)
-        CHECK(status == ENTANGLE_OUT_OF_MEMORY && (refused = true));
-    while ((status = entangle_closed_report(&manager, 1, buffer, 256, &told)) != ENTANGLE_DONE)
-        CHECK(status == ENTANGLE_OUT_OF_MEMORY && told.code == 900 && (refused = true));
+    REPEATED(entangle_open(&manager, TABLE, sizeof TABLE - 1, &told), ENTANGLE_DONE, told.code == 900 && !manager);
+    REPEATED(entangle_explain_script(&manager, BAD_SCRIPT, sizeof BAD_SCRIPT - 1, buffer, 256, &told), ENTANGLE_REFUSED,
+             told.code == 900 && told.needed <= 5);
+    CHECK(told.needed == sizeof BAD_SAID - 1 && !memcmp(buffer, BAD_SAID, sizeof BAD_SAID - 1));
+    REPEATED(entangle_submit(&manager, SCRIPT, sizeof SCRIPT - 1, &tx, &told), ENTANGLE_DONE, told.code == 900 && !tx);
+    REPEATED(entangle_run(&manager), ENTANGLE_DONE, true);
+    REPEATED(entangle_answers(&manager, 1, buffer, 256, &told), ENTANGLE_DONE, told.code == 900);
+    REPEATED(entangle_table(&manager, "T", 1, buffer, 256, &told), ENTANGLE_DONE, told.code == 900);
+    REPEATED(entangle_close(&manager), ENTANGLE_DONE, true);
+    REPEATED(entangle_closed_report(&manager, 1, buffer, 256, &told), ENTANGLE_DONE, told.code == 900);
     CHECK(told.needed == sizeof AFTER - 1 && !memcmp(buffer, AFTER, sizeof AFTER - 1));
-    while ((status = entangle_renew(&manager)) != ENTANGLE_DONE)
-        CHECK(status == ENTANGLE_OUT_OF_MEMORY && (refused = true));
-    refused = moved(&manager) || refused;
+    REPEATED(entangle_renew(&manager), ENTANGLE_DONE, true);
+    moved(&manager);
+    bool is_reached = until < 0;
     until = -1;
     CHECK(entangle_table(&manager, "T", 1, buffer, 256, &told) == ENTANGLE_DONE && tells_text(&told, 14));
     entangle_free(&manager);
-    return refused;
+    return is_reached;
 }
 
-/* Each allocation of a manager's calls fails in turn, until none of them fails. */
+/* Each allocation of a manager's calls fails in turn. The library may do with less memory, and tell nothing. */
 static void driven_refusals(void) {
     long count = 0;
     while (driven(count)) count++;
-    CHECK(count > 20);
-    printf("%ld allocations of a manager's calls refused\n", count);
+    CHECK(told_refusals > 100 && told_refusals <= count);
+    printf("%ld allocations of a manager's calls refused, %ld of them told\n", count, told_refusals);
 }
 #endif
 
 int main(void) {
+    version();
     reports();
     faults();
     checks();

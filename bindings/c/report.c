@@ -36,14 +36,22 @@ static char *report_of(const char *input, size_t length, int32_t *status, entang
     return NULL;
 }
 
-/* Says what is said of the fault of an input. */
+/* Says what is said of the fault of an input; the line that names it, if memory runs out for more. */
 static void explain(const char *input, size_t length, const entangle_told *fault) {
-    char text[4096];
-    entangle_told told;
-    if (entangle_explain(input, length, text, sizeof text, &told) == ENTANGLE_REFUSED && told.needed <= sizeof text)
-        fwrite(text, 1, told.needed, stderr);
-    else
-        fprintf(stderr, "E%d\n", fault->code);
+    size_t capacity = 4096;
+    char *text = malloc(capacity);
+    while (text) {
+        entangle_told told;
+        int32_t status = entangle_explain(input, length, text, capacity, &told);
+        if (status == ENTANGLE_REFUSED && told.needed <= capacity) {
+            fwrite(text, 1, told.needed, stderr);
+            free(text);
+            return;
+        }
+        free(text);
+        text = status == ENTANGLE_REFUSED ? malloc(capacity = told.needed) : NULL;
+    }
+    fprintf(stderr, fault->has_place ? "E%d at %zu\n" : "E%d\n", fault->code, fault->offset);
 }
 
 int main(void) {

@@ -1,135 +1,199 @@
 //! What statements were answered, and rows: read from the lines of a report.
 
+use crate::value::{Row, Value};
+use std::collections::TryReserveError;
 use std::fmt;
 
-/// A value.
-#[derive(Clone, Debug, PartialEq, Eq, PartialOrd, Ord, Hash)]
-pub enum Value {
-    /// A number.
-    Int(i64),
-    /// A text.
-    Text(String),
-}
-
 /// A row of an answer relation: what an entangled statement put there.
+///
+/// Printed it is as a report has it, such as `Trip('Mickey', 122)`.
 #[derive(Clone, Debug, PartialEq, Eq, Hash)]
 pub struct Fact {
     /// The name of the relation.
     pub relation: String,
     /// The row.
-    pub values: Vec<Value>,
+    pub values: Row,
 }
 
 /// What a statement was answered.
 #[derive(Clone, Debug, PartialEq, Eq, Hash)]
+#[non_exhaustive]
 pub enum Answer {
     /// INSERT, DELETE, UPDATE: how many rows.
     Count(u64),
     /// SET: the value.
     Set(Value),
     /// SELECT: its rows, ascending.
-    Rows(Vec<Vec<Value>>),
+    Rows(Vec<Row>),
     /// An entangled SELECT: its row of each of its answer relations.
     Entangled(Vec<Fact>),
 }
 
-impl fmt::Display for Value {
+impl fmt::Display for Fact {
     fn fmt(&self, f: &mut fmt::Formatter<'_>) -> fmt::Result {
-        match self {
-            Value::Int(number) => write!(f, "{number}"),
-            Value::Text(text) => write!(f, "'{}'", text.replace('\'', "''")),
+        write!(f, "{}(", self.relation)?;
+        for (index, value) in self.values.iter().enumerate() {
+            write!(f, "{}{value}", if index > 0 { ", " } else { "" })?;
+        }
+        f.write_str(")")
+    }
+}
+
+/// Why lines aren't read.
+#[derive(Debug, PartialEq, Eq)]
+pub(crate) enum Unread {
+    /// They aren't lines of a report.
+    Strange,
+    /// Memory ran out.
+    OutOfMemory,
+}
+
+impl From<TryReserveError> for Unread {
+    fn from(_: TryReserveError) -> Self {
+        Unread::OutOfMemory
+    }
+}
+
+type Read<T> = Result<T, Unread>;
+
+/// Puts a thing behind a list, if there is memory for it.
+fn push<T>(list: &mut Vec<T>, thing: T) -> Read<()> {
+    list.try_reserve(1)?;
+    list.push(thing);
+    Ok(())
+}
+
+/// Puts a text behind another, if there is memory for it.
+fn push_text(text: &mut String, more: &str) -> Read<()> {
+    text.try_reserve(more.len())?;
+    text.push_str(more);
+    Ok(())
+}
+
+/// The rest of some lines of a report, from which one thing after the other is read.
+struct Lines<'a> {
+    rest: &'a str,
+}
+
+impl<'a> Lines<'a> {
+    /// Whether this stands in front, which is then behind.
+    fn has(&mut self, word: &str) -> bool {
+        match self.rest.strip_prefix(word) {
+            Some(rest) => (self.rest = rest, true).1,
+            None => false,
         }
     }
-}
 
-/// A value at the front of a text, and what stands behind it.
-fn value(text: &str) -> Option<(Value, &str)> {
-    let Some(mut rest) = text.strip_prefix('\'') else {
-        let end = text.find([',', ')', '\n']).unwrap_or(text.len());
-        return Some((Value::Int(text[..end].parse().ok()?), &text[end..]));
-    };
-    let mut found = String::new();
-    loop {
-        let end = rest.find('\'')?;
-        found += &rest[..end];
-        match rest[end + 1..].strip_prefix('\'') {
-            Some(more) => (found.push('\''), rest = more).1,
-            None => return Some((Value::Text(found), &rest[end + 1..])),
+    /// Reads this.
+    fn word(&mut self, word: &str) -> Read<()> {
+        if self.has(word) { Ok(()) } else { Err(Unread::Strange) }
+    }
+
+    /// Reads what stands before a character, and the character, which has one byte.
+    fn before(&mut self, end: char) -> Read<&'a str> {
+        let (found, rest) = self.rest.split_once(end).ok_or(Unread::Strange)?;
+        self.rest = rest;
+        Ok(found)
+    }
+
+    /// Reads a number that ends its line.
+    fn last_number<T: std::str::FromStr>(&mut self) -> Read<T> {
+        self.before('\n')?.parse().map_err(|_| Unread::Strange)
+    }
+
+    fn value(&mut self) -> Read<Value> {
+        if !self.has("'") {
+            let end = self.rest.find([',', ')', '\n']).ok_or(Unread::Strange)?;
+            let (number, rest) = self.rest.split_at(end);
+            self.rest = rest;
+            return Ok(Value::Int(number.parse().map_err(|_| Unread::Strange)?));
+        }
+        let mut text = String::new();
+        loop {
+            let piece = self.before('\'')?;
+            push_text(&mut text, piece)?;
+            if !self.has("'") {
+                return Ok(Value::Text(text));
+            }
+            push_text(&mut text, "'")?;
         }
     }
-}
 
-/// A row at the front of a text, and what stands behind it.
-fn row(text: &str) -> Option<(Vec<Value>, &str)> {
-    let (mut values, mut rest) = (Vec::new(), text.strip_prefix('(')?);
-    loop {
-        let (next, behind) = value(rest)?;
-        values.push(next);
-        match behind.strip_prefix(", ") {
-            Some(more) => rest = more,
-            None => return Some((values, behind.strip_prefix(')')?)),
+    fn row(&mut self) -> Read<Row> {
+        let mut values = Row::new();
+        self.word("(")?;
+        loop {
+            push(&mut values, self.value()?)?;
+            if !self.has(", ") {
+                self.word(")")?;
+                return Ok(values);
+            }
         }
     }
-}
 
-/// So many rows, a line each, and what stands behind them.
-fn rows(count: usize, text: &str) -> Option<(Vec<Vec<Value>>, &str)> {
-    let (mut found, mut rest) = (Vec::new(), text);
-    for _ in 0..count {
-        let (next, behind) = row(rest)?;
-        found.push(next);
-        rest = behind.strip_prefix('\n')?;
+    /// Reads rows, each a line.
+    fn rows(&mut self, count: usize) -> Read<Vec<Row>> {
+        let mut rows = Vec::new();
+        for _ in 0..count {
+            push(&mut rows, self.row()?)?;
+            self.word("\n")?;
+        }
+        Ok(rows)
     }
-    Some((found, rest))
-}
 
-/// Facts, each behind a space, to the end of a line.
-fn facts(text: &str) -> Option<(Vec<Fact>, &str)> {
-    let (mut found, mut rest) = (Vec::new(), text);
-    while let Some(more) = rest.strip_prefix(' ') {
-        let (values, behind) = row(&more[more.find('(')?..])?;
-        found.push(Fact { relation: more[..more.find('(')?].to_string(), values });
-        rest = behind;
+    /// Reads facts, each behind a space, to the end of a line.
+    fn facts(&mut self) -> Read<Vec<Fact>> {
+        let mut facts = Vec::new();
+        while self.has(" ") {
+            let end = self.rest.find('(').ok_or(Unread::Strange)?;
+            let (name, rest) = self.rest.split_at(end);
+            self.rest = rest;
+            let mut relation = String::new();
+            push_text(&mut relation, name)?;
+            let values = self.row()?;
+            push(&mut facts, Fact { relation, values })?;
+        }
+        self.word("\n")?;
+        Ok(facts)
     }
-    Some((found, rest.strip_prefix('\n')?))
-}
 
-/// An answer behind the place of its statement, and what stands behind it.
-fn answer(text: &str) -> Option<(Answer, &str)> {
-    let (_place, said) = text.split_once(' ')?;
-    if let Some(count) = said.strip_prefix("count ") {
-        let (number, rest) = count.split_once('\n')?;
-        return Some((Answer::Count(number.parse().ok()?), rest));
+    /// Reads an answer, behind the number of its statement.
+    fn answer(&mut self) -> Read<Answer> {
+        let _statement = self.before(' ')?;
+        if self.has("count ") {
+            return Ok(Answer::Count(self.last_number()?));
+        }
+        if self.has("set ") {
+            let value = self.value()?;
+            self.word("\n")?;
+            return Ok(Answer::Set(value));
+        }
+        if self.has("rows ") {
+            let count = self.last_number()?;
+            return Ok(Answer::Rows(self.rows(count)?));
+        }
+        self.word("answer")?;
+        Ok(Answer::Entangled(self.facts()?))
     }
-    if let Some(set) = said.strip_prefix("set ") {
-        let (found, rest) = value(set)?;
-        return Some((Answer::Set(found), rest.strip_prefix('\n')?));
-    }
-    if let Some(listed) = said.strip_prefix("rows ") {
-        let (number, rest) = listed.split_once('\n')?;
-        let (found, rest) = rows(number.parse().ok()?, rest)?;
-        return Some((Answer::Rows(found), rest));
-    }
-    let (found, rest) = facts(said.strip_prefix("answer")?)?;
-    Some((Answer::Entangled(found), rest))
 }
 
 /// The answers that lines of a report say, in order of their statements.
-pub(crate) fn answers_in(lines: &str) -> Option<Vec<Answer>> {
-    let (mut found, mut rest) = (Vec::new(), lines);
-    while !rest.is_empty() {
-        let (next, behind) = answer(rest)?;
-        found.push(next);
-        rest = behind;
+pub(crate) fn answers_in(lines: &str) -> Read<Vec<Answer>> {
+    let (mut answers, mut lines) = (Vec::new(), Lines { rest: lines });
+    while !lines.rest.is_empty() {
+        push(&mut answers, lines.answer()?)?;
     }
-    Some(found)
+    Ok(answers)
 }
 
 /// The rows of a table that lines of a report say.
-pub(crate) fn table_in(lines: &str) -> Option<Vec<Vec<Value>>> {
-    let (head, listed) = lines.split_once('\n')?;
-    let (found, rest) = rows(head.rsplit(' ').next()?.parse().ok()?, listed)?;
-    rest.is_empty().then_some(found)
+pub(crate) fn table_in(lines: &str) -> Read<Vec<Row>> {
+    let mut lines = Lines { rest: lines };
+    lines.word("table ")?;
+    let _name = lines.before(' ')?;
+    let count = lines.last_number()?;
+    let rows = lines.rows(count)?;
+    if lines.rest.is_empty() { Ok(rows) } else { Err(Unread::Strange) }
 }
 
 #[cfg(test)]
@@ -138,22 +202,32 @@ mod tests {
 
     #[test]
     fn lines_are_read_back() {
-        let text = |text: &str| Value::Text(text.to_string());
         let lines = "1 count 2\n2 set -7\n3 set 'it''s, (so)'\n4 rows 2\n(1, 'a')\n(2, 'b')\n5 answer R('x', 1) S(2)\n";
         let said = answers_in(lines).expect("these are lines of a report");
-        let fact = |relation: &str, values| Fact { relation: relation.to_string(), values };
+        let fact = |relation: &str, values: &[Value]| Fact { relation: relation.into(), values: values.to_vec() };
+        let facts = vec![fact("R", &["x".into(), 1.into()]), fact("S", &[2.into()])];
+        assert_eq!(facts[0].to_string(), "R('x', 1)");
         assert_eq!(
             said,
             [
                 Answer::Count(2),
                 Answer::Set(Value::Int(-7)),
-                Answer::Set(text("it's, (so)")),
-                Answer::Rows(vec![vec![Value::Int(1), text("a")], vec![Value::Int(2), text("b")]]),
-                Answer::Entangled(vec![fact("R", vec![text("x"), Value::Int(1)]), fact("S", vec![Value::Int(2)])]),
+                Answer::Set("it's, (so)".into()),
+                Answer::Rows(vec![vec![1.into(), "a".into()], vec![2.into(), "b".into()]]),
+                Answer::Entangled(facts),
             ]
         );
-        assert_eq!(table_in("table T 1\n(9223372036854775807)\n"), Some(vec![vec![Value::Int(i64::MAX)]]));
-        assert_eq!(table_in("table T 2\n(1)\n"), None);
-        assert_eq!(text("it's").to_string(), "'it''s'");
+        assert_eq!(table_in("table T 1\n(9223372036854775807)\n"), Ok(vec![vec![Value::Int(i64::MAX)]]));
+        assert_eq!(Value::from("it's").to_string(), "'it''s'");
+    }
+
+    #[test]
+    fn other_lines_are_strange() {
+        for lines in ["table T 2\n(1)\n", "table T 1\n(1)\n(2)\n", "table T 1\n(1x)\n", "table T 1\n('x)\n", "T 0\n"] {
+            assert_eq!(table_in(lines), Err(Unread::Strange), "{lines}");
+        }
+        for lines in ["1\n", "1 count x\n", "1 rows 1\n", "1 answer R\n", "1 answer R(1", "1 set 'a\n", "1 moved 2\n"] {
+            assert_eq!(answers_in(lines), Err(Unread::Strange), "{lines}");
+        }
     }
 }

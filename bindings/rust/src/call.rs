@@ -1,6 +1,8 @@
 //! The calls of the archive, made safely. All `unsafe` of this crate stands here.
 
-use crate::fault::{Fault, FaultKind, Place};
+use crate::fault::{Error, Fault, FaultKind, Place};
+use crate::library::fits;
+use std::collections::TryReserveError;
 use std::ptr::null_mut;
 
 /// What a call tells beside its text: `struct entangle_told` of `include/entangle.h`.
@@ -39,8 +41,13 @@ const OUT_OF_MEMORY: i32 = 3;
 /// How many bytes a text is given at first.
 const FIRST_CAPACITY: usize = 4096;
 
-// The functions that the archive defines, as `include/entangle.h` declares them. Nothing compares the two.
+// The functions that the archive defines, as `include/entangle.h` declares them. `tools/check bindings` compares their
+// names, and `about` the sizes of the structs; nothing compares the arguments.
 unsafe extern "C" {
+    fn ent_c_version(buffer: *mut u8, capacity: usize, told: *mut Told) -> i32;
+    fn ent_c_size_of_told() -> usize;
+    fn ent_c_size_of_position() -> usize;
+
     fn ent_c_report(
         input: *const u8,
         length: usize,
@@ -61,6 +68,15 @@ unsafe extern "C" {
         script: *const u8,
         length: usize,
         number: *mut u64,
+        told: *mut Told,
+    ) -> i32;
+
+    fn ent_c_explain_script(
+        manager: *mut *mut Opaque,
+        script: *const u8,
+        length: usize,
+        buffer: *mut u8,
+        capacity: usize,
         told: *mut Told,
     ) -> i32;
 
@@ -97,6 +113,36 @@ unsafe extern "C" {
     fn ent_c_free(manager: *mut *mut Opaque);
 }
 
+/// What the library answers when it is asked what it is.
+pub(crate) struct About {
+    pub(crate) version: String,
+    /// Whether its structs are of the sizes that they have here.
+    pub(crate) has_these_sizes: bool,
+}
+
+/// Asks the library what it is.
+pub(crate) fn about() -> About {
+    let (mut text, mut told) = ([0; 256], Told::default());
+    // SAFETY: these calls take nothing.
+    let sizes = unsafe { (ent_c_size_of_told(), ent_c_size_of_position()) };
+    let has_these_sizes = sizes == (size_of::<Told>(), size_of::<Position>());
+    if has_these_sizes {
+        // SAFETY: the buffer's pointer and capacity are those of an array, and `told` is a struct of its own, of the
+        // size that the library writes. A call keeps no pointer.
+        unsafe { ent_c_version(text.as_mut_ptr(), text.len(), &mut told) };
+    }
+    let version = String::from_utf8_lossy(&text[..told.needed.min(text.len())]).into_owned();
+    About { version, has_these_sizes }
+}
+
+/// A buffer of so many bytes, if there is memory for it.
+fn buffer_of(length: usize) -> Result<Vec<u8>, TryReserveError> {
+    let mut buffer = Vec::new();
+    buffer.try_reserve_exact(length)?;
+    buffer.resize(length, 0);
+    Ok(buffer)
+}
+
 /// A call of the archive.
 #[derive(Clone, Copy)]
 pub(crate) enum Call {
@@ -106,22 +152,23 @@ pub(crate) enum Call {
     Check,
 }
 
-/// What a call answers: its text, where it has one, and its fault.
+/// What a call answers: its text, if it has one, and its fault.
 pub(crate) enum Outcome {
     Done(String),
-    /// The fault has the number 0 where the text is a verdict.
+    /// The fault has the number 0 if the text is a verdict.
     Refused(String, Fault),
-    OutOfMemory(Fault),
 }
 
 impl Call {
-    /// Makes the call, again with a larger buffer where the first one was too short.
-    pub(crate) fn answer(self, input: &[u8]) -> Outcome {
-        let mut text = vec![0; FIRST_CAPACITY.max(2 * input.len())];
+    /// Makes the call, again with a larger buffer if the first one was too short.
+    pub(crate) fn answer(self, input: &[u8]) -> Result<Outcome, Fault> {
+        fits();
+        let mut text = buffer_of(FIRST_CAPACITY.max(input.len().saturating_mul(2)))?;
         loop {
             let (status, told) = self.make(input, &mut text);
             if told.needed > text.len() {
-                text = vec![0; told.needed];
+                drop(text);
+                text = buffer_of(told.needed)?;
                 continue;
             }
             text.truncate(told.needed);
@@ -154,30 +201,23 @@ fn fault_of(kind: FaultKind, told: Told) -> Fault {
     Fault { code: told.code, kind, place }
 }
 
-fn outcome_of(status: i32, text: Vec<u8>, told: Told) -> Outcome {
+fn outcome_of(status: i32, text: Vec<u8>, told: Told) -> Result<Outcome, Fault> {
     let text = String::from_utf8(text).expect("each text of the archive is UTF-8");
     match status {
-        DONE => Outcome::Done(text),
-        REFUSED => Outcome::Refused(text, fault_of(FaultKind::Refused, told)),
-        OUT_OF_MEMORY => Outcome::OutOfMemory(fault_of(FaultKind::OutOfMemory, told)),
+        DONE => Ok(Outcome::Done(text)),
+        REFUSED => Ok(Outcome::Refused(text, fault_of(FaultKind::Refused, told))),
+        OUT_OF_MEMORY => Err(Fault::OUT_OF_MEMORY),
         other => unreachable!("no call with these arguments answers {other}"),
     }
 }
 
-/// Why a manager's call does nothing.
-pub(crate) enum Refusal {
-    /// The manager isn't of the state that the call wants: open, or closed.
-    Misused,
-    Fault(Fault),
-}
-
-/// What a status says, where what is told has the fault.
-fn status_said(status: i32, told: Told) -> Result<(), Refusal> {
+/// What a status says, if what is told has the fault.
+fn status_said(status: i32, told: Told) -> Result<(), Error> {
     match status {
         DONE => Ok(()),
-        REFUSED => Err(Refusal::Fault(fault_of(FaultKind::Refused, told))),
-        MISUSED => Err(Refusal::Misused),
-        OUT_OF_MEMORY => Err(Refusal::Fault(Fault { code: 900, ..fault_of(FaultKind::OutOfMemory, told) })),
+        REFUSED => Err(fault_of(FaultKind::Refused, told).into()),
+        MISUSED => Err(Error::State),
+        OUT_OF_MEMORY => Err(Fault::OUT_OF_MEMORY.into()),
         other => unreachable!("no call with these arguments answers {other}"),
     }
 }
@@ -196,90 +236,113 @@ unsafe impl Send for Handle {}
 // from every other call; slices by their pointers and lengths, none of which is null or has 2^63 bytes; and structs of
 // its own frame, laid out as in C. No call keeps a pointer of what it is passed.
 impl Handle {
-    pub(crate) fn open(input: &[u8]) -> Result<Self, Refusal> {
+    pub(crate) fn open(input: &[u8]) -> Result<Self, Error> {
+        fits();
         let (mut handle, mut told) = (Handle { at: null_mut() }, Told::default());
         // SAFETY: as said above.
         let status = unsafe { ent_c_open(&mut handle.at, input.as_ptr(), input.len(), &mut told) };
         status_said(status, told).map(|()| handle)
     }
 
-    pub(crate) fn submit(&mut self, script: &[u8]) -> Result<u64, Refusal> {
+    pub(crate) fn submit(&mut self, script: &[u8]) -> Result<u64, Error> {
         let (mut number, mut told) = (0, Told::default());
         // SAFETY: as said above.
         let status = unsafe { ent_c_submit(&mut self.at, script.as_ptr(), script.len(), &mut number, &mut told) };
         status_said(status, told).map(|()| number)
     }
 
-    pub(crate) fn run(&mut self) -> Result<(), Refusal> {
+    /// What is said of the fault of a script, if it has one.
+    pub(crate) fn explain(&mut self, script: &[u8]) -> Result<Option<String>, Error> {
+        let (status, text, _) = self.buffered(|at, buffer, told| {
+            // SAFETY: as said above.
+            unsafe { ent_c_explain_script(at, script.as_ptr(), script.len(), buffer.as_mut_ptr(), buffer.len(), told) }
+        })?;
+        match status {
+            REFUSED => Ok(Some(text)),
+            status => status_said(status, Told::default()).map(|()| None),
+        }
+    }
+
+    pub(crate) fn run(&mut self) -> Result<(), Error> {
         // SAFETY: as said above.
         status_said(unsafe { ent_c_run(&mut self.at) }, Told::default())
     }
 
-    pub(crate) fn make(&mut self, step: u32, number: u64) -> Result<u32, Refusal> {
+    pub(crate) fn make(&mut self, step: u32, number: u64) -> Result<u32, Error> {
         let mut reply = 0;
         // SAFETY: as said above.
         let status = unsafe { ent_c_make(&mut self.at, step, number, &mut reply) };
         status_said(status, Told::default()).map(|()| reply)
     }
 
-    pub(crate) fn why(&mut self, number: u64) -> Result<String, Refusal> {
+    pub(crate) fn why(&mut self, number: u64) -> Result<String, Error> {
         self.text(|at, buffer, told| {
             // SAFETY: as said above.
             unsafe { ent_c_why(at, number, buffer.as_mut_ptr(), buffer.len(), told) }
         })
     }
 
-    pub(crate) fn standing(&mut self, number: u64) -> Result<Position, Refusal> {
+    pub(crate) fn standing(&mut self, number: u64) -> Result<Position, Error> {
         let mut position = Position::default();
         // SAFETY: as said above.
         let status = unsafe { ent_c_standing(&mut self.at, number, &mut position) };
         status_said(status, Told { code: 401, ..Told::default() }).map(|()| position)
     }
 
-    pub(crate) fn close(&mut self) -> Result<(), Refusal> {
+    pub(crate) fn close(&mut self) -> Result<(), Error> {
         // SAFETY: as said above.
         status_said(unsafe { ent_c_close(&mut self.at) }, Told { code: 405, ..Told::default() })
     }
 
-    pub(crate) fn renew(&mut self) -> Result<(), Refusal> {
+    pub(crate) fn renew(&mut self) -> Result<(), Error> {
         // SAFETY: as said above.
         status_said(unsafe { ent_c_renew(&mut self.at) }, Told { code: 407, ..Told::default() })
     }
 
-    pub(crate) fn answers(&mut self, number: u64) -> Result<String, Refusal> {
+    pub(crate) fn answers(&mut self, number: u64) -> Result<String, Error> {
         self.text(|at, buffer, told| {
             // SAFETY: as said above.
             unsafe { ent_c_answers(at, number, buffer.as_mut_ptr(), buffer.len(), told) }
         })
     }
 
-    pub(crate) fn table(&mut self, name: &[u8]) -> Result<String, Refusal> {
+    pub(crate) fn table(&mut self, name: &[u8]) -> Result<String, Error> {
         self.text(|at, buffer, told| {
             // SAFETY: as said above.
             unsafe { ent_c_table(at, name.as_ptr(), name.len(), buffer.as_mut_ptr(), buffer.len(), told) }
         })
     }
 
-    pub(crate) fn report(&mut self, version: u32) -> Result<String, Refusal> {
+    pub(crate) fn report(&mut self, version: u32) -> Result<String, Error> {
         self.text(|at, buffer, told| {
             // SAFETY: as said above.
             unsafe { ent_c_closed_report(at, version, buffer.as_mut_ptr(), buffer.len(), told) }
         })
     }
 
-    /// The text that a call hands out, which is made again where the first buffer was too short.
-    fn text(&mut self, call: impl Fn(&mut *mut Opaque, &mut [u8], &mut Told) -> i32) -> Result<String, Refusal> {
-        let mut text = vec![0; FIRST_CAPACITY];
+    /// The text that a call hands out.
+    fn text(&mut self, call: impl Fn(&mut *mut Opaque, &mut [u8], &mut Told) -> i32) -> Result<String, Error> {
+        let (status, text, told) = self.buffered(call)?;
+        status_said(status, told).map(|()| text)
+    }
+
+    /// The status of a call, its text and what is told. It is made again if the first buffer was too short.
+    fn buffered(
+        &mut self,
+        call: impl Fn(&mut *mut Opaque, &mut [u8], &mut Told) -> i32,
+    ) -> Result<(i32, String, Told), Error> {
+        let mut text = buffer_of(FIRST_CAPACITY)?;
         loop {
             let mut told = Told::default();
             let status = call(&mut self.at, &mut text, &mut told);
             if told.needed > text.len() {
-                text = vec![0; told.needed];
+                drop(text);
+                text = buffer_of(told.needed)?;
                 continue;
             }
-            status_said(status, told)?;
             text.truncate(told.needed);
-            return Ok(String::from_utf8(text).expect("each text of the archive is UTF-8"));
+            let text = String::from_utf8(text).expect("each text of the archive is UTF-8");
+            return Ok((status, text, told));
         }
     }
 }

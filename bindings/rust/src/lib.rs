@@ -17,7 +17,7 @@
 //! # Ok::<(), entangle::Fault>(())
 //! ```
 //!
-//! A [`Fault`] says where an input is wrong, and can be explained:
+//! A [`Fault`] says where an input is wrong, and is explained by [`explain`]; that of a script by [`Manager::explain`].
 //!
 //! ```
 //! use entangle::{Version, explain, report};
@@ -34,18 +34,23 @@
 mod answer;
 mod call;
 mod fault;
+mod library;
 mod manager;
 mod step;
+mod value;
 
-pub use answer::{Answer, Fact, Value};
-pub use fault::{Fault, FaultKind, Place};
-pub use manager::{Error, Failure, Fate, Manager, Shared, Standing, Tx};
+pub use answer::{Answer, Fact};
+pub use fault::{Error, Fault, FaultKind, Place};
+pub use library::library_version;
+pub use manager::{Failure, Fate, Manager, Shared, Standing, Tx};
 pub use step::{Reply, Step};
+pub use value::{Row, Value, WrongKind};
 
 use call::{Call, Outcome};
 
 /// Which text a report has.
 #[derive(Clone, Copy, Debug, Default, PartialEq, Eq, Hash)]
+#[non_exhaustive]
 pub enum Version {
     /// Version 1: fates, answers, joint answers and tables.
     #[default]
@@ -79,6 +84,7 @@ pub enum Verdict {
 
 /// The rules of a report, in the order in which they are judged.
 #[derive(Clone, Copy, Debug, PartialEq, Eq, Hash)]
+#[non_exhaustive]
 pub enum Rule {
     /// The text is no report.
     Form,
@@ -122,20 +128,20 @@ pub fn report(input: &str, version: Version) -> Result<String, Fault> {
     report_of_bytes(input.as_bytes(), version)
 }
 
-/// The report of an input that may not be UTF-8, which is a fault of its own ([`FaultKind::Refused`], E100).
+/// The report of bytes that may not be UTF-8, which is a fault of its own ([`FaultKind::Refused`], E100).
 ///
 /// # Errors
 ///
 /// The first fault of the input; or that memory ran out.
 pub fn report_of_bytes(input: &[u8], version: Version) -> Result<String, Fault> {
-    match Call::Report(version.number()).answer(input) {
+    match Call::Report(version.number()).answer(input)? {
         Outcome::Done(text) => Ok(text),
-        Outcome::Refused(_, fault) | Outcome::OutOfMemory(fault) => Err(fault),
+        Outcome::Refused(_, fault) => Err(fault),
     }
 }
 
 /// What is said of the fault of an input, as `entangle run --explain` says it: several lines, with their ends. `None`
-/// where the input has no fault; its scripts were run to find that out, so ask only where [`report`] failed.
+/// if the input has no fault; its scripts were run to find that out, so ask only if [`report`] failed.
 ///
 /// # Errors
 ///
@@ -150,10 +156,9 @@ pub fn explain(input: &str) -> Result<Option<String>, Fault> {
 ///
 /// Memory ran out.
 pub fn explain_bytes(input: &[u8]) -> Result<Option<String>, Fault> {
-    match Call::Explain.answer(input) {
+    match Call::Explain.answer(input)? {
         Outcome::Done(_) => Ok(None),
         Outcome::Refused(text, _) => Ok(Some(text)),
-        Outcome::OutOfMemory(fault) => Err(fault),
     }
 }
 
@@ -181,11 +186,10 @@ pub fn check(report: &str) -> Result<Verdict, Fault> {
 ///
 /// The report is too long (E603); or memory ran out.
 pub fn check_bytes(report: &[u8]) -> Result<Verdict, Fault> {
-    match Call::Check.answer(report) {
+    match Call::Check.answer(report)? {
         Outcome::Done(_) => Ok(Verdict::Yes),
         Outcome::Refused(_, fault) if fault.code != 0 => Err(fault),
         Outcome::Refused(text, _) => Ok(verdict_in(&text).expect("a verdict is `no`, a line and a rule")),
-        Outcome::OutOfMemory(fault) => Err(fault),
     }
 }
 

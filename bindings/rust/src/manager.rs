@@ -1,47 +1,19 @@
 //! Managers: tables that stay, scripts that come one by one, and runs.
 
-use crate::answer::{Answer, Value, answers_in, table_in};
-use crate::call::{Handle, Position, Refusal};
+use crate::answer::{Answer, Unread, answers_in, table_in};
+use crate::call::{Handle, Position};
+use crate::fault::{Error, Fault};
 use crate::step::{Reply, Step};
-use crate::{Fault, Version};
-use std::error::Error as StandardError;
+use crate::{Row, Version};
 use std::fmt;
 use std::sync::{Mutex, MutexGuard, PoisonError};
-
-/// Why a call of a manager does nothing.
-#[derive(Clone, Copy, Debug, PartialEq, Eq, Hash)]
-pub enum Error {
-    /// The text that was handed in is refused, it isn't there, or memory ran out.
-    Fault(Fault),
-    /// The manager is closed; or, for a report or a renewal, it isn't.
-    State,
-}
-
-impl fmt::Display for Error {
-    fn fmt(&self, f: &mut fmt::Formatter<'_>) -> fmt::Result {
-        match self {
-            Error::Fault(fault) => fault.fmt(f),
-            Error::State => f.write_str("the manager is closed; or, for a report or a renewal, it isn't"),
-        }
-    }
-}
-
-impl StandardError for Error {}
-
-impl From<Refusal> for Error {
-    fn from(refusal: Refusal) -> Self {
-        match refusal {
-            Refusal::Misused => Error::State,
-            Refusal::Fault(fault) => Error::Fault(fault),
-        }
-    }
-}
 
 /// The number of a transaction: its script's place in the order of submission, from 1.
 pub type Tx = u64;
 
 /// What became of a transaction.
 #[derive(Clone, Copy, Debug, PartialEq, Eq, Hash)]
+#[non_exhaustive]
 pub enum Fate {
     /// It committed, as the one of this number.
     Committed {
@@ -71,6 +43,7 @@ pub enum Fate {
 
 /// Why a statement failed.
 #[derive(Clone, Copy, Debug, PartialEq, Eq, Hash)]
+#[non_exhaustive]
 pub enum Failure {
     /// F1: a sum or a difference went beyond 64 bits.
     Overflow,
@@ -78,8 +51,19 @@ pub enum Failure {
     TableFull,
 }
 
+impl Failure {
+    fn numbered(number: u32) -> Self {
+        match number {
+            1 => Failure::Overflow,
+            2 => Failure::TableFull,
+            other => unreachable!("a statement fails in one of two ways, and {other} isn't one"),
+        }
+    }
+}
+
 /// Where a transaction stands.
 #[derive(Clone, Copy, Debug, PartialEq, Eq, Hash)]
+#[non_exhaustive]
 pub enum Standing {
     /// It waits for a run, after so many.
     Waiting {
@@ -102,7 +86,8 @@ impl Standing {
             6 => Fate::Committed { number, runs },
             7 => Fate::GaveUp { runs },
             8 => Fate::RolledBack { runs },
-            _ => Fate::Failed { failure: if failure == 1 { Failure::Overflow } else { Failure::TableFull }, runs },
+            9 => Fate::Failed { failure: Failure::numbered(failure), runs },
+            other => unreachable!("a transaction stands in one of nine ways, and {other} isn't one"),
         };
         Standing::Finished(fate)
     }
@@ -116,10 +101,18 @@ impl Standing {
     }
 }
 
+/// What was read of lines of a report, which the library wrote.
+fn read<T>(read: Result<T, Unread>) -> Result<T, Error> {
+    read.map_err(|unread| match unread {
+        Unread::OutOfMemory => Fault::OUT_OF_MEMORY.into(),
+        Unread::Strange => unreachable!("the library writes lines of a report"),
+    })
+}
+
 /// Tables, and the scripts that were submitted over them. Each run lets those that wait take part, 64 at most.
 ///
 /// ```
-/// use entangle::{Answer, Fate, Manager, Value, Version};
+/// use entangle::{Answer, Fate, Manager, Version};
 ///
 /// let mut manager = Manager::open("CREATE TABLE Flights (fno INT); INSERT INTO Flights VALUES (122);")?;
 /// let script = |who: &str, friend: &str| {
@@ -138,7 +131,7 @@ impl Standing {
 /// manager.run()?;
 /// assert_eq!(manager.standing(minnie)?.fate(), Some(Fate::Committed { number: 2, runs: 1 }));
 /// let Answer::Entangled(facts) = &manager.answers(mickey)?[0] else { unreachable!() };
-/// assert_eq!(facts[0].values, [Value::Text("Mickey".into()), Value::Int(122)]);
+/// assert!(facts[0].values[0] == "Mickey" && facts[0].values[1] == 122);
 ///
 /// manager.close()?;
 /// assert!(manager.report(Version::One)?.contains("joint 1 1.1 2.1\n"));
@@ -182,7 +175,48 @@ impl Manager {
     /// The script's first fault, with its place in this text; that 10,000 scripts were submitted (E406); or that memory
     /// ran out.
     pub fn submit(&mut self, script: &str) -> Result<Tx, Error> {
-        Ok(self.handle.submit(script.as_bytes())?)
+        self.submit_bytes(script.as_bytes())
+    }
+
+    /// As [`Manager::submit`], for bytes that may not be UTF-8.
+    ///
+    /// # Errors
+    ///
+    /// As [`Manager::submit`].
+    pub fn submit_bytes(&mut self, script: &[u8]) -> Result<Tx, Error> {
+        self.handle.submit(script)
+    }
+
+    /// What is said of the fault of a script, as [`explain`](crate::explain) says it of an input: the line that names
+    /// it, its line and column in this text, a sentence, the line with carets below the place, and often a hint. `None`
+    /// if the script has no fault. Nothing is submitted; so ask if [`Manager::submit`] refused the script.
+    ///
+    /// ```
+    /// let mut manager = entangle::Manager::open("CREATE TABLE Flights (fno INT);")?;
+    /// let script = "BEGIN TRANSACTION;\nINSERT INTO Flight VALUES (122);\nCOMMIT;";
+    /// assert!(manager.submit(script).is_err());
+    /// let said = "E301 at 31\n\
+    ///     line 2, column 13: there is no table Flight\n  \
+    ///     INSERT INTO Flight VALUES (122);\n              ^^^^^^\n\
+    ///     did you mean Flights?\n";
+    /// assert_eq!(manager.explain(script)?.as_deref(), Some(said));
+    /// # Ok::<(), entangle::Error>(())
+    /// ```
+    ///
+    /// # Errors
+    ///
+    /// The manager is closed; or memory ran out.
+    pub fn explain(&mut self, script: &str) -> Result<Option<String>, Error> {
+        self.explain_bytes(script.as_bytes())
+    }
+
+    /// As [`Manager::explain`], for bytes that may not be UTF-8.
+    ///
+    /// # Errors
+    ///
+    /// As [`Manager::explain`].
+    pub fn explain_bytes(&mut self, script: &[u8]) -> Result<Option<String>, Error> {
+        self.handle.explain(script)
     }
 
     /// Makes one run, where anything waits for one. Where a run is on, by [`Manager::step`] or since memory ran out,
@@ -192,7 +226,7 @@ impl Manager {
     ///
     /// Memory ran out; what was done stands, and the next call goes on.
     pub fn run(&mut self) -> Result<(), Error> {
-        Ok(self.handle.run()?)
+        self.handle.run()
     }
 
     /// Makes one event, for a caller that orders those of a run itself.
@@ -234,8 +268,7 @@ impl Manager {
     ///
     /// No script has this number (E401); or memory ran out.
     pub fn answers(&mut self, tx: Tx) -> Result<Vec<Answer>, Error> {
-        let lines = self.handle.answers(tx)?;
-        Ok(answers_in(&lines).expect("the lines of a report are answers"))
+        read(answers_in(&self.handle.answers(tx)?))
     }
 
     /// The lines in which a report has these answers.
@@ -244,7 +277,7 @@ impl Manager {
     ///
     /// As [`Manager::answers`].
     pub fn answer_lines(&mut self, tx: Tx) -> Result<String, Error> {
-        Ok(self.handle.answers(tx)?)
+        self.handle.answers(tx)
     }
 
     /// The rows of a table, ascending.
@@ -252,9 +285,8 @@ impl Manager {
     /// # Errors
     ///
     /// No table has this name (E401); or memory ran out.
-    pub fn table(&mut self, name: &str) -> Result<Vec<Vec<Value>>, Error> {
-        let lines = self.handle.table(name.as_bytes())?;
-        Ok(table_in(&lines).expect("the lines of a report are a table"))
+    pub fn table(&mut self, name: &str) -> Result<Vec<Row>, Error> {
+        read(table_in(&self.handle.table(name.as_bytes())?))
     }
 
     /// Closes the manager, where every transaction has its fate. Then it is there for [`Manager::report`] and
@@ -264,7 +296,7 @@ impl Manager {
     ///
     /// A run is on, or a transaction waits for one (E405); or memory ran out. The manager stays open.
     pub fn close(&mut self) -> Result<(), Error> {
-        Ok(self.handle.close()?)
+        self.handle.close()
     }
 
     /// Opens a manager that is closed again: over the same tables, with the rows that they ended with. No script is
@@ -275,7 +307,7 @@ impl Manager {
     /// The manager isn't closed; or more than 65,536 rows stand in the tables together (E407), or memory ran out: then
     /// it stays closed.
     pub fn renew(&mut self) -> Result<(), Error> {
-        Ok(self.handle.renew()?)
+        self.handle.renew()
     }
 
     /// The report of a manager that is closed.
@@ -284,7 +316,7 @@ impl Manager {
     ///
     /// The manager isn't closed; or memory ran out.
     pub fn report(&mut self, version: Version) -> Result<String, Error> {
-        Ok(self.handle.report(version.number())?)
+        self.handle.report(version.number())
     }
 }
 

@@ -4,6 +4,7 @@ use crate::manager::Tx;
 
 /// What a caller asks for who orders the events of a run itself. The job that an event lends is carried out within it.
 #[derive(Clone, Copy, Debug, PartialEq, Eq, Hash)]
+#[non_exhaustive]
 pub enum Step {
     /// A run starts.
     StartRun,
@@ -32,6 +33,7 @@ impl Step {
 
 /// The reply to a [`Step`].
 #[derive(Clone, Copy, Debug, PartialEq, Eq, Hash)]
+#[non_exhaustive]
 pub enum Reply {
     /// A run is on.
     Started,

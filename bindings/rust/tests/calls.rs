@@ -1,7 +1,7 @@
-//! What the calls promise beside the rows: places, long reports, and many threads.
+//! What the calls promise beside the rows: places, long reports, errors, conversions and many threads.
 
 use entangle::{Error, Failure, Fate, FaultKind, Manager, Place, Reply, Shared, Standing, Step, Value, Version};
-use entangle::{check, explain, report, report_of_bytes};
+use entangle::{WrongKind, check, check_bytes, explain, explain_bytes, report, report_of_bytes};
 use std::error::Error as StandardError;
 use std::thread;
 
@@ -63,10 +63,7 @@ const TABLE: &str = "CREATE TABLE T (a INT);";
 
 /// The number of the fault of an error.
 fn code_of(error: Error) -> u16 {
-    match error {
-        Error::Fault(fault) => fault.code,
-        Error::State => 0,
-    }
+    error.fault().map_or(0, |fault| fault.code)
 }
 
 #[test]
@@ -104,6 +101,129 @@ fn a_refused_call_changes_nothing() {
     manager.close().expect("all have their fates");
     assert_eq!(manager.run(), Err(Error::State));
     assert!(manager.report(Version::Two).is_ok_and(|told| check(&told).is_ok()));
+}
+
+#[test]
+fn a_refused_script_is_explained_in_its_own_lines() {
+    let mut manager = Manager::open("CREATE TABLE Flights (fno INT, dest TEXT);").expect("the table is right");
+    let said = |manager: &mut Manager, script: &str| {
+        let fault = manager.submit(script).unwrap_err().fault().expect("the script is refused");
+        let said = manager.explain(script).expect("memory is there").expect("the script has a fault");
+        assert_eq!(said.lines().next(), Some(fault.to_string().as_str()));
+        let Place { line, column, .. } = fault.place.expect("it has a place");
+        assert!(said.contains(&format!("\nline {line}, column {column}: ")), "{said}");
+        said
+    };
+    let wrong_column =
+        said(&mut manager, "BEGIN TRANSACTION;\n-- 東\nSELECT fno FROM Flights WHERE dst = 'LA';\nCOMMIT;");
+    assert!(wrong_column.starts_with("E302 at 56\nline 3, column 31: Flights has no column dst\n"), "{wrong_column}");
+    assert!(wrong_column.ends_with("\n                                ^^^\ndid you mean dest?\n"), "{wrong_column}");
+    let two = said(&mut manager, "BEGIN TRANSACTION; COMMIT;\nBEGIN TRANSACTION; COMMIT;");
+    assert!(two.contains("line 2, column 1: BEGIN can't stand here: expected the end of the script\n"), "{two}");
+    let open = said(&mut manager, "BEGIN TRANSACTION");
+    assert!(open.contains("line 1, column 18: the script ends here, and ; or WITHIN is missing\n"), "{open}");
+    assert_eq!(manager.explain("BEGIN TRANSACTION; COMMIT;"), Ok(None));
+    assert!(
+        manager.explain_bytes(b"BEGIN \xff").is_ok_and(|said| said.is_some_and(|said| said.starts_with("E100 at 6")))
+    );
+    assert_eq!(manager.submit_bytes(b"BEGIN \xff").map_err(code_of), Err(100));
+    assert_eq!(manager.submit("BEGIN TRANSACTION; COMMIT;"), Ok(1));
+    manager.run().expect("memory is there");
+    manager.close().expect("all have their fates");
+    assert_eq!(manager.explain("BEGIN"), Err(Error::State));
+}
+
+#[test]
+fn each_error_says_what_it_is() {
+    let mut manager = Manager::open(TABLE).expect("the table is right");
+    let refused = manager.submit("BEGIN TRANSACTION;\n INSERT INTO U VALUES (1); COMMIT;").unwrap_err();
+    assert_eq!(refused.to_string(), "the text is refused at line 2, column 14");
+    assert_eq!(refused.source().map(ToString::to_string).as_deref(), Some("E301 at 32"));
+    assert_eq!(refused.source().and_then(|source| source.downcast_ref()), refused.fault().as_ref());
+    let absent = manager.table("U").unwrap_err();
+    assert_eq!(
+        (absent.to_string().as_str(), code_of(absent)),
+        ("no script has this number, or no table this name", 401)
+    );
+    assert_eq!(manager.report(Version::One).unwrap_err().to_string(), Error::State.to_string());
+    assert!(Error::State.source().is_none() && Error::State.fault().is_none());
+    for _ in 0..10_000 {
+        manager.submit("BEGIN TRANSACTION; COMMIT;").expect("there are few scripts");
+    }
+    let full = manager.submit("BEGIN TRANSACTION; COMMIT;").unwrap_err();
+    assert_eq!((full.to_string().as_str(), code_of(full)), ("10,000 scripts were submitted", 406));
+    let busy = manager.close().unwrap_err();
+    assert_eq!((busy.to_string().as_str(), code_of(busy)), ("a run is on, or a transaction waits for one", 405));
+    let long = Manager::open(&" ".repeat(16_777_217)).unwrap_err();
+    assert_eq!((long.to_string().as_str(), code_of(long)), ("the call is refused", 105));
+    let fault = report("CREATE", Version::One).unwrap_err();
+    assert_eq!(Error::from(fault), Error::Fault(fault));
+    let asked = || -> Result<String, Error> { Ok(report("CREATE", Version::One)?) };
+    assert_eq!(asked().map_err(code_of), Err(201));
+}
+
+#[test]
+fn tables_with_too_many_rows_are_not_renewed() {
+    let rows = |table: &str| (0..32_768).map(|row| format!("INSERT INTO {table} VALUES ({row});")).collect::<String>();
+    let tables = format!("CREATE TABLE T (a INT); CREATE TABLE U (a INT);{}{}", rows("T"), rows("U"));
+    let mut manager = Manager::open(&tables).expect("there are just few enough rows");
+    manager.submit("BEGIN TRANSACTION; INSERT INTO T VALUES (-1); COMMIT;").expect("the script is right");
+    manager.run().expect("memory is there");
+    manager.close().expect("all have their fates");
+    let error = manager.renew().unwrap_err();
+    assert_eq!((error.to_string().as_str(), code_of(error)), ("the tables have more than 65,536 rows together", 407));
+}
+
+#[test]
+#[allow(clippy::cmp_owned, clippy::op_ref)] // each comparison is tried
+fn values_are_made_and_compared() {
+    assert_eq!([Value::from(1), Value::from(1_i64), Value::from(1_u32)], [Value::Int(1), Value::Int(1), Value::Int(1)]);
+    assert_eq!([Value::from("a"), Value::from(String::from("a"))], [Value::Text("a".into()), Value::Text("a".into())]);
+    let (number, text) = (Value::from(7), Value::from("it's"));
+    let equal = [number == 7, 7 == number, text == "it's", "it's" == text, text == *"it's", *"it's" == text];
+    let unequal = [number == 8, 8 == number, number == "7", "7" == number, text == 7, 7 == text, text == "its"];
+    assert_eq!((equal, unequal), ([true; 6], [false; 7]));
+    assert_eq!([text == String::from("it's"), String::from("it's") == text], [true; 2]);
+    assert!(Value::Int(i64::MAX) < Value::from("") && Value::from("a") < Value::from("b"));
+    assert_eq!((number.as_int(), number.as_text(), text.as_int(), text.as_text()), (Some(7), None, None, Some("it's")));
+    assert_eq!((i64::try_from(&number), i64::try_from(number.clone())), (Ok(7), Ok(7)));
+    assert_eq!((<&str>::try_from(&text), String::try_from(text.clone())), (Ok("it's"), Ok("it's".to_string())));
+    let wrong: [Result<(), WrongKind>; 4] = [
+        i64::try_from(&text).map(|_| ()),
+        i64::try_from(text.clone()).map(|_| ()),
+        <&str>::try_from(&number).map(|_| ()),
+        String::try_from(number.clone()).map(|_| ()),
+    ];
+    let words = wrong.map(|wrong| wrong.unwrap_err().to_string());
+    assert_eq!(
+        words[0..2],
+        ["the value is a text, and a number is wanted", "the value is a text, and a number is wanted"]
+    );
+    assert_eq!(
+        words[2..4],
+        ["the value is a number, and a text is wanted", "the value is a number, and a text is wanted"]
+    );
+    assert_eq!((number.to_string(), text.to_string()), ("7".to_string(), "'it''s'".to_string()));
+}
+
+#[test]
+fn bytes_are_taken_as_texts_are() {
+    assert_eq!(
+        explain_bytes(b"-- \xff").map(|said| said.is_some_and(|said| said.starts_with("E100 at 3\n"))),
+        Ok(true)
+    );
+    assert!(check_bytes(b"\xff").is_ok_and(|verdict| verdict != entangle::Verdict::Yes));
+    assert!(matches!(Manager::open_bytes(b"\xff").map_err(code_of), Err(100)));
+}
+
+#[test]
+fn what_may_be_shared_is_shared() {
+    fn moves<T: Send>() {}
+    fn is_shared<T: Send + Sync>() {}
+    moves::<Manager>();
+    is_shared::<Shared>();
+    is_shared::<Error>();
+    is_shared::<Value>();
 }
 
 #[test]

@@ -4,4 +4,5 @@ pub mod Told
 pub mod Calls
 pub mod Position
 pub mod Managers
+pub mod Explaining
 pub mod Moving

@@ -5,7 +5,8 @@ ghost use Rattle.ent_c.specs.Text.{IsSaidOf};
 ghost use Rattle.ent_engine.specs.Fault.{line_text};
 
 use ent_engine::{FaultLine, RunFault};
-use ent_fault_text::{InputFault, explain_fault, valid_text};
+use ent_fault_text::{Explanation, InputFault, explain_fault, explain_script_fault, valid_text};
+use ent_tree::Opening;
 use std::alloc::{AllocError, Global};
 
 /// What `entangle run --explain` says of a fault of these bytes: the line that names it, and below it, where the fault
@@ -17,9 +18,42 @@ pub(crate) fn explanation_of(
 ) -> Result<String, AllocError>
     ensures { IfOk result (λ text. IsSaidOf fault (string_bytes text)) }
 {
+    let explanation = match input_fault(fault) {
+        Some(fault) => Some(explain_fault(alloc, valid_text(input), fault)?),
+        None => None,
+    };
+    said(alloc, fault, explanation)
+}
+
+/// The same of a fault of a script, which stands alone in these bytes. The declared tables are those of an opening.
+pub(crate) fn script_explanation_of(
+    alloc: Global,
+    opening: &Opening,
+    script: &[u8],
+    fault: RunFault,
+) -> Result<String, AllocError>
+    ensures { IfOk result (λ text. IsSaidOf fault (string_bytes text)) }
+{
+    let explanation = match input_fault(fault) {
+        Some(fault) => Some(explain_script_fault(alloc, opening, valid_text(script), fault)?),
+        None => None,
+    };
+    said(alloc, fault, explanation)
+}
+
+/// The line that names a fault, and its explanation below that, if it has one.
+fn said(
+    alloc: Global,
+    fault: RunFault,
+    explanation: Option<Explanation<'_>>,
+) -> Result<String, AllocError>
+    ensures { IfOk result (λ text. IsSaidOf fault (string_bytes text)) }
+{
     let mut text = first_line(alloc, fault)?;
-    let rest = further_lines(alloc, input, fault)?;
-    text.push_str(rest.as_str())?;
+    if let Some(explanation) = explanation {
+        let rest = format!(in alloc; "{explanation}\n")?;
+        text.push_str(rest.as_str())?;
+    }
     Ok(text)
 }
 
@@ -31,16 +65,7 @@ fn first_line(alloc: Global, fault: RunFault) -> Result<String, AllocError>
     format!(in alloc; "{line}\n")
 }
 
-/// What is said below it.
-fn further_lines(alloc: Global, input: &[u8], fault: RunFault) -> Result<String, AllocError> {
-    let Some(fault) = input_fault(fault) else {
-        return Ok(String::new(alloc));
-    };
-    let explanation = explain_fault(alloc, valid_text(input), fault)?;
-    format!(in alloc; "{explanation}\n")
-}
-
-/// The fault of an input that is explained.
+/// The fault of an input or of a script that is explained.
 fn input_fault(fault: RunFault) -> Option<InputFault> {
     match fault {
         RunFault::NotUtf8(_) => Some(InputFault::NotUtf8),

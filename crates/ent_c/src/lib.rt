@@ -10,6 +10,7 @@ ghost use Rattle.std.specs.Prelude.{MatchOption};
 ghost use Rattle.ent_c.specs.Calls.{Checks, Explains, IsMisused, Reports};
 ghost use Rattle.ent_c.specs.Version.{version_numbered};
 
+mod about;
 mod buffer;
 mod explanation;
 mod handle;
@@ -17,6 +18,7 @@ mod manager;
 mod moving;
 mod position;
 mod report;
+mod script;
 mod told;
 mod verdict;
 mod version;
@@ -26,6 +28,7 @@ use crate::explanation::explanation_of;
 use crate::report::report_of;
 use crate::verdict::{Judged, judge, status_after};
 use crate::version::version_numbered;
+pub use about::{ent_c_size_of_position, ent_c_size_of_told, ent_c_version};
 use ent_engine::{ReportVersion, RunFault, status_of};
 pub use handle::Handle;
 pub use manager::{
@@ -34,6 +37,7 @@ pub use manager::{
 };
 pub use moving::{ent_c_make, ent_c_why};
 pub use position::Position;
+pub use script::ent_c_explain_script;
 use std::alloc::Global;
 pub use told::Told;
 

@@ -2,7 +2,7 @@
 
 use clap::builder::ValueParser;
 use clap::{Arg, ArgAction, ArgMatches, Command};
-use ent_engine::{DEFAULT_TRIES, ReportVersion, RunOptions};
+use ent_engine::{DEFAULT_TRIES, ReportVersion, RunOptions, VERSION};
 use std::alloc::{AllocError, Global};
 
 /// The most workers; with none the scripts are run on one thread.
@@ -16,9 +16,6 @@ const MOST_TRIES: u64 = 9;
 
 /// The greatest number of a transaction.
 const MOST_SCRIPTS: u64 = 10_000;
-
-/// What `--version` tells: the version, and the logic of the kit that the program is proved by.
-const VERSION: &str = "0.9.0, proved by logic dac8208d650f15bf";
 
 /// What stands below the list of options.
 const EXAMPLE: &str = "Example:

@@ -13,6 +13,7 @@ use Rattle.ent_protocol.specs.Reached.{CanClose, book_of}
 use Rattle.ent_protocol.specs.State.{State}
 use Rattle.ent_headline.specs.Resolved.{resolved_forms}
 use Rattle.ent_sched.specs.Onward.{LeadsOn}
+use Rattle.ent_tree.specs.declared.declaration.Opening.{Opening}
 use Rattle.ent_tree.specs.declared.script.Input.{Input}
 use Rattle.ent_engine.specs.Reading.{IsInput}
 use Rattle.ent_engine.specs.Report.{text_of}
@@ -31,6 +32,16 @@ abbrev pub OfOpen : Driver → DriverFault → (State → Type 0) → Type 0
 OfOpen (drivers.Open s) fault holds = holds s
 OfOpen drivers.Vacant fault holds = fault ≡ Vacant
 OfOpen (drivers.Closed book) fault holds = fault ≡ Vacant
+
+-- no core is open
+abbrev pub IsNotOpen : Driver → Type 0
+IsNotOpen (drivers.Open s) = ⊥
+IsNotOpen drivers.Vacant = Unit {0}
+IsNotOpen (drivers.Closed book) = Unit {0}
+
+-- a core with these declarations is open
+abbrev pub HasOpening : Driver → Opening → Type 0
+HasOpening driver opening = (s : State) × (driver ≡ drivers.Open s) × (opening ≡ s.opening)
 
 -- ---- opening, scripts and runs
 

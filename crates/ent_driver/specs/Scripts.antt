@@ -1,6 +1,9 @@
 -- Scripts that come in alone, and why they aren't taken.
 use Rattle.std.specs.Prelude.{◌≡◌, ℕ, List, Ok, Err}
+use Rattle.ent_tree.specs.declared.declaration.Opening.{Opening}
 use Rattle.ent_tree.specs.declared.script.Script.{Script}
+use Rattle.ent_closed.specs.declared.operand.Known.{Known}
+use Rattle.ent_closed.specs.declared.statement.Statement.{Statement}
 use Rattle.ent_sql.specs.Reading.{script_reading}
 use Rattle.ent_protocol.specs.Event.{Submit, Submitted, Full as IsFull, Faulty}
 use Rattle.ent_protocol.specs.State.{State}
@@ -28,6 +31,25 @@ IsNoScript bytes (Check fault) = ⊥
 IsNoScript bytes Differs = ⊥
 IsNoScript bytes ReadFault = ⊥
 IsNoScript bytes WriteFault = ⊥
+
+-- bytes that read as one script, which has a form over the tables of an opening
+abbrev pub HasForm : Opening → List ℕ → Type 0
+HasForm opening bytes =
+    (script : Script) × (form : List (Statement Known))
+    × IsScript bytes script × (resolved_forms.resolve opening script ≡ Ok form)
+
+-- the first fault of bytes that should be such a script: they are none, or it has this fault of form
+abbrev pub IsFaultOver : Opening → List ℕ → RunFault → Type 0
+IsFaultOver opening bytes (Form fault) =
+    (script : Script) × IsScript bytes script × (resolved_forms.resolve opening script ≡ Err fault)
+IsFaultOver opening bytes (Sql fault) = IsNoScript bytes (Sql fault)
+IsFaultOver opening bytes TooLong = IsNoScript bytes TooLong
+IsFaultOver opening bytes (NotUtf8 place) = IsNoScript bytes (NotUtf8 place)
+IsFaultOver opening bytes Memory = Unit {0}
+IsFaultOver opening bytes (Check fault) = ⊥
+IsFaultOver opening bytes Differs = ⊥
+IsFaultOver opening bytes ReadFault = ⊥
+IsFaultOver opening bytes WriteFault = ⊥
 
 -- the script of these bytes comes in, under this number
 abbrev pub Takes : List ℕ → State → ℕ → State → Type 0

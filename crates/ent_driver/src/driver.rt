@@ -1,11 +1,12 @@
 //! What stands behind a handle.
-ghost use Rattle.std.specs.Prelude.{◌≡◌, IfErr, IfOk, OnErr, OnOk};
+ghost use Rattle.std.specs.Prelude.{◌≡◌, IfErr, IfOk, IfSome, MatchOption, None, OnErr, OnOk};
 ghost use Rattle.ent_driver.specs.Drives.{Answers, Closes, IsNotClosed, IsUnanswered, Opens, Reports, Runs, StopsRun};
 ghost use Rattle.ent_driver.specs.Drives.{Shows, IsUnshown, Stands, StandsNowhere, Submits, IsNotSubmitted};
-ghost use Rattle.ent_driver.specs.Drives.{IsUnreported};
+ghost use Rattle.ent_driver.specs.Drives.{HasOpening, IsNotOpen, IsUnreported};
 ghost use Rattle.ent_driver.specs.Renewal.{IsNotRenewed, Renews};
 ghost use Rattle.ent_driver.specs.declared.fault.DriverFault.TheVariants.{Vacant};
 ghost use Rattle.ent_engine.specs.Reading.{IsRefused};
+ghost use Rattle.ent_form.specs.OpeningFault.{opening_fault};
 
 use crate::closing::close;
 use crate::fault::DriverFault;
@@ -17,6 +18,7 @@ use ent_core::{Core, NotClosed, NotDone, Standing};
 use ent_engine::{MOST_BYTES, ReportVersion, RunFault, parse_bytes, submit_all};
 use ent_group::Tx;
 use ent_renewal::FinishedBook;
+use ent_tree::Opening;
 use ent_value::Refusal;
 use std::alloc::Global;
 use std::mem::replace;
@@ -42,6 +44,21 @@ impl Driver {
         let input = parse_bytes(alloc, input)?;
         let core = submit_all(alloc, input)?;
         Ok(Driver::Open(core))
+    }
+
+    /// The declarations of the core that is open, which have no fault.
+    pub fn opening(&self) -> Option<&Opening>
+        ensures opening { MatchOption result (IsNotOpen self.now) (λ opening. HasOpening self.now opening.now) }
+        ensures formed { IfSome result (λ opening. opening_fault opening.now ≡ None) }
+    {
+        match self {
+            Driver::Open(core) => {
+                // A law: the opening has no fault of form.
+                core.is_reached();
+                Some(core.opening())
+            }
+            _ => None,
+        }
     }
 
     /// Takes a script by its text, which has this script alone, and answers its number. At a refusal nothing changes.

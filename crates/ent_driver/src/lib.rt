@@ -22,4 +22,4 @@ pub use driver::Driver;
 pub use ent_renewal::FinishedBook;
 pub use fault::DriverFault;
 pub use moves::{Move, reply_text};
-pub use script::read_script;
+pub use script::{examine, read_script};

@@ -1,15 +1,17 @@
 //! A script is taken, by its text alone.
-ghost use Rattle.std.specs.Prelude.{◌≡◌, IfErr, IfOk, OnErr};
-ghost use Rattle.ent_driver.specs.Scripts.{IsNoScript, IsNotTaken, IsScript, Takes};
+ghost use Rattle.std.specs.Prelude.{◌≡◌, IfErr, IfOk, None, OnErr, OnOk};
+ghost use Rattle.ent_driver.specs.Scripts.{HasForm, IsFaultOver, IsNoScript, IsNotTaken, IsScript, Takes};
+ghost use Rattle.ent_form.specs.OpeningFault.{opening_fault};
 ghost use Rattle.ent_protocol.specs.Reached.{book_of};
 ghost use Rattle.ent_semantics.specs.Book.{IsLegal};
 
 use crate::fault::DriverFault;
 use ent_core::{Core, Reply};
 use ent_engine::{MOST_BYTES, RunFault};
+use ent_form::{Catalogue, resolve};
 use ent_group::Tx;
 use ent_sql::parse_script;
-use ent_tree::Script;
+use ent_tree::{Opening, Script};
 use ent_value::Refusal;
 use std::alloc::Global;
 use std::str;
@@ -30,6 +32,25 @@ pub fn read_script(alloc: Global, bytes: &[u8]) -> Result<Script, RunFault>
         Ok(script) => Ok(script),
         Err(Refusal::Memory) => Err(RunFault::Memory),
         Err(Refusal::Fault(fault)) => Err(RunFault::Sql(fault)),
+    }
+}
+
+/// Whether bytes are one script without a fault over the tables of an opening; else their first fault.
+pub fn examine(alloc: Global, opening: &Opening, bytes: &[u8]) -> Result<(), RunFault>
+    requires { opening_fault opening.now ≡ None }
+    ensures ok { OnOk result (HasForm opening.now bytes.now) }
+    ensures refused { IfErr result (λ fault. IsFaultOver opening.now bytes.now fault) }
+{
+    let script = read_script(alloc, bytes)?;
+    let catalogue = match Catalogue::of(alloc, opening) {
+        Ok(catalogue) => catalogue,
+        Err(Refusal::Memory) => return Err(RunFault::Memory),
+        Err(Refusal::Fault(_)) => unreachable!(),
+    };
+    match resolve(alloc, &catalogue, &script) {
+        Ok(_) => Ok(()),
+        Err(Refusal::Memory) => Err(RunFault::Memory),
+        Err(Refusal::Fault(fault)) => Err(RunFault::Form(fault)),
     }
 }
 

@@ -15,6 +15,7 @@ mod parse;
 mod reader;
 mod runs;
 mod threads;
+mod version;
 mod workers;
 mod writer;
 
@@ -25,5 +26,6 @@ pub use options::{DEFAULT_TRIES, ReportVersion, RunOptions};
 pub use parse::parse_bytes;
 pub use reader::{MOST_BYTES, read_whole};
 pub use runs::submit_all;
+pub use version::VERSION;
 pub use workers::run_workers;
 pub use writer::write_book;

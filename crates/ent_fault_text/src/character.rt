@@ -75,11 +75,12 @@ fn unseen_character(scene: &Scene<'_>, c: char) -> Result<Told, AllocError> {
     let alloc = scene.alloc;
     let code = c as u32;
     let sentence = format!(in alloc; "the character U+{code:04X} can't stand here")?;
-    let hint = match c {
-        '\u{feff}' => "an input has no byte order mark",
-        _ => "white space is space, tab, CR and LF",
-    };
-    Told::hinted(alloc, sentence, hint)
+    if c == '\u{feff}' {
+        let whole = scene.whole.with_article();
+        let hint = Some(format!(in alloc; "{whole} has no byte order mark")?);
+        return Ok(Told { sentence, hint });
+    }
+    Told::hinted(alloc, sentence, "white space is space, tab, CR and LF")
 }
 
 /// A character that begins no token.

@@ -1,7 +1,6 @@
 //! What can stand at a place: the reader itself is asked, token by token.
+use crate::whole::Whole;
 use crate::words::joined;
-use ent_sql::parse_input;
-use ent_value::Refusal;
 use std::alloc::{AllocError, Global};
 
 /// The symbols that are tried, but those of comparisons.
@@ -34,41 +33,45 @@ struct Values {
     is_text: bool,
 }
 
-/// Whether a token can follow a text that begins an input. The reader refuses an input at the first token that can't
-/// follow what stands before it; a line's end keeps the token out of a comment.
-fn can_follow(alloc: Global, lead: &str, token: &str) -> Result<bool, AllocError> {
+/// Whether a token can follow a text that begins an input, or a script. The reader refuses one at the first token that
+/// can't follow what stands before it; a line's end keeps the token out of a comment.
+fn can_follow(alloc: Global, whole: Whole, lead: &str, token: &str) -> Result<bool, AllocError> {
     let text = format!(in alloc; "{lead}\n{token}")?;
-    match parse_input(alloc, text.as_str()) {
-        Ok(_) => Ok(true),
-        Err(Refusal::Memory) => Err(AllocError),
-        Err(Refusal::Fault(fault)) => Ok(fault.place() > lead.len().saturating_add(1)),
-    }
+    Ok(match whole.fault_of(alloc, text.as_str())? {
+        None => true,
+        Some(fault) => fault.place() > lead.len().saturating_add(1),
+    })
 }
 
 /// Whether a token begins a statement, a script's end, a script or a declaration.
 pub(crate) fn can_begin(alloc: Global, token: &str) -> Result<bool, AllocError> {
-    Ok(can_follow(alloc, "", token)? || can_follow(alloc, "BEGIN TRANSACTION;", token)?)
+    let is_first = can_follow(alloc, Whole::Input, "", token)?;
+    Ok(is_first || can_follow(alloc, Whole::Input, "BEGIN TRANSACTION;", token)?)
 }
 
 /// Whether a token is a comparison: nothing else can follow a whole operand in a WHERE.
 pub(crate) fn can_compare(alloc: Global, token: &str) -> Result<bool, AllocError> {
-    can_follow(alloc, "BEGIN TRANSACTION; SELECT * FROM a WHERE a.a", token)
+    let lead = "BEGIN TRANSACTION; SELECT * FROM a WHERE a.a";
+    can_follow(alloc, Whole::Input, lead, token)
 }
 
 impl Expected {
-    /// What can follow a text that begins an input.
-    pub(crate) fn behind(alloc: Global, lead: &str) -> Result<Self, AllocError> {
-        let values = values_behind(alloc, lead)?;
+    /// What can follow a text that begins an input, or a script.
+    pub(crate) fn behind(alloc: Global, whole: Whole, lead: &str) -> Result<Self, AllocError> {
+        let values = values_behind(alloc, whole, lead)?;
         let mut things: Vec<&'static str> = Vec::new(alloc);
         add_values(&mut things, values)?;
-        if can_follow(alloc, lead, "=")? {
+        if can_follow(alloc, whole, lead, "=")? {
             things.push("a comparison")?;
         }
         for words in [SIGNS, FIRST_WORDS, MIDDLE_WORDS, LAST_WORDS] {
-            add_words(&mut things, alloc, lead, words, values)?;
+            add_words(&mut things, alloc, whole, lead, words, values)?;
         }
-        if is_input(alloc, lead)? {
-            things.push("the end of the input")?;
+        if whole.fault_of(alloc, lead)?.is_none() {
+            things.push(match whole {
+                Whole::Input => "the end of the input",
+                Whole::Script => "the end of the script",
+            })?;
         }
         Ok(Expected { things })
     }
@@ -88,35 +91,27 @@ impl Expected {
 fn add_words(
     things: &mut Vec<&'static str>,
     alloc: Global,
+    whole: Whole,
     lead: &str,
     words: &'static str,
     values: Values,
 ) -> Result<(), AllocError> {
     for word in words.split(' ') {
         let is_value = word == "-" && values.is_number;
-        if !is_value && can_follow(alloc, lead, word)? {
+        if !is_value && can_follow(alloc, whole, lead, word)? {
             things.push(word)?;
         }
     }
     Ok(())
 }
 
-/// Whether a text is an input.
-fn is_input(alloc: Global, text: &str) -> Result<bool, AllocError> {
-    match parse_input(alloc, text) {
-        Ok(_) => Ok(true),
-        Err(Refusal::Memory) => Err(AllocError),
-        Err(Refusal::Fault(_)) => Ok(false),
-    }
-}
-
-fn values_behind(alloc: Global, lead: &str) -> Result<Values, AllocError> {
+fn values_behind(alloc: Global, whole: Whole, lead: &str) -> Result<Values, AllocError> {
     Ok(Values {
-        is_name: can_follow(alloc, lead, "a")?,
-        is_variable: can_follow(alloc, lead, "@a")?,
-        is_number: can_follow(alloc, lead, "1")?,
-        is_any_number: can_follow(alloc, lead, "2")?,
-        is_text: can_follow(alloc, lead, "''")?,
+        is_name: can_follow(alloc, whole, lead, "a")?,
+        is_variable: can_follow(alloc, whole, lead, "@a")?,
+        is_number: can_follow(alloc, whole, lead, "1")?,
+        is_any_number: can_follow(alloc, whole, lead, "2")?,
+        is_text: can_follow(alloc, whole, lead, "''")?,
     })
 }
 

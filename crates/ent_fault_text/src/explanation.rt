@@ -11,10 +11,13 @@ use crate::form::form_fault;
 use crate::grammar::{too_many, unexpected};
 use crate::mark::Sort;
 use crate::scene::Scene;
+use crate::schema::tables_of;
 use crate::tokens::scene_at;
+use crate::whole::Whole;
 use crate::words::Told;
 use ent_excerpt::{Excerpt, Line, Place, columns};
 use ent_sql::SqlFault;
+use ent_tree::Opening;
 use std::alloc::{AllocError, Global};
 use std::fmt;
 
@@ -28,7 +31,7 @@ pub struct Explanation<'a> {
     pub hint: Option<String>,
 }
 
-/// Explains a fault over the text that has it.
+/// Explains a fault over the text of the input that has it.
 pub fn explain_fault<'a>(
     alloc: Global,
     text: &'a str,
@@ -40,7 +43,41 @@ pub fn explain_fault<'a>(
         → IsExcerptAt text.now (offset_of fault text.now) told.excerpt) }
 {
     let offset = fault.offset(text);
-    let scene = scene_at(alloc, text, offset)?;
+    let scene = Scene::new(alloc, Whole::Input, text, offset);
+    explained(scene_at(scene)?, text, fault)
+}
+
+/// Explains a fault over the text of the script that has it, which stands alone in its text. The declared tables are
+/// those of an opening.
+pub fn explain_script_fault<'a>(
+    alloc: Global,
+    opening: &Opening,
+    text: &'a str,
+    fault: InputFault,
+) -> Result<Explanation<'a>, AllocError>
+    ensures place { IfOk result (λ told. IsCharBoundary text.now (offset_of fault text.now)
+        → IsPlaceAt text.now (offset_of fault text.now) told.place) }
+    ensures excerpt { IfOk result (λ told. IsCharBoundary text.now (offset_of fault text.now)
+        → IsExcerptAt text.now (offset_of fault text.now) told.excerpt) }
+{
+    let offset = fault.offset(text);
+    let mut scene = Scene::new(alloc, Whole::Script, text, offset);
+    scene.tables = tables_of(alloc, opening)?;
+    explained(scene_at(scene)?, text, fault)
+}
+
+/// Explains a fault of a text, with what stands around it.
+fn explained<'a>(
+    scene: Scene<'_>,
+    text: &'a str,
+    fault: InputFault,
+) -> Result<Explanation<'a>, AllocError>
+    ensures place { IfOk result (λ told. IsCharBoundary text.now (offset_of fault text.now)
+        → IsPlaceAt text.now (offset_of fault text.now) told.place) }
+    ensures excerpt { IfOk result (λ told. IsCharBoundary text.now (offset_of fault text.now)
+        → IsExcerptAt text.now (offset_of fault text.now) told.excerpt) }
+{
+    let offset = fault.offset(text);
     let Told { sentence, hint } = told(&scene, fault)?;
     let place = Place::of(text, offset);
     let line = Line::of(text, offset);
@@ -55,18 +92,22 @@ pub fn explain_fault<'a>(
 
 /// The sentence and the hint.
 fn told(scene: &Scene<'_>, fault: InputFault) -> Result<Told, AllocError> {
-    let alloc = scene.alloc;
     match fault {
-        InputFault::NotUtf8 => Told::hinted(
-            alloc,
-            format!(in alloc; "what stands here isn't UTF-8")?,
-            "an input is a text in UTF-8",
-        ),
+        InputFault::NotUtf8 => not_utf8(scene),
         InputFault::Sql(SqlFault::Text(fault)) => text_fault(scene, fault),
         InputFault::Sql(SqlFault::Unexpected(_)) => unexpected(scene),
         InputFault::Sql(SqlFault::TooMany(_)) => too_many(scene),
         InputFault::Form(fault) => form_fault(scene, fault),
     }
+}
+
+/// A text that isn't UTF-8 behind its end.
+fn not_utf8(scene: &Scene<'_>) -> Result<Told, AllocError> {
+    let alloc = scene.alloc;
+    let sentence = format!(in alloc; "what stands here isn't UTF-8")?;
+    let whole = scene.whole.with_article();
+    let hint = Some(format!(in alloc; "{whole} is a text in UTF-8")?);
+    Ok(Told { sentence, hint })
 }
 
 /// How many columns are marked: those of the token at the place, or of the word where a fault of tokens stands.

@@ -3,6 +3,7 @@ use crate::absent::{absent_part, absent_word};
 use crate::expected::{Expected, can_begin};
 use crate::mark::{Mark, Sort};
 use crate::scene::Scene;
+use crate::whole::Whole;
 use crate::words::Told;
 use ent_text::{Keyword, Symbol};
 use ent_tree::{
@@ -14,10 +15,11 @@ use std::alloc::AllocError;
 /// A token that can't follow what stands before it.
 pub(crate) fn unexpected(scene: &Scene<'_>) -> Result<Told, AllocError> {
     let alloc = scene.alloc;
-    let expected = Expected::behind(alloc, scene.lead())?;
+    let expected = Expected::behind(alloc, scene.whole, scene.lead())?;
     let list = expected.listed(alloc)?;
     let Some(found) = scene.ahead(0) else {
-        let sentence = format!(in alloc; "the input ends here, and {list} is missing")?;
+        let whole = scene.whole.name();
+        let sentence = format!(in alloc; "the {whole} ends here, and {list} is missing")?;
         return Ok(Told::plain(sentence));
     };
     let word = found.text;
@@ -63,6 +65,7 @@ fn fixed_hint(
 ) -> Option<&'static str> {
     hint_of_insert(scene, found)
         .or(hint_of_number(scene, found))
+        .or(hint_of_script(scene, found, expected))
         .or(hint_of_place(found, expected, is_start))
         .or(hint_of_word(found, expected))
         .or(hint_of_sign(found, expected))
@@ -94,6 +97,24 @@ fn hint_of_number(scene: &Scene<'_>, found: &Mark<'_>) -> Option<&'static str> {
     }
     if scene.follows(Keyword::Choose) {
         return Some("an entangled statement asks for one answer: CHOOSE 1");
+    }
+    None
+}
+
+/// What helps where one script stands alone, and something in it or behind it that an input has.
+fn hint_of_script(
+    scene: &Scene<'_>,
+    found: &Mark<'_>,
+    expected: &Expected,
+) -> Option<&'static str> {
+    if scene.whole == Whole::Input {
+        return None;
+    }
+    if expected.has("the end of the script") {
+        return Some("each script is submitted by itself");
+    }
+    if found.is_word(Keyword::Create) {
+        return Some("a script declares no tables: they were declared before");
     }
     None
 }

@@ -1,4 +1,4 @@
-//! Faults of an input, told to people: where one stands, what is wrong there, and what helps.
+//! Faults of an input, or of one script, told to people: where one stands, what is wrong there, and what helps.
 //!
 //! A caller may rely on the place, the line and the column of characters, and on the excerpt, which is that line or a
 //! part of it. What the sentences say rests on rows of examples, which `ent_told_rows` plays.
@@ -21,8 +21,9 @@ mod schema;
 mod tokens;
 mod typed;
 mod variables;
+mod whole;
 mod words;
 
-pub use explanation::{Explanation, explain_fault};
+pub use explanation::{Explanation, explain_fault, explain_script_fault};
 pub use fault::{InputFault, valid_text};
 pub use names::nearest;

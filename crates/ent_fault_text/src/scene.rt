@@ -1,6 +1,7 @@
 //! What stands around a place: the declared tables, and the tokens of its statement.
 use crate::mark::{Mark, Sort, first_marks, marks_behind};
 use crate::schema::{Table, declare};
+use crate::whole::Whole;
 use ent_text::{Keyword, Symbol};
 use std::alloc::{AllocError, Global};
 
@@ -9,6 +10,7 @@ use std::alloc::{AllocError, Global};
 #[derive(Drop)]
 pub(crate) struct Scene<'a> {
     pub(crate) alloc: Global,
+    pub(crate) whole: Whole,
     pub(crate) text: &'a str,
     pub(crate) offset: usize,
     pub(crate) tables: Vec<Table<'a>>,
@@ -22,16 +24,18 @@ pub(crate) struct Scene<'a> {
 }
 
 impl<'a> Scene<'a> {
-    pub(crate) fn new(alloc: Global, text: &'a str, offset: usize) -> Self {
+    /// A place of a text of which no token was taken. One script alone has no declarations.
+    pub(crate) fn new(alloc: Global, whole: Whole, text: &'a str, offset: usize) -> Self {
         Scene {
             alloc,
+            whole,
             text,
             offset,
             tables: Vec::new(alloc),
             relations: Vec::new(alloc),
             marks: Vec::new(alloc),
             at: 0,
-            is_opening: true,
+            is_opening: whole == Whole::Input,
             is_full: false,
         }
     }

@@ -1,6 +1,8 @@
 //! Declared tables, as their tokens say.
+use crate::fault::valid_text;
 use crate::mark::{Mark, Sort};
 use ent_text::Keyword;
+use ent_tree::{Create, Opening};
 use ent_value::Kind;
 use std::alloc::{AllocError, Global};
 
@@ -26,6 +28,34 @@ impl<'a> Table<'a> {
             .copied()
             .find(|column| column.name == name)
     }
+}
+
+/// The tables that an opening declares.
+pub(crate) fn tables_of<'a>(
+    alloc: Global,
+    opening: &'a Opening,
+) -> Result<Vec<Table<'a>>, AllocError> {
+    let mut tables = Vec::new(alloc);
+    for create in opening.tables.as_slice() {
+        tables.push(table_of(alloc, create)?)?;
+    }
+    Ok(tables)
+}
+
+/// A table as it is declared.
+fn table_of<'a>(alloc: Global, create: &'a Create) -> Result<Table<'a>, AllocError> {
+    let mut columns = Vec::new(alloc);
+    for column in create.columns.as_slice() {
+        let name = valid_text(column.name.name.as_bytes());
+        let kind = column.kind;
+        columns.push(Column { name, kind })?;
+    }
+    let name = Mark {
+        sort: Sort::Name,
+        text: valid_text(create.name.name.as_bytes()),
+        start: create.name.place,
+    };
+    Ok(Table { name, columns })
 }
 
 /// The kind that a token names.

@@ -1,4 +1,5 @@
 //! The fault of an input, and what is said of it.
+use crate::script::{script_fault_told, script_in};
 use anyhow::{Result, anyhow, bail};
 use ent_fault_text::{InputFault, explain_fault, valid_text};
 use ent_form::{Catalogue, FormFault, resolve};
@@ -7,10 +8,15 @@ use ent_tree::Input;
 use ent_value::Refusal;
 use std::alloc::Global;
 
-/// The fault of an input, which has one, explained.
-pub(crate) fn fault_told(alloc: Global, input: &[u8]) -> Result<String> {
-    let fault = fault_of(alloc, input)?;
-    told(alloc, input, fault)
+/// The fault of an input, or of a script behind declarations, which has one, explained.
+pub(crate) fn fault_told(alloc: Global, row: &[u8]) -> Result<String> {
+    match script_in(row) {
+        Some(parts) => script_fault_told(alloc, parts),
+        None => {
+            let fault = fault_of(alloc, row)?;
+            told(alloc, row, fault)
+        }
+    }
 }
 
 /// The first fault of an input, which has one.
@@ -40,7 +46,7 @@ fn form_fault_of(alloc: Global, input: &Input) -> Result<InputFault> {
     Err(anyhow!("the input has no fault"))
 }
 
-fn refused(refusal: Refusal<FormFault>) -> Result<InputFault> {
+pub(crate) fn refused(refusal: Refusal<FormFault>) -> Result<InputFault> {
     match refusal {
         Refusal::Fault(fault) => Ok(InputFault::Form(fault)),
         Refusal::Memory => Err(anyhow!("out of memory")),
@@ -48,7 +54,7 @@ fn refused(refusal: Refusal<FormFault>) -> Result<InputFault> {
 }
 
 /// The number of a fault.
-fn number_of(fault: InputFault) -> u16 {
+pub(crate) fn number_of(fault: InputFault) -> u16 {
     match fault {
         InputFault::NotUtf8 => 100,
         InputFault::Sql(fault) => fault.code(),

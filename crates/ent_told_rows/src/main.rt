@@ -8,6 +8,7 @@ mod fault;
 mod picture;
 mod reason;
 mod refused;
+mod script;
 
 use crate::fault::fault_told;
 use crate::picture::{check_pictures, draw_input};

@@ -60,6 +60,11 @@ def opening(file: sqlite3.Connection) -> str:
     return "\n".join(lines)
 
 
+def runs_of(standing: entangle.Standing) -> int:
+    """In how many runs a request was."""
+    return 0 if isinstance(standing, entangle.Running) else standing.runs
+
+
 class Bad(Exception):
     """A request that is none."""
 
@@ -73,7 +78,7 @@ class Request:
     who: str
     other: str
     place: str
-    standing: entangle.Standing = entangle.Standing("waiting")
+    standing: entangle.Standing = entangle.Waiting()
     answer: entangle.Value = ""
 
     def script(self, runs: int) -> str:
@@ -103,8 +108,9 @@ INSERT INTO Changes VALUES ({who}, @seat);
 
     def note(self, answers: list[entangle.Answer]) -> None:
         """Notes the value that was chosen: the second of the row of the answer relation."""
-        _, facts = answers[0]
-        self.answer = facts[0].values[1]
+        first = answers[0]
+        if isinstance(first, entangle.EntangledAnswer):
+            self.answer = first.facts[0].values[1]
 
 
 class Service:
@@ -147,7 +153,7 @@ class Service:
     def has_been_in_a_run(self, tx: int) -> bool:
         """Whether a request has; where more than 64 wait, the later ones come first in the next run."""
         standing = self.manager.standing(tx)
-        return standing.is_finished or standing.runs > 0
+        return not isinstance(standing, entangle.Waiting) or standing.runs > 0
 
     def write(self) -> None:
         """Writes what was committed to the file, in the order of the commits; all of it, or nothing yet."""
@@ -184,7 +190,7 @@ class Service:
                     "other": request.other,
                     "place": request.place,
                     "kind": request.standing.kind,
-                    "runs": request.standing.runs,
+                    "runs": runs_of(request.standing),
                     "answer": request.answer,
                 }
                 for request in self.requests
@@ -232,8 +238,8 @@ class Handler(BaseHTTPRequestHandler):
             self.tell(HTTPStatus.OK, {"tx": self.service.ask(what, who, other, place)})
         except (Bad, ValueError) as error:
             self.tell(HTTPStatus.BAD_REQUEST, {"error": str(error)})
-        except entangle.Fault as fault:
-            self.tell(HTTPStatus.BAD_REQUEST, {"error": str(fault)})
+        except entangle.Error as error:
+            self.tell(HTTPStatus.BAD_REQUEST, {"error": str(error)})
         except sqlite3.Error as error:
             self.tell(HTTPStatus.INTERNAL_SERVER_ERROR, {"error": str(error)})
 

@@ -1,123 +1,11 @@
-"""Tests of the module: the worked rows of the program, byte for byte, and what the calls promise beside them."""
+"""What managers promise."""
 
+import copy
+import pickle
 import threading
 import unittest
-from pathlib import Path
 
 import entangle
-
-ROWS = Path(__file__).resolve().parent.parent.parent / "crates" / "ent_rows" / "data" / "rows"
-
-
-def rows(*arguments):
-    """The rows with one of these command lines: name, version asked for, status and line on standard error."""
-    for entry in (ROWS / "INDEX.tsv").read_text(encoding="utf-8").splitlines()[1:]:
-        name, words, status, line = entry.split("\t")[:4]
-        if words in arguments:
-            yield name, 2 if words.endswith("2") else 1, int(status), line
-
-
-def file(name, ending):
-    return (ROWS / f"{name}.{ending}").read_bytes()
-
-
-def driven(text, version):
-    """The report of a manager that is opened over an input and run until it can be closed."""
-    with entangle.Manager(text) as manager:
-        while True:
-            try:
-                manager.finish()
-                return manager.report(version)
-            except entangle.Refused:
-                manager.run()
-
-
-class Rows(unittest.TestCase):
-    def test_runs_are_those_of_the_program(self):
-        count = 0
-        for name, version, status, line in rows("run", "run --report 2"):
-            with self.subTest(name):
-                try:
-                    got, said, ended = entangle.report(file(name, "in"), version), "", 0
-                except entangle.Refused as fault:
-                    got, said, ended = "", str(fault), 1
-                self.assertEqual((got.encode(), ended), (file(name, "out"), status))
-                self.assertIn(line, ("*", said))
-            count += 1
-        print(f"{count} rows of a run")
-        self.assertGreater(count, 100)
-
-    def test_managers_tell_what_the_program_does(self):
-        count = 0
-        for name, version, status, line in rows("run", "run --report 2"):
-            with self.subTest(name):
-                try:
-                    got, said, ended = driven(file(name, "in"), version), "", 0
-                except entangle.Refused as fault:
-                    got, said, ended = "", str(fault), 1
-                self.assertEqual((got.encode(), ended), (file(name, "out"), status))
-                self.assertIn(line, ("*", said))
-            count += 1
-        self.assertGreater(count, 100)
-
-    def test_explanations_of_faults_are_those_of_the_program(self):
-        wanted = [name for name, _, status, line in rows("run --explain") if status == 1 and line == "@"]
-        for name in wanted:
-            with self.subTest(name):
-                self.assertEqual((entangle.explain(file(name, "in")) or "").encode(), file(name, "err"))
-        print(f"{len(wanted)} rows of an explanation")
-        self.assertTrue(wanted)
-
-    def test_checks_are_those_of_the_program(self):
-        count = 0
-        for name, _, status, _ in rows("check"):
-            with self.subTest(name):
-                verdict = entangle.check(file(name, "in"))
-                said = "yes\n" if verdict.is_legal else f"no {verdict.line} {verdict.rule}\n"
-                self.assertEqual((said.encode(), 0 if verdict.is_legal else 1), (file(name, "out"), status))
-            count += 1
-        print(f"{count} rows of a check")
-        self.assertGreater(count, 0)
-
-
-class Calls(unittest.TestCase):
-    def test_a_fault_has_its_place(self):
-        with self.assertRaises(entangle.Refused) as caught:
-            entangle.report("CREATE TABLE T (a INT);\nINSERT INTO T VALUES ('東', b);")
-        fault = caught.exception
-        self.assertEqual((fault.code, fault.offset, fault.line, fault.column), (201, 53, 2, 28))
-        self.assertEqual(str(fault), "E201 at 53")
-        self.assertTrue(fault.explanation.startswith("E201 at 53\nline 2, column 28: "))
-
-    def test_an_input_that_is_too_long_has_no_place(self):
-        with self.assertRaises(entangle.Refused) as caught:
-            entangle.report(b" " * 16_777_217)
-        self.assertEqual((caught.exception.code, caught.exception.offset), (105, None))
-
-    def test_another_version_is_refused(self):
-        self.assertRaises(ValueError, entangle.report, "", 3)
-
-    def test_a_report_longer_than_the_first_buffer_comes_whole(self):
-        rows_of_t = "".join(f"INSERT INTO T VALUES ({number});\n" for number in range(500))
-        text = f"CREATE TABLE T (a INT);\n{rows_of_t}" + 20 * "BEGIN TRANSACTION;\nSELECT a FROM T;\nCOMMIT;\n"
-        told = entangle.report(text)
-        self.assertGreater(len(told), 2 * len(text))
-        self.assertTrue(told.endswith("end\n"))
-
-    def test_an_input_without_a_fault_has_nothing_to_explain(self):
-        self.assertIsNone(entangle.explain(""))
-
-    def test_calls_may_be_made_from_many_threads(self):
-        text = "CREATE TABLE T (a INT);\nBEGIN TRANSACTION;\nINSERT INTO T VALUES (1);\nCOMMIT;\n"
-        alone, got = entangle.report(text, 2), []
-        threads = [threading.Thread(target=lambda: got.append(entangle.report(text, 2))) for _ in range(8)]
-        for thread in threads:
-            thread.start()
-        for thread in threads:
-            thread.join()
-        self.assertEqual(got, 8 * [alone])
-        self.assertTrue(entangle.check(alone).is_legal)
-
 
 TABLES = """CREATE TABLE Flights (fno INT, dest TEXT);
 CREATE TABLE Trips (fno INT);
@@ -142,18 +30,18 @@ class Managers(unittest.TestCase):
         with entangle.Manager(TABLES) as manager:
             mickey = manager.submit(trip("Mickey", "Minnie"))
             manager.run()
-            self.assertEqual(manager.standing(mickey), entangle.Standing("waiting", runs=1))
+            self.assertEqual(manager.standing(mickey), entangle.Waiting(runs=1))
             self.assertEqual(manager.answers(mickey), [])
             minnie = manager.submit(trip("Minnie", "Mickey"))
             manager.run()
-            self.assertEqual(manager.standing(minnie), entangle.Standing("committed", number=2, runs=1))
+            self.assertEqual(manager.standing(minnie), entangle.Committed(number=2, runs=1))
             self.assertEqual(
                 manager.answers(mickey),
                 [
-                    ("answer", [entangle.Fact("Trip", ("Mickey", 122))]),
-                    ("rows", [(122, "LA")]),
-                    ("set", "it's"),
-                    ("count", 0),
+                    entangle.EntangledAnswer((entangle.Fact("Trip", ("Mickey", 122)),)),
+                    entangle.RowsAnswer(((122, "LA"),)),
+                    entangle.SetAnswer("it's"),
+                    entangle.CountAnswer(0),
                 ],
             )
             self.assertEqual(manager.table("Flights"), [(122, "LA")])
@@ -164,7 +52,7 @@ class Managers(unittest.TestCase):
             for _ in range(3):
                 self.assertFalse(manager.standing(eve).is_finished)
                 manager.run()
-            self.assertEqual(manager.standing(eve), entangle.Standing("gave up", runs=3))
+            self.assertEqual(manager.standing(eve), entangle.GaveUp(runs=3))
 
     def test_a_fault_of_a_script_changes_nothing(self):
         with entangle.Manager(TABLES) as manager:
@@ -231,17 +119,17 @@ class Managers(unittest.TestCase):
             self.assertEqual(([manager.standing(tx + 1) for tx in range(6)], manager.table("Trips")), plain(*scripts))
         self.assertEqual([commit.number for commit in commits], list(range(1, 5)))
         told = {commit.tx: commit.changes for commit in commits}
-        self.assertEqual(told[1], [entangle.Change("Trips", [("Ann", 122)], [])])
-        self.assertEqual(told[2], [entangle.Change("Trips", [("Bob", 122)], [])])
-        self.assertEqual(told[4], [entangle.Change("Flights", [(122, "Oslo")], [(122, "LA")])])
-        self.assertEqual(told[5], [])
+        self.assertEqual(told[1], (entangle.Change("Trips", (("Ann", 122),), ()),))
+        self.assertEqual(told[2], (entangle.Change("Trips", (("Bob", 122),), ()),))
+        self.assertEqual(told[4], (entangle.Change("Flights", ((122, "Oslo"),), ((122, "LA"),)),))
+        self.assertEqual(told[5], ())
 
     def test_a_renewed_manager_tells_its_commits(self):
         with entangle.Manager(TABLES) as manager:
             for number in range(2):
                 manager.submit(f"BEGIN TRANSACTION; INSERT INTO Trips VALUES ({number}); COMMIT;")
-                change = entangle.Change("Trips", [(number,)], [])
-                self.assertEqual(manager.run_telling("Trips"), [entangle.Commit(1, 1, [change])])
+                change = entangle.Change("Trips", ((number,),), ())
+                self.assertEqual(manager.run_telling("Trips"), [entangle.Commit(1, 1, (change,))])
                 manager.finish()
                 manager.renew()
             self.assertRaises(entangle.Refused, manager.standing, 2**64 + 1)
@@ -252,7 +140,7 @@ class Managers(unittest.TestCase):
             tx = manager.submit(f"BEGIN TRANSACTION; INSERT INTO T VALUES ('{text}'); SELECT a FROM T; COMMIT;")
             manager.run()
             self.assertEqual(manager.table("T"), [(text,)])
-            self.assertEqual(manager.answers(tx)[1], ("rows", [(text,)]))
+            self.assertEqual(manager.answers(tx)[1], entangle.RowsAnswer(((text,),)))
 
     def test_events_are_made_one_at_a_time(self):
         alone = """BEGIN TRANSACTION WITHIN 1 RUNS;
@@ -315,6 +203,88 @@ class Managers(unittest.TestCase):
             manager.run()
             self.assertEqual(manager.table("T"), [(number,) for number in range(32)])
 
+    def test_a_refused_script_is_explained_in_its_own_lines(self):
+        with entangle.Manager(TABLES) as manager:
+            for script, said in [
+                (
+                    "BEGIN TRANSACTION;\n-- 東\nSELECT fno FROM Flights WHERE dst = 'LA';\nCOMMIT;",
+                    "E302 at 56\nline 3, column 31: Flights has no column dst\n"
+                    "  SELECT fno FROM Flights WHERE dst = 'LA';\n" + 32 * " " + "^^^\ndid you mean dest?\n",
+                ),
+                (
+                    "INSERT INTO Trips VALUES (1);",
+                    "E201 at 0\nline 1, column 1: INSERT can't stand here: expected BEGIN\n"
+                    "  INSERT INTO Trips VALUES (1);\n  ^^^^^^\n"
+                    "a statement stands in a script: BEGIN TRANSACTION; .. COMMIT;\n",
+                ),
+            ]:
+                with self.subTest(script), self.assertRaises(entangle.Refused) as caught:
+                    manager.submit(script)
+                self.assertEqual(caught.exception.explanation, said)
+                self.assertEqual(manager.explain(script), said)
+            self.assertIsNone(manager.explain("BEGIN TRANSACTION; COMMIT;"))
+            self.assertEqual(manager.submit("BEGIN TRANSACTION; COMMIT;"), 1)
+            manager.run()
+            manager.finish()
+            self.assertRaises(entangle.StateError, manager.explain, "BEGIN")
 
-if __name__ == "__main__":
-    unittest.main()
+    def test_a_full_manager_explains_nothing(self):
+        with entangle.Manager(TABLES) as manager:
+            for _ in range(10_000):
+                manager.submit("BEGIN TRANSACTION; COMMIT;")
+            for script in ("BEGIN TRANSACTION; COMMIT;", "BEGIN TRANSACTION; SELECT * FROM U; COMMIT;"):
+                with self.assertRaises(entangle.Refused) as caught:
+                    manager.submit(script)
+                self.assertEqual((str(caught.exception), caught.exception.explanation), ("E406", ""))
+
+    def test_fates_are_told(self):
+        with entangle.Manager("CREATE TABLE T (a INT);") as manager:
+            fates = []
+            for statements in ("ROLLBACK", "SET @d = 9223372036854775807 + 1; COMMIT", "COMMIT"):
+                fates.append(manager.submit(f"BEGIN TRANSACTION; {statements};"))
+            self.assertEqual(manager.standing(1), entangle.Waiting(runs=0))
+            manager.step("start run")
+            self.assertEqual(manager.standing(1), entangle.Running())
+            manager.run()
+            rolled_back, failed, committed = map(manager.standing, fates)
+            self.assertEqual(rolled_back, entangle.RolledBack(runs=1))
+            self.assertEqual(failed, entangle.Failed(entangle.Failure.OVERFLOW, runs=1))
+            self.assertEqual(committed, entangle.Committed(number=1, runs=1))
+            self.assertEqual((failed.failure, failed.kind, failed.is_finished), ("F1", "failed", True))
+            self.assertEqual(len({rolled_back, failed, committed, manager.standing(1)}), 3)
+
+    def test_wrong_types_are_refused(self):
+        with entangle.Manager(TABLES) as manager:
+            for call in (manager.submit, manager.explain, manager.table, manager.run_telling):
+                for wrong in (5, None, ("a",)):
+                    with self.subTest(wrong=wrong, call=call):
+                        self.assertRaisesRegex(TypeError, " is a str or bytes, not ", call, wrong)
+            for call in (manager.standing, manager.answers, manager.answer_lines, manager.why, manager.report):
+                for wrong in ("1", None, 1.0):
+                    with self.subTest(wrong=wrong, call=call):
+                        self.assertRaises(TypeError, call, wrong)
+            self.assertRaises(TypeError, manager.step, 1)
+            self.assertRaises(TypeError, manager.step, "begin", "1")
+            self.assertEqual(manager.step("end run"), "not now")
+
+    def test_a_manager_is_neither_copied_nor_pickled(self):
+        with entangle.Manager(TABLES) as manager:
+            self.assertRaisesRegex(TypeError, "a manager can't be copied", copy.copy, manager)
+            self.assertRaisesRegex(TypeError, "a manager can't be copied", copy.deepcopy, [manager])
+            self.assertRaisesRegex(TypeError, "a manager can't be pickled", pickle.dumps, manager)
+            self.assertEqual(manager.table("Trips"), [])
+
+    def test_too_many_rows_are_not_renewed(self):
+        rows = "".join(f"INSERT INTO T VALUES ({row});" for row in range(65_536))
+        with entangle.Manager(f"CREATE TABLE T (a INT); CREATE TABLE U (a INT); {rows}") as manager:
+            manager.submit("BEGIN TRANSACTION; INSERT INTO U VALUES (1); COMMIT;")
+            manager.run()
+            manager.finish()
+            with self.assertRaises(entangle.Refused) as caught:
+                manager.renew()
+            self.assertEqual(str(caught.exception), "E407")
+
+    def test_a_number_of_any_size_is_no_transaction(self):
+        with entangle.Manager(TABLES) as manager:
+            for tx in (0, -1, 1, 2**64, 2**64 + 1, 10**40):
+                self.assertRaises(entangle.Refused, manager.standing, tx)

@@ -1,0 +1,102 @@
+//! Where a call promises E900, it gives E900: each allocation that this crate makes for a call fails in turn, and the
+//! process goes on. (The library's own allocations fail in turn in `bindings/c/calls.c`.)
+
+use entangle::{Answer, Error, Fault, FaultKind, Manager, Verdict, Version};
+use std::alloc::{GlobalAlloc, Layout, System};
+use std::cell::Cell;
+use std::fmt::Debug;
+use std::ptr::null_mut;
+
+thread_local! {
+    /// How many allocations of this thread succeed before one fails, if one is to fail.
+    static UNTIL: Cell<Option<usize>> = const { Cell::new(None) };
+}
+
+/// The system's allocator, of which one allocation fails.
+struct Failing;
+
+/// Whether this allocation is the one that fails.
+fn fails() -> bool {
+    let until = UNTIL.get();
+    UNTIL.set(until.and_then(|count| count.checked_sub(1)));
+    until == Some(0)
+}
+
+// SAFETY: each call is the system allocator's, or null, which says that there is no memory.
+unsafe impl GlobalAlloc for Failing {
+    unsafe fn alloc(&self, layout: Layout) -> *mut u8 {
+        // SAFETY: as the caller promises.
+        if fails() { null_mut() } else { unsafe { System.alloc(layout) } }
+    }
+
+    unsafe fn dealloc(&self, block: *mut u8, layout: Layout) {
+        // SAFETY: as the caller promises.
+        unsafe { System.dealloc(block, layout) }
+    }
+
+    unsafe fn realloc(&self, block: *mut u8, layout: Layout, size: usize) -> *mut u8 {
+        // SAFETY: as the caller promises.
+        if fails() { null_mut() } else { unsafe { System.realloc(block, layout, size) } }
+    }
+}
+
+#[global_allocator]
+static ALLOCATOR: Failing = Failing;
+
+/// Makes a call with each of its allocations failing in turn; what it gives when none does, and how many there are.
+fn refused<T: Debug>(mut call: impl FnMut() -> Result<T, Error>) -> (T, usize) {
+    for count in 0.. {
+        UNTIL.set(Some(count));
+        let given = call();
+        let was_refused = UNTIL.take().is_none();
+        match given {
+            Ok(value) if !was_refused => return (value, count),
+            Err(Error::Fault(Fault { code: 900, kind: FaultKind::OutOfMemory, place: None, .. })) if was_refused => (),
+            other => panic!("allocation {count}: {other:?}"),
+        }
+    }
+    unreachable!("some number of allocations is enough");
+}
+
+#[test]
+fn calls_without_a_manager_tell_that_memory_ran_out() {
+    entangle::library_version();
+    let input = format!("CREATE TABLE T (a INT);\n{}", "INSERT INTO T VALUES (1);\n".repeat(200));
+    let (report, count) = refused(|| Ok(entangle::report(&input, Version::Two)?));
+    assert!(report.ends_with("end\n") && count > 0);
+    assert_eq!(refused(|| Ok(entangle::check(&report)?)).0, Verdict::Yes);
+    assert_eq!(refused(|| Ok(entangle::explain(&input)?)).0, None);
+    let (said, count) = refused(|| Ok(entangle::explain("CREATE TABLE T (a INTEGER);")?));
+    assert!(said.is_some_and(|said| said.starts_with("E201 at 18\n")) && count > 0);
+}
+
+#[test]
+fn calls_of_a_manager_tell_that_memory_ran_out() {
+    entangle::library_version();
+    let mut manager = Manager::open("CREATE TABLE T (a INT, b TEXT);").expect("the table is right");
+    let inserts: String = (0..20).map(|number| format!("INSERT INTO T VALUES ({number}, 'it''s');\n")).collect();
+    for number in 0..5 {
+        let script = format!("BEGIN TRANSACTION;\n{}COMMIT;", inserts.replace("it", &format!("{number}it")));
+        manager.submit(&script).expect("the script is right");
+    }
+    let pair = |who: &str, friend: &str| {
+        format!(
+            "BEGIN TRANSACTION; SELECT '{who}', a INTO ANSWER R WHERE a IN (SELECT a FROM T WHERE b = '0it''s')
+               AND ('{friend}', a) IN ANSWER R CHOOSE 1; SELECT * FROM T; SET @d = 'it''s'; COMMIT;"
+        )
+    };
+    let tx = manager.submit(&pair("Ann", "Bob")).expect("the script is right");
+    manager.submit(&pair("Bob", "Ann")).expect("the script is right");
+    manager.run().expect("memory is there");
+    let (rows, count) = refused(|| manager.table("T"));
+    assert!(rows.len() == 100 && rows[99][1] == "4it's" && count > 100);
+    let (answers, count) = refused(|| manager.answers(tx));
+    assert!(matches!(&answers[..], [Answer::Entangled(_), Answer::Rows(_), Answer::Set(_)]) && count > 100);
+    assert!(refused(|| manager.answer_lines(tx)).1 > 0);
+    assert_eq!(refused(|| manager.why(tx)).0, "committed 6 after 1");
+    assert!(refused(|| manager.explain("BEGIN")).0.is_some());
+    refused(|| manager.standing(tx));
+    refused(|| manager.close());
+    let (report, _) = refused(|| manager.report(Version::Two));
+    assert!(matches!(entangle::check(&report), Ok(Verdict::Yes)));
+}

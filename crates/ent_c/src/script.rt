@@ -1,0 +1,97 @@
+//! What is said of a script that a manager refuses.
+ghost use Rattle.std.specs.Prelude.{◌≡◌, IfErr, IfOk, IfSome, MatchOption};
+ghost use Rattle.std.specs.String.{string_bytes};
+ghost use Rattle.ent_driver.specs.Drives.{OfOpen};
+ghost use Rattle.ent_driver.specs.declared.fault.DriverFault.TheVariants.{Text};
+ghost use Rattle.ent_engine.specs.declared.fault.RunFault.TheVariants.{Memory};
+ghost use Rattle.ent_c.specs.Calls.{Declines};
+ghost use Rattle.ent_c.specs.Explaining.{ExplainsScript, HandsNothing, HandsSaid, IsFaultOf, IsScriptOf};
+ghost use Rattle.ent_c.specs.Managers.{behind};
+ghost use Rattle.ent_c.specs.Text.{IsSaidOf};
+
+use crate::DONE;
+use crate::buffer::lay_over;
+use crate::explanation::script_explanation_of;
+use crate::handle::Handle;
+use crate::told::Told;
+use ent_driver::{Driver, DriverFault, examine};
+use ent_engine::{RunFault, status_of};
+use std::alloc::Global;
+
+/// A fault, and what is said of it.
+#[derive(Drop)]
+pub(crate) struct Said {
+    pub(crate) fault: RunFault,
+    pub(crate) text: String,
+}
+
+/// What is said of the first fault of a script over the tables of a driver's core; nothing where it has no fault.
+fn said_of_script(
+    alloc: Global,
+    driver: &Driver,
+    script: &[u8],
+) -> Result<Option<Said>, DriverFault>
+    ensures said { IfOk result (λ said. MatchOption said (IsScriptOf driver.now script.now)
+        (λ said. IsFaultOf driver.now script.now said.fault)) }
+    ensures text { IfOk result (λ said. IfSome said (λ said. IsSaidOf said.fault (string_bytes said.text))) }
+    ensures refused { IfErr result (λ fault. OfOpen driver.now fault (λ s. fault ≡ Text Memory)) }
+{
+    let Some(opening) = driver.opening() else {
+        return Err(DriverFault::Vacant);
+    };
+    match examine(alloc, opening, script) {
+        Ok(()) => Ok(None),
+        Err(fault) => {
+            let text = script_explanation_of(alloc, opening, script, fault)?;
+            Ok(Some(Said { fault, text }))
+        }
+    }
+}
+
+/// Hands out what is said of a fault of a script, if it has one, or tells why nothing is.
+fn hand_out_said(
+    said: Result<Option<Said>, DriverFault>,
+    script: &[u8],
+    buffer: &mut [u8],
+    told: &mut Told,
+) -> i32
+    ensures said { IfOk said (λ said. MatchOption said (HandsNothing buffer.old buffer.new told.new result)
+        (λ said. HandsSaid said.fault (string_bytes said.text) script.now buffer.old buffer.new told.new result)) }
+    ensures refused { IfErr said (λ fault. Declines fault script.now buffer.old buffer.new told.new result) }
+{
+    match said {
+        Ok(None) => {
+            *told = Told::text(0);
+            DONE
+        }
+        Ok(Some(Said { fault, text })) => {
+            *told = Told::fault(script, fault, text.len());
+            lay_over(text.as_bytes(), buffer);
+            status_of(&fault) as i32
+        }
+        Err(fault) => {
+            *told = Told::refusal(script, fault);
+            fault.status() as i32
+        }
+    }
+}
+
+/// Hands out what is said of the fault of a script, as a submit would refuse it for; nothing is submitted.
+#[unsafe(no_mangle)]
+pub extern "C" fn ent_c_explain_script(
+    alloc: Global,
+    handle: &mut Handle,
+    script: &[u8],
+    buffer: &mut [u8],
+    told: &mut Told,
+) -> i32
+    ensures same { handle.new.held ≡ handle.old.held }
+    ensures text { ExplainsScript script.now (behind handle.old.held) buffer.old buffer.new told.new result }
+{
+    let Some(driver) = handle.take(alloc) else {
+        return hand_out_said(Err(DriverFault::Vacant), script, buffer, told);
+    };
+    let said = said_of_script(alloc, &driver, script);
+    handle.put(driver);
+    hand_out_said(said, script, buffer, told)
+}
