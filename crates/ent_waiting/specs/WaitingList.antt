@@ -1,22 +1,20 @@
 -- Who waits, and who waits no more.
-use Rattle.std.specs.Prelude.{◌≡◌, ◌≢◌, ◌⊎◌, ◌<◌, ◌≤◌, ◌+◌, ◌-◌, ◌^◌, ℕ, Bool, true, false, List, [], ◌∷◌, ◌++◌}
+use Rattle.std.specs.Prelude.{◌≡◌, ◌⊎◌, ◌<◌, ◌≤◌, ◌-◌, ◌^◌, ℕ, Bool, true, false, List, [], ◌∷◌, ◌++◌}
 use Rattle.std.specs.Prelude.{length, map, Option, Some, None, cond, if◌then◌else◌, nat_eq}
 use Rattle.std.specs.List.{IsDistinct}
 use Rattle.std.specs.Map.{lookup, remove_entry, set_value}
 use Rattle.std.specs.BTreeMap.{insert_entry, is_at}
 use Rattle.std.specs.Ordering.{nat_cmp}
-use Rattle.ent_tree.specs.declared.script.Script.{Script}
 use Rattle.ent_waiting.specs.Ended.{ended_of, last_of}
 use Rattle.ent_waiting.specs.Queues.{has, stands_in}
-use Rattle.ent_waiting.specs.Waiter.{is_over, with_batch}
+use Rattle.ent_waiting.specs.Waiter.{back_in, is_idle, is_over, noted, with_batch}
 use Rattle.ent_waiting.specs.declared.ended.Ended.{Ended}
 use Rattle.ent_waiting.specs.declared.ended.Ending.{Ending}
 use Rattle.ent_waiting.specs.declared.ended.Ending.TheVariants.{GaveUp}
 use Rattle.ent_waiting.specs.declared.queues.Queues.{Queues}
 use Rattle.ent_waiting.specs.declared.queues.Rank.{Rank}
-use Rattle.ent_waiting.specs.declared.waiter.Patience.{Patience}
 use Rattle.ent_waiting.specs.declared.waiter.Place.{Place}
-use Rattle.ent_waiting.specs.declared.waiter.Place.TheVariants.{Resting, Queued, Chosen, Submitted}
+use Rattle.ent_waiting.specs.declared.waiter.Place.TheVariants.{Submitted}
 use Rattle.ent_waiting.specs.declared.waiter.Submission.{Submission}
 use Rattle.ent_waiting.specs.declared.waiter.Waiter.{Waiter}
 
@@ -55,6 +53,11 @@ pub record IsUsed (list : WaitingList) (ticket : ℕ) : Type 0 where
   pub given : ticket < list.next
   pub not_earlier : list.earlier ≤ ticket → list.first ≤ ticket
 
+-- a ticket of an earlier process that didn't come back yet, nor did a greater one
+pub record MayComeBack (list : WaitingList) (ticket : ℕ) : Type 0 where
+  pub from : list.earlier ≤ ticket
+  pub below : ticket < list.first
+
 -- as many wait as there may be, or no ticket is left
 abbrev pub IsFull : WaitingList → Type 0
 IsFull list = (list.most_waiters ≤ length list.waiters) ⊎ (2 ^ 64 - 1 ≤ list.next)
@@ -67,12 +70,10 @@ admitted ticket waiter list = record list { waiters = insert_entry nat_cmp list.
 abbrev pub changed : ℕ → Waiter → WaitingList → WaitingList
 changed ticket waiter list = record list { waiters = set_value (is_at (nat_cmp ticket)) list.waiters waiter }
 
--- in no batch
-abbrev pub is_idle : Place → Bool
-is_idle Resting = true
-is_idle (Queued rank) = true
-is_idle Chosen = false
-is_idle (Submitted submission) = false
+-- a script waits, and is in no batch
+abbrev pub waits_idle : Option Waiter → Bool
+waits_idle None = false
+waits_idle (Some waiter) = is_idle waiter.place
 
 -- who is in no batch comes to another place; nobody else changes
 abbrev pub moved_with : Option Waiter → ℕ → Place → WaitingList → WaitingList
@@ -83,44 +84,29 @@ moved_with (Some waiter) ticket place list =
 abbrev pub moved : ℕ → Place → WaitingList → WaitingList
 moved ticket place list = moved_with (waiter_of list ticket) ticket place list
 
--- the transactions that it became, with that of its place
-abbrev pub noted : Place → List Submission → List Submission
-noted (Submitted submission) submissions = submissions ++ submission ∷ []
-noted other submissions = submissions
-
-abbrev pub ended_as : ℕ → Ending → ℕ → Waiter → Ended
-ended_as ticket ending batches waiter =
+-- how a script of a ticket ended, after one batch more that counts or doesn't
+abbrev pub ended_as : ℕ → Ending → Bool → Waiter → Ended
+ended_as ticket ending counts waiter =
     record {
       ticket = ticket;
       ending = ending;
-      batches = batches;
+      batches = with_batch counts waiter.batches;
       submissions = noted waiter.place waiter.submissions;
     }
 
 -- it waits no more
-abbrev pub ending_as : ℕ → Ending → ℕ → Waiter → WaitingList → WaitingList
-ending_as ticket ending batches waiter list =
+abbrev pub ending_as : ℕ → Ending → Bool → Waiter → WaitingList → WaitingList
+ending_as ticket ending counts waiter list =
     record list {
       waiters = remove_entry (is_at (nat_cmp ticket)) list.waiters;
-      ended = last_of list.most_ended (list.ended ++ ended_as ticket ending batches waiter ∷ []);
+      ended = last_of list.most_ended (list.ended ++ ended_as ticket ending counts waiter ∷ []);
     }
 
--- it waits again after a batch, at this place
-abbrev pub back_at : Place → Bool → ℕ → Waiter → Waiter
-back_at place alone batches waiter =
-    record waiter {
-      batches = batches;
-      submissions = noted waiter.place waiter.submissions;
-      place = place;
-      alone = alone;
-    }
-
--- it waits again after a batch; or it gives up, where its patience is used up
-abbrev pub back : ℕ → Bool → Place → Bool → Waiter → WaitingList → WaitingList
-back ticket counts place alone waiter list =
-    let batches = with_batch counts waiter.batches in
-    if is_over waiter.patience batches then ending_as ticket GaveUp batches waiter list else
-    changed ticket (back_at place alone batches waiter) list
+-- it waits again after a batch, in the queue of this rank; or it gives up, where its patience is used up
+abbrev pub back : ℕ → Rank → Bool → Bool → Waiter → WaitingList → WaitingList
+back ticket rank counts alone waiter list =
+    if is_over waiter.patience (with_batch counts waiter.batches) then ending_as ticket GaveUp counts waiter list else
+    changed ticket (back_in rank counts alone waiter) list
 
 -- one ticket has this script, or none, and all others have theirs
 abbrev pub UpdatesAt : ℕ → Option Waiter → List (ℕ × Waiter) → List (ℕ × Waiter) → Type 0
@@ -134,6 +120,16 @@ pub record StandsAt (list : WaitingList) (ticket : ℕ) (place : Place) : Type 0
   pub waiter : Waiter
   pub waits : waiter_of list ticket ≡ Some waiter
   pub place_is : waiter.place ≡ place
+
+-- the script of a ticket waits, as a transaction of a batch that isn't over
+abbrev pub IsSubmitted : WaitingList → ℕ → Type 0
+IsSubmitted list ticket = (submission : Submission) × StandsAt list ticket (Submitted submission)
+
+-- the script of a ticket waits, and is in a batch
+pub record IsInBatch (list : WaitingList) (ticket : ℕ) : Type 0 where
+  pub waiter : Waiter
+  pub waits : waiter_of list ticket ≡ Some waiter
+  pub busy : is_idle waiter.place ≡ false
 
 -- the script of a ticket waits, and is in no batch
 pub record IsIdle (list : WaitingList) (ticket : ℕ) : Type 0 where

@@ -1,5 +1,6 @@
 //! Scripts that wait no more.
-ghost use Rattle.std.specs.Prelude.{◌≡◌, ◌≤◌, ◌∷◌, ◌++◌, [], length, OnErr, OnOk};
+ghost use Rattle.std.specs.Prelude.{◌≡◌, ◌≤◌, ◌<◌, ◌∷◌, ◌++◌, [], length};
+ghost use Rattle.std.specs.VecDeque.{deque_capacity, deque_len};
 ghost use Rattle.std.specs.Option.{option_copied};
 ghost use Rattle.ent_waiting.specs.Ended.{ended_of, last_of};
 
@@ -7,7 +8,6 @@ use crate::ticket::Ticket;
 use crate::waiter::Submission;
 use ent_semantics::Failure;
 use ent_value::Sequence;
-use std::alloc::AllocError;
 use std::collections::VecDeque;
 
 /// How a script ended.
@@ -43,15 +43,14 @@ pub(crate) fn ended_of(ended: &VecDeque<Ended>, ticket: u64) -> Option<&Ended>
     ended.iter().find(|one| one.ticket.number() == ticket)
 }
 
-/// Keeps one more that ended, of which the last so many are kept. Where memory runs out nothing changes.
-pub(crate) fn keep(ended: &mut VecDeque<Ended>, most: usize, one: Ended) -> Result<(), AllocError>
-    requires { length ended.old.items ≤ most }
-    ensures ok { OnOk result (ended.new.items ≡ last_of most (ended.old.items ++ one ∷ [])) }
-    ensures err { OnErr result (ended.new.items ≡ ended.old.items) }
+/// Keeps one more that ended, of which the last so many are kept.
+pub(crate) fn keep(ended: &mut VecDeque<Ended>, most: usize, one: Ended)
+    requires limit { length ended.old.items ≤ most }
+    requires room { deque_len ended.old < deque_capacity ended.old }
+    ensures { ended.new.items ≡ last_of most (ended.old.items ++ one ∷ []) }
 {
-    ended.push_back(one)?;
+    ended.push_back_reserved(one);
     if ended.len() > most {
         let _first = ended.pop_front();
     }
-    Ok(())
 }

@@ -16,5 +16,4 @@ pub use ended::{Ended, Ending};
 pub use queues::Rank;
 pub use ticket::Ticket;
 pub use waiter::{Patience, Place, Submission, Waiter};
-pub use waiting_list::{Full, Limits, NotRestorable, NotWithdrawn, WaitingList};
-
+pub use waiting_list::{Full, Limits, NotRestored, NotWithdrawn, WaitingList};

@@ -1,8 +1,10 @@
 //! Scripts that wait.
-ghost use Rattle.std.specs.Prelude.{◌≡◌, ◌∷◌, ◌++◌, [], OnErr, OnOk};
-ghost use Rattle.ent_waiting.specs.Waiter.{is_over, newcomer, with_batch};
+ghost use Rattle.std.specs.Prelude.{◌≡◌, OnErr, OnOk};
+ghost use Rattle.ent_waiting.specs.Waiter.{back_in, is_idle, is_over, newcomer, with_batch, with_place_noted};
 
+use crate::ended::{Ended, Ending};
 use crate::queues::Rank;
+use crate::ticket::Ticket;
 use ent_tree::{Runs, Script};
 use ent_value::Sequence;
 use std::alloc::{AllocError, Global};
@@ -32,6 +34,18 @@ pub enum Place {
     Chosen,
     /// In a batch, as this transaction.
     Submitted(Submission),
+}
+
+impl Place {
+    /// Whether who is there is in no batch.
+    pub fn is_idle(self) -> bool
+        ensures { result ≡ is_idle self }
+    {
+        match self {
+            Place::Resting | Place::Queued(_) => true,
+            Place::Chosen | Place::Submitted(_) => false,
+        }
+    }
 }
 
 /// A script that waits.
@@ -69,6 +83,51 @@ impl Waiter {
             alone: false,
         }
     }
+
+    /// Notes the transaction that it became, where its place is one. Where memory runs out nothing changes.
+    pub(crate) fn note_place(&mut self) -> Result<(), AllocError>
+        ensures ok { OnOk result (self.new ≡ with_place_noted self.old) }
+        ensures err { OnErr result (self.new ≡ self.old) }
+    {
+        if let Place::Submitted(submission) = self.place {
+            self.submissions.push(submission)?;
+        }
+        Ok(())
+    }
+
+    /// It waits again after a batch, in the queue of this rank. Where memory runs out nothing changes.
+    pub(crate) fn come_back(
+        &mut self,
+        rank: Rank,
+        counts: bool,
+        alone: bool,
+    ) -> Result<(), AllocError>
+        ensures ok { OnOk result (self.new ≡ back_in rank counts alone self.old) }
+        ensures err { OnErr result (self.new ≡ self.old) }
+    {
+        self.note_place()?;
+        self.batches = with_batch(self.batches, counts);
+        self.place = Place::Queued(rank);
+        self.alone = alone;
+        Ok(())
+    }
+
+    /// How it ended, of whom its transaction is noted.
+    pub(crate) fn ended(self, ticket: Ticket, ending: Ending, counts: bool) -> Ended
+        ensures { result ≡ record {
+          ticket = ticket;
+          ending = ending;
+          batches = with_batch counts self.batches;
+          submissions = self.submissions;
+        } }
+    {
+        Ended {
+            ticket,
+            ending,
+            batches: with_batch(self.batches, counts),
+            submissions: self.submissions,
+        }
+    }
 }
 
 /// Whether its patience is used up after so many batches.
@@ -85,16 +144,9 @@ pub(crate) fn is_over(patience: Patience, batches: u64) -> bool
 pub(crate) fn with_batch(batches: u64, counts: bool) -> u64
     ensures { result ≡ with_batch counts batches }
 {
-    if counts { batches.saturating_add(1) } else { batches }
-}
-
-/// Notes a transaction that is over. Where memory runs out nothing changes.
-pub(crate) fn note(waiter: &mut Waiter, submission: Submission) -> Result<(), AllocError>
-    ensures ok { OnOk result (waiter.new ≡ record waiter.old {
-      submissions = waiter.old.submissions ++ submission ∷ [];
-    }) }
-    ensures err { OnErr result (waiter.new ≡ waiter.old) }
-{
-    waiter.submissions.push(submission)?;
-    Ok(())
+    if counts {
+        batches.saturating_add(1)
+    } else {
+        batches
+    }
 }
