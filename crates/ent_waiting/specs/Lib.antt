@@ -1,0 +1,4 @@
+pub mod Waiter
+pub mod Ended
+pub mod Queues
+pub mod WaitingList
