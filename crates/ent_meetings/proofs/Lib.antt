@@ -1,0 +1,3 @@
+pub mod Agreeing
+pub mod EntryOrder
+pub mod Posted

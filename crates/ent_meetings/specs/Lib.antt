@@ -1,0 +1,5 @@
+pub mod Waiting
+pub mod Next
+pub mod Keys
+pub mod Postings
+pub mod Indexed
