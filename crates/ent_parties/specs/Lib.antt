@@ -1,4 +1,5 @@
 pub mod Pattern
 pub mod Known
+pub mod Bindings
 pub mod Party
 pub mod Meeting

@@ -5,6 +5,7 @@ use Rattle.ent_semantics.specs.Database.{Environment, nothing_bound}
 use Rattle.ent_tree.specs.declared.entangled.Condition.{Condition}
 use Rattle.ent_tree.specs.declared.entangled.Condition.TheVariants.{InAnswer}
 use Rattle.ent_tree.specs.declared.entangled.Entangled.{Entangled}
+use Rattle.ent_tree.specs.declared.operand.Identifier.{Identifier}
 use Rattle.ent_tree.specs.declared.script.Script.{Script}
 use Rattle.ent_tree.specs.declared.script.Statement.{Statement}
 use Rattle.ent_tree.specs.declared.script.Statement.TheVariants as statements
@@ -26,14 +27,14 @@ abbrev pub text_views : Environment → List Statement → List TextView
 text_views known [] = []
 text_views known (statement ∷ more) = text_view known statement ++ text_views (known_after known statement) more
 
--- the select list, in each relation that is named
+-- the select list as a row of a relation
+abbrev pub offered_in : TextView → Identifier → Pattern
+offered_in view relation =
+    record { relation = relation.name; terms = map (λ item. known_term view.known item.term) view.entangled.items }
+
+-- it is offered in each relation that is named
 abbrev pub view_offers : TextView → List Pattern
-view_offers view =
-    map (λ relation.
-    record {
-      relation = relation.name;
-      terms = map (λ item. known_term view.known item.term) view.entangled.items;
-    }) view.entangled.relations
+view_offers view = map (offered_in view) view.entangled.relations
 
 -- the postcondition that a condition is, where it is one
 abbrev pub condition_demands : Environment → Condition → List Pattern

@@ -6,8 +6,11 @@
 //! here doesn't depend on tables, and a meeting that the tables forbid is not ruled out.
 #![tactic(auto)]
 
+mod known;
+mod meeting;
 mod party;
 mod pattern;
 
+pub use meeting::is_met;
 pub use party::Party;
 pub use pattern::{Pattern, may_be_one};

@@ -1,0 +1,130 @@
+-- In a good joint answer each demand of a member may be met, by the texts alone.
+use Rattle.std.proofs.Common.{◌≡◌, true, List, [], ◌∷◌, Some, Contains, sym, ap, subst, ◌∙◌, inl, inr}
+use Rattle.std.specs.List.{flat_map, list_any}
+use Rattle.ent_lists.specs.Elements.{In, any_in, contains_in, in_contains, in_either, in_first}
+use Rattle.ent_tree.specs.declared.script.Script.{Script}
+use Rattle.ent_semantics.specs.declared.book.Book.{Book}
+use Rattle.ent_semantics.specs.declared.book.JointAnswer.{JointAnswer}
+use Rattle.ent_semantics.specs.declared.book.Member.{Member}
+use Rattle.ent_semantics.specs.Book.{IsLegal, book_read_views}
+use Rattle.ent_semantics.specs.Database.{Database, opening_database}
+use Rattle.ent_semantics.specs.Joint.{IsGood, member_of}
+use Rattle.ent_semantics.specs.Serial.{ReadView, Turn, numbered}
+use Rattle.ent_parties.specs.Party.{TextView, view_demands, view_offers}
+use Rattle.ent_parties.specs.Pattern.{may_meet}
+use Rattle.ent_parties.specs.declared.pattern.Pattern.{Pattern}
+use Rattle.ent_meeting_laws.specs.Answered.{IsMetAmong}
+use Rattle.ent_meeting_laws.specs.Known.{IsKnownThere, demands_at, known_before, offers_at, view_at, viewed}
+use Rattle.ent_meeting_laws.proofs.Alike.{rows_may_meet}
+use Rattle.ent_meeting_laws.proofs.Covering.{demand_covers, head_covered}
+use Rattle.ent_meeting_laws.proofs.Seeing.{scripts_see}
+
+one_script : (first second : Script) → Some first ≡ Some second → first ≡ second
+one_script first second e = cc
+
+-- the text of an entangled statement that was seen
+abbrev text_of : Script → ReadView → TextView
+text_of script read_view =
+    record { known = known_before script read_view.place; entangled = read_view.entangled }
+
+module _ (script : Script) (read_view : ReadView) (known : IsKnownThere script read_view) where
+  one_view : view_at script read_view.place ≡ text_of script read_view ∷ []
+  one_view = ap (viewed (known_before script read_view.place)) known.statement
+
+  given_there : (given : TextView → List Pattern) (pattern : Pattern)
+      → In pattern (flat_map given (view_at script read_view.place)) → In pattern (given (text_of script read_view))
+  given_there given pattern at =
+      elim (in_either (given (text_of script read_view)) [] pattern
+      (subst (λ (views : List TextView). In pattern (flat_map given views)) one_view at)) [
+        | inl here ↦ here
+        | inr bad ↦ absurd bad
+      ]
+
+  stands_there : (given : TextView → List Pattern) (pattern : Pattern)
+      → In pattern (given (text_of script read_view)) → In pattern (flat_map given (view_at script read_view.place))
+  stands_there given pattern at =
+      subst (λ (views : List TextView). In pattern (flat_map given views)) (sym one_view)
+      (in_first (given (text_of script read_view)) [] pattern at)
+
+module _ (book : Book Database) (legal : IsLegal book) where
+  -- the turn of an entangled statement of the run
+  pub record IsOfTurn (read_view : ReadView) : Type 0 where
+    pub turn : Turn
+    pub at : In turn legal.turns
+    pub own : turn.tx ≡ read_view.tx
+    pub known : IsKnownThere turn.script read_view
+
+  pub of_turn : (read_view : ReadView) → Contains (book_read_views book legal.turns) read_view → IsOfTurn read_view
+  of_turn read_view has =
+      let r = scripts_see book.opening.tables legal.turns (opening_database book.opening) read_view
+      (contains_in (book_read_views book legal.turns) read_view has) in
+      record { turn = r.0; at = r.1; own = r.2; known = r.3 }
+
+  pub script_of : (read_view : ReadView) (of : IsOfTurn read_view)
+      → numbered book.scripts read_view.tx ≡ Some of.turn.script
+  script_of read_view of =
+      ap (numbered book.scripts) (sym of.own)
+      ∙ legal.runs.own_scripts of.turn (in_contains legal.turns of.turn of.at)
+
+  -- a member of the joint answer that offers it, and the turn of its transaction
+  pub record IsMetBy (members : List Member) (demand : Pattern) : Type 0 where
+    pub partner : Member
+    pub is_member : Contains members partner
+    pub turn : Turn
+    pub at : In turn legal.turns
+    pub own : turn.tx ≡ partner.tx
+    pub offers : list_any (may_meet demand) (offers_at turn.script partner.place) ≡ true
+
+  module _ (joint : JointAnswer) (in_book : Contains book.joint_answers joint) where
+    good : IsGood book.opening.tables (book_read_views book legal.turns) joint.members
+    good = legal.good joint in_book
+
+    pub met_by : (member : Member) (script : Script) (demand : Pattern) → Contains joint.members member
+        → numbered book.scripts member.tx ≡ Some script → Contains (demands_at script member.place) demand
+        → IsMetBy joint.members demand
+    met_by member script demand is_member of_list demands =
+        let run = book_read_views book legal.turns in
+        let seen = good.of_run member is_member in
+        let read_view = seen.0 in
+        let of = of_turn read_view seen.1 in
+        let same = seen.2 in
+        let script_is : script ≡ of.turn.script =
+        one_script script of.turn.script
+        (sym of_list ∙ ap (λ (m : Member). numbered book.scripts m.tx) same ∙ script_of read_view of) in
+        let there : In demand (demands_at of.turn.script read_view.place) =
+        subst (λ (s : Script). In demand (demands_at s read_view.place)) script_is
+        (subst (λ (m : Member). In demand (demands_at script m.place)) same
+        (contains_in (demands_at script member.place) demand demands)) in
+        let own = given_there of.turn.script read_view of.known view_demands demand there in
+        let post = demand_covers (text_of of.turn.script read_view) read_view.environment read_view.valuation
+        of.known.agrees demand (in_contains (view_demands (text_of of.turn.script read_view)) demand own) in
+        let met = good.met read_view (seen.1, subst (Contains joint.members) same is_member) post.0 post.1 in
+        let partner = met.0 in
+        let by = of_turn partner met.1.0 in
+        let offer = head_covered (text_of by.turn.script partner) partner.environment partner.valuation
+        by.known.agrees post.0 met.2 in
+        let offered = stands_there by.turn.script partner by.known view_offers offer.0
+        (contains_in (view_offers (text_of by.turn.script partner)) offer.0 offer.1) in
+        record {
+          partner = member_of partner;
+          is_member = met.1.1;
+          turn = by.turn;
+          at = by.at;
+          own = by.own;
+          offers = any_in (may_meet demand) (offers_at by.turn.script partner.place) offer.0 offered
+              (rows_may_meet demand offer.0 post.0 post.2 offer.2);
+        }
+
+    pub met_among : (member : Member) (script : Script) (demand : Pattern) → Contains joint.members member
+        → numbered book.scripts member.tx ≡ Some script → Contains (demands_at script member.place) demand
+        → IsMetAmong book.scripts joint.members demand
+    met_among member script demand is_member of_list demands =
+        let r = met_by member script demand is_member of_list demands in
+        record {
+          partner = r.partner;
+          script = r.turn.script;
+          is_member = r.is_member;
+          of_list = ap (numbered book.scripts) (sym r.own)
+              ∙ legal.runs.own_scripts r.turn (in_contains legal.turns r.turn r.at);
+          offers = r.offers;
+        }

@@ -1,0 +1,2 @@
+pub mod Bindings
+mod Offered
