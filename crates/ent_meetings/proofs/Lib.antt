@@ -1,3 +1,6 @@
-pub mod Agreeing
 pub mod EntryOrder
 pub mod Posted
+pub mod Agreeing
+pub mod Indexing
+pub mod Sought
+pub mod Nexts

@@ -17,7 +17,7 @@ use Rattle.ent_meetings.specs.Postings.{Posts, PostsSome, Unposts, entry_cmp, ha
 use Rattle.ent_meetings.proofs.EntryOrder.{at}
 
 -- two numbers compare as one exactly if they are one
-same_number : (a b : ℕ) → is_eq (nat_cmp a b) ≡ (a == b)
+pub same_number : (a b : ℕ) → is_eq (nat_cmp a b) ≡ (a == b)
 same_number a b = grind (arith, nat_tests)
 
 both : (one other : Ordering) → is_eq (ordering_then one other) ≡ (is_eq one && is_eq other)

@@ -45,6 +45,14 @@ abbrev pub IsPosted : (Party → List Pattern) → Waiting → Postings → Type
 IsPosted patterns waiting postings = (key ticket : ℕ)
     → has postings key ticket ≡ option_map_or (λ party. have_key (patterns party) key) (party_at waiting ticket) false
 
+-- the ticket is posted nowhere
+abbrev pub HasNone : Postings → ℕ → Type 0
+HasNone postings ticket = (key : ℕ) → has postings key ticket ≡ false
+
+-- the same tickets are posted under the same keys
+abbrev pub IsSame : Postings → Postings → Type 0
+IsSame old new = (key ticket : ℕ) → has new key ticket ≡ has old key ticket
+
 -- the ticket is posted with the pattern's own term at the place, or with an unknown one
 abbrev pub agrees_at : Postings → Pattern → ℕ → ℕ → Bool
 agrees_at postings pattern place ticket =
