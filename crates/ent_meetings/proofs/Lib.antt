@@ -4,3 +4,4 @@ pub mod Agreeing
 pub mod Indexing
 pub mod Sought
 pub mod Nexts
+pub mod Seeing

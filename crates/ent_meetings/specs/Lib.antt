@@ -4,3 +4,6 @@ pub mod Keys
 pub mod Postings
 pub mod Sides
 pub mod Indexed
+pub mod Group
+pub mod Meeting
+pub mod Stand

@@ -3,6 +3,7 @@
 
 mod board;
 mod entry;
+mod group;
 mod index;
 mod key;
 mod next;
