@@ -1,0 +1,8 @@
+use Rattle.std.proofs.Common.{rules, arith}
+use Rattle.std.proofs.lemmas.Grind.{common_steps}
+use Rattle.ent_meetings.specs.Keys.{key}
+use Rattle.ent_meetings.proofs.key.key.Goals as goal
+
+pub returns : goal.returns
+unfolding key
+returns c = grind (arith, common_steps)

@@ -1,0 +1,9 @@
+pub mod Waiting
+pub mod Next
+pub mod Keys
+pub mod Postings
+pub mod Sides
+pub mod Indexed
+pub mod Group
+pub mod Meeting
+pub mod Stand
