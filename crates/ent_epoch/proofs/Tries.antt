@@ -1,6 +1,6 @@
 -- The tries of scripts that ask for one run each.
-use Rattle.std.proofs.Common.{◌≡◌, ◌∙◌, ◌+◌, ◌-◌, ◌<◌, ◌≤◌, ℕ, zero, suc, Bool, true, false, List, [], ◌∷◌, ◌++◌, length, refl}
-use Rattle.std.proofs.Common.{sym, ap, subst, Option, Some, None, arith, drop, inl, inr, Result, Ok, Err, length-append, nat_le}
+use Rattle.std.proofs.Common.{◌≡◌, ◌∙◌, ◌+◌, ◌<◌, ◌≤◌, ℕ, zero, suc, Bool, true, false, List, [], ◌∷◌, ◌++◌, length, refl}
+use Rattle.std.proofs.Common.{sym, ap, subst, Some, arith, Result, Ok, Err, length-append, nat_le}
 use Rattle.ent_tree.specs.declared.limits.TheConstants.{MOST_SCRIPTS}
 use Rattle.ent_tree.specs.declared.script.Script.{Script}
 use Rattle.ent_closed.specs.declared.operand.Known.{Known}
@@ -11,7 +11,7 @@ use Rattle.std.proofs.lemmas.List.Sums.{sum_by-cons}
 use Rattle.ent_form.specs.declared.fault.FormFault.{FormFault}
 use Rattle.ent_group.specs.declared.members.TheConstants.{MOST_MEMBERS}
 use Rattle.ent_headline.specs.Resolved.{resolved_forms}
-use Rattle.ent_protocol.specs.Event.{Recall, Reply, StartRun, Submit, Submitted}
+use Rattle.ent_protocol.specs.Event.{Reply, StartRun, Submit, Submitted}
 use Rattle.ent_protocol.specs.Reached.{CanClose}
 use Rattle.ent_protocol.specs.Run.{StartsWith, SubmitsForm, SubmitsUnless, starting, submitting}
 use Rattle.ent_protocol.specs.State.{State, Submitted as Own, Dormant, Member, members}

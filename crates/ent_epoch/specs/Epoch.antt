@@ -1,11 +1,9 @@
 -- A core whose transactions are those of tickets.
-use Rattle.std.specs.Prelude.{◌≡◌, ◌≤◌, ℕ, List, [], ◌∷◌, ◌++◌, length, Option, Some, None}
+use Rattle.std.specs.Prelude.{◌≡◌, ℕ, List, [], ◌∷◌, ◌++◌, length, Option, Some, None}
 use Rattle.ent_tree.specs.declared.declaration.Opening.{Opening}
 use Rattle.ent_tree.specs.declared.script.Script.{Script}
-use Rattle.ent_form.specs.declared.fault.FormFault.{FormFault}
-use Rattle.ent_group.specs.declared.members.TheConstants.{MOST_MEMBERS}
 use Rattle.ent_headline.specs.Resolved.{resolved_forms}
-use Rattle.ent_protocol.specs.Event.{Full, Faulty, Submit, Submitted}
+use Rattle.ent_protocol.specs.Event.{Submit, Submitted}
 use Rattle.ent_protocol.specs.Lookup.{Finished, Standing}
 use Rattle.ent_protocol.specs.Reached.{opened}
 use Rattle.ent_protocol.specs.State.{State}

@@ -1,8 +1,5 @@
-use Rattle.std.proofs.Common.{◌≡◌, ◌∙◌, ◌+◌, ℕ, Result, Ok, Err, IfErr, IfOk, List}
+use Rattle.std.proofs.Common.{◌∙◌, ◌+◌, Result, Ok, Err, IfErr, IfOk}
 use Rattle.ent_headline.specs.Resolved.{resolved_forms}
-use Rattle.ent_protocol.specs.State.{State, Submitted}
-use Rattle.ent_sched.specs.Onward.{LeadsOn}
-use Rattle.ent_epoch.specs.OneRun.{EndsRun}
 use Rattle.ent_epoch.proofs.one_run.run_to_end.Goals as goal
 
 if_err : {T E : Type 0} {P Q : E → Type 0} (r : Result T E) → ((e : E) → P e → Q e) → IfErr r P → IfErr r Q

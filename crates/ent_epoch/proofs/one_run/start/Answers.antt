@@ -1,4 +1,4 @@
-use Rattle.std.proofs.Common.{refl, subst, sym, ℕ, ◌∙◌}
+use Rattle.std.proofs.Common.{refl, subst, sym, ◌∙◌}
 use Rattle.ent_core.specs.Reply.{reply_seen}
 use Rattle.ent_headline.specs.Resolved.{resolved_forms}
 use Rattle.ent_protocol.specs.Event.{Recall, StartRun}
