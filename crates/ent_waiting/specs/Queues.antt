@@ -35,7 +35,8 @@ SameQueues old new = (rank : Rank) (ticket : ℕ) → has rank new ticket ≡ ha
 -- in the queue of one rank one ticket is there or not, and all else is as it was
 abbrev pub Puts : Bool → Rank → ℕ → Queues → Queues → Type 0
 Puts there rank ticket old new = (other : Rank) (t : ℕ)
-    → has other new t ≡ cond (same_rank rank other) (cond (is_at (nat_cmp ticket) t) there (has other old t)) (has other old t)
+    → has other new t
+    ≡ cond (same_rank rank other) (cond (is_at (nat_cmp ticket) t) there (has other old t)) (has other old t)
 
 -- one ticket is in those queues, and all else is as it was
 abbrev pub MakesAt : ℕ → (Rank → Bool) → Queues → Queues → Type 0

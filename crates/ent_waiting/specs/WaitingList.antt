@@ -108,6 +108,11 @@ back ticket rank counts alone waiter list =
     if is_over waiter.patience (with_batch counts waiter.batches) then ending_as ticket GaveUp counts waiter list else
     changed ticket (back_in rank counts alone waiter) list
 
+-- what waits after a batch: the script again, or nothing where it gives up
+abbrev pub back_or_gone : Rank → Bool → Bool → Waiter → Option Waiter
+back_or_gone rank counts alone waiter =
+    if is_over waiter.patience (with_batch counts waiter.batches) then None else Some (back_in rank counts alone waiter)
+
 -- one ticket has this script, or none, and all others have theirs
 abbrev pub UpdatesAt : ℕ → Option Waiter → List (ℕ × Waiter) → List (ℕ × Waiter) → Type 0
 UpdatesAt ticket waiter old new = (t : ℕ) → lookup (is_at (nat_cmp t)) new
@@ -139,7 +144,7 @@ pub record IsIdle (list : WaitingList) (ticket : ℕ) : Type 0 where
 
 -- ---- what no call undoes
 
--- A ticket that was used stays used. Who has one and doesn't wait never waits again; how it ended is kept, or forgotten.
+-- A ticket that was used stays used. Who has one and doesn't wait never waits again; how it ended is kept or forgotten.
 pub record Onward (old new : WaitingList) : Type 0 where
   pub used : (ticket : ℕ) → IsUsed old ticket → IsUsed new ticket
   pub gone : (ticket : ℕ) → IsUsed old ticket → waiter_of old ticket ≡ None → waiter_of new ticket ≡ None

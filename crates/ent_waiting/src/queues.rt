@@ -9,8 +9,8 @@ use crate::waiter::Place;
 use std::alloc::{AllocError, Global};
 use std::collections::BTreeSet;
 
-/// A queue of scripts that wait, in the order in which queues are served. In a queue the least ticket comes first, which
-/// has waited longest.
+/// A queue of scripts that wait, in the order in which queues are served. In a queue the least ticket comes first,
+/// which has waited longest.
 #[derive(Clone, Copy, Debug, PartialEq, Eq)]
 pub enum Rank {
     /// Scripts without an entangled statement.

@@ -1,5 +1,6 @@
 //! The waiting list.
-ghost use Rattle.std.specs.Prelude.{◌≡◌, ◌∷◌, ◌++◌, IsSome, ◌≤◌, ◌<◌, ◌+◌, ◌-◌, ◌^◌, [], ℕ, false, length, true, OnErr, OnOk, IfErr, IfNone, IfOk};
+ghost use Rattle.std.specs.Prelude.{◌≡◌, ◌∷◌, ◌++◌, IsSome, ◌≤◌, ◌<◌, ◌+◌, ◌-◌, ◌^◌, [], ℕ, false, length, true};
+ghost use Rattle.std.specs.Prelude.{OnErr, OnOk, IfErr, IfNone, IfOk};
 ghost use Rattle.std.specs.Prelude.{IfSome, Some, None};
 ghost use Rattle.std.specs.Map.{lookup, remove_entry, set_value};
 ghost use Rattle.std.specs.BTreeMap.{insert_entry, is_at};
@@ -8,10 +9,12 @@ ghost use Rattle.std.specs.Option.{option_copied, option_map};
 ghost use Rattle.ent_value.specs.declared.refusal.Refusal.TheVariants.{Fault};
 ghost use Rattle.ent_waiting.specs.Ended.{ended_of as ended_in, last_of};
 ghost use Rattle.ent_waiting.specs.Queues.{SameQueues};
-ghost use Rattle.ent_waiting.specs.WaitingList.{AreQueued, IsFull, IsIdle, IsInBatch, IsSubmitted, IsUsed, MayComeBack, Onward, StandsAt, UpdatesAt};
-ghost use Rattle.ent_waiting.specs.WaitingList.{admitted, back, changed, ended_as, ending_as, is_queued, moved, nobody, waits_idle};
+ghost use Rattle.ent_waiting.specs.WaitingList.{AreQueued, IsFull, IsIdle, IsInBatch, IsSubmitted, IsUsed};
+ghost use Rattle.ent_waiting.specs.WaitingList.{MayComeBack, Onward, StandsAt, UpdatesAt};
+ghost use Rattle.ent_waiting.specs.WaitingList.{admitted, back, back_or_gone, changed, ended_as, ending_as};
+ghost use Rattle.ent_waiting.specs.WaitingList.{is_queued, moved, nobody, waits_idle};
 ghost use Rattle.ent_waiting.specs.WaitingList.{waiter_of};
-ghost use Rattle.ent_waiting.specs.Waiter.{back_in, is_over, newcomer, with_batch, with_place_noted};
+ghost use Rattle.ent_waiting.specs.Waiter.{back_in, is_idle, is_over, newcomer, with_batch, with_place_noted};
 ghost use Rattle.ent_waiting.specs.declared.ended.Ending.TheVariants.{Withdrawn};
 ghost use Rattle.ent_waiting.specs.declared.queues.Rank.{Rank as RankSeen};
 ghost use Rattle.ent_waiting.specs.declared.waiter.Waiter.{Waiter as WaiterSeen};
@@ -152,8 +155,8 @@ fn put_at(waiters: &mut BTreeMap<u64, Waiter>, ticket: u64, place: Place)
     }
 }
 
-/// The script of a ticket waits at another place, and goes from queue to queue where the place says so. Where memory runs
-/// out nothing changes.
+/// The script of a ticket waits at another place, and goes from queue to queue where the place says so. Where memory
+/// runs out nothing changes.
 fn move_to(
     waiters: &mut BTreeMap<u64, Waiter>,
     queues: &mut Queues,
@@ -341,10 +344,11 @@ impl WaitingList {
         rank: Rank,
     ) -> Result<Ticket, Refusal<Full>>
         ensures ticket { IfOk result (λ ticket. ticket ≡ self.old.next) }
-        ensures ok { OnOk result (self.new ≡ record (admitted self.old.next (newcomer script patience 0 rank) self.old) {
-          next = self.old.next + 1;
-        }) }
+        ensures ok { OnOk result (let waiter = newcomer script patience 0 rank in
+            self.new ≡ record (admitted self.old.next waiter self.old) { next = self.old.next + 1 }) }
         ensures err { OnErr result (self.new ≡ self.old) }
+        ensures updates { OnOk result (UpdatesAt self.old.next (Some (newcomer script patience 0 rank))
+            self.old.waiters self.new.waiters) }
         ensures full { IfErr result (λ refusal. (fault : FullSeen) → refusal ≡ Fault fault → IsFull self.old) }
         ensures room { OnOk result (length self.old.waiters < self.old.most_waiters) }
         ensures onward { Onward self.old self.new }
@@ -369,9 +373,10 @@ impl WaitingList {
         batches: u64,
         rank: Rank,
     ) -> Result<(), Refusal<NotRestored>>
-        ensures ok { OnOk result (self.new ≡ record (admitted ticket (newcomer script patience batches rank) self.old) {
-          earlier = ticket + 1;
-        }) }
+        ensures ok { OnOk result (let waiter = newcomer script patience batches rank in
+            self.new ≡ record (admitted ticket waiter self.old) { earlier = ticket + 1 }) }
+        ensures updates { OnOk result (UpdatesAt ticket (Some (newcomer script patience batches rank))
+            self.old.waiters self.new.waiters) }
         ensures unused { OnOk result (¬ IsUsed self.old ticket) }
         ensures err { OnErr result (self.new ≡ self.old) }
         ensures full { IfErr result (λ refusal. refusal ≡ Fault NoRoom → IsFull self.old) }
@@ -393,6 +398,10 @@ impl WaitingList {
     /// A script that waits and is in no batch comes into the queue of this rank. Where memory runs out nothing changes.
     pub fn queue(&mut self, ticket: Ticket, rank: Rank) -> Result<(), AllocError>
         ensures ok { OnOk result (self.new ≡ moved ticket (Queued rank) self.old) }
+        ensures updates { OnOk result ((waiter : WaiterSeen)
+            → waiter_of self.old ticket ≡ Some waiter
+            → is_idle waiter.place ≡ true
+            → UpdatesAt ticket (Some (record waiter { place = Queued rank })) self.old.waiters self.new.waiters) }
         ensures err { OnErr result (self.new ≡ self.old) }
         ensures onward { Onward self.old self.new }
     {
@@ -403,6 +412,10 @@ impl WaitingList {
     /// changes.
     pub fn rest(&mut self, ticket: Ticket) -> Result<(), AllocError>
         ensures ok { OnOk result (self.new ≡ moved ticket Resting self.old) }
+        ensures updates { OnOk result ((waiter : WaiterSeen)
+            → waiter_of self.old ticket ≡ Some waiter
+            → is_idle waiter.place ≡ true
+            → UpdatesAt ticket (Some (record waiter { place = Resting })) self.old.waiters self.new.waiters) }
         ensures err { OnErr result (self.new ≡ self.old) }
         ensures onward { Onward self.old self.new }
     {
@@ -412,6 +425,10 @@ impl WaitingList {
     /// A script that waits and is in no batch comes into the next one. Where memory runs out nothing changes.
     pub fn choose(&mut self, ticket: Ticket) -> Result<(), AllocError>
         ensures ok { OnOk result (self.new ≡ moved ticket Chosen self.old) }
+        ensures updates { OnOk result ((waiter : WaiterSeen)
+            → waiter_of self.old ticket ≡ Some waiter
+            → is_idle waiter.place ≡ true
+            → UpdatesAt ticket (Some (record waiter { place = Chosen })) self.old.waiters self.new.waiters) }
         ensures err { OnErr result (self.new ≡ self.old) }
         ensures onward { Onward self.old self.new }
     {
@@ -421,6 +438,10 @@ impl WaitingList {
     /// A script that waits and is in no batch comes to another place.
     fn put_idle(&mut self, ticket: Ticket, place: Place) -> Result<(), AllocError>
         ensures ok { OnOk result (self.new ≡ moved ticket place self.old) }
+        ensures updates { OnOk result ((waiter : WaiterSeen)
+            → waiter_of self.old ticket ≡ Some waiter
+            → is_idle waiter.place ≡ true
+            → UpdatesAt ticket (Some (record waiter { place = place })) self.old.waiters self.new.waiters) }
         ensures err { OnErr result (self.new ≡ self.old) }
         ensures onward { Onward self.old self.new }
     {
@@ -438,6 +459,7 @@ impl WaitingList {
         ensures ok { OnOk result ((waiter : WaiterSeen)
             → waiter_of self.old ticket ≡ Some waiter
             → self.new ≡ ending_as ticket Withdrawn false waiter self.old) }
+        ensures updates { OnOk result (UpdatesAt ticket None self.old.waiters self.new.waiters) }
         ensures err { OnErr result (self.new ≡ self.old) }
         ensures absent { IfErr result (λ refusal. refusal ≡ Fault Absent → waiter_of self.old ticket ≡ None) }
         ensures in_batch { IfErr result (λ refusal. refusal ≡ Fault InBatch → IsInBatch self.old ticket) }
@@ -461,6 +483,10 @@ impl WaitingList {
         ensures ok { (waiter : WaiterSeen)
             → waiter_of self.old ticket ≡ Some waiter
             → self.new ≡ changed ticket (record waiter { place = Submitted submission }) self.old }
+        ensures updates { (waiter : WaiterSeen)
+            → waiter_of self.old ticket ≡ Some waiter
+            → UpdatesAt ticket (Some (record waiter { place = Submitted submission }))
+            self.old.waiters self.new.waiters }
         ensures onward { Onward self.old self.new }
     {
         put_at(
@@ -476,15 +502,16 @@ impl WaitingList {
         ensures ok { OnOk result ((waiter : WaiterSeen)
             → waiter_of self.old ticket ≡ Some waiter
             → self.new ≡ ending_as ticket ending true waiter self.old) }
+        ensures updates { OnOk result (UpdatesAt ticket None self.old.waiters self.new.waiters) }
         ensures err { OnErr result (self.new ≡ self.old) }
         ensures onward { Onward self.old self.new }
     {
         self.finish(ticket, ending, true)
     }
 
-    /// A script of a batch that is over waits again, in the queue of this rank; or it gives up, where its patience is used
-    /// up by then. It says whether the batch counts against the patience, and whether the script's meeting is tried by
-    /// itself next. Where memory runs out nothing changes.
+    /// A script of a batch that is over waits again, in the queue of this rank; or it gives up, where its patience is
+    /// used up by then. The caller says whether the batch counts against the patience, and whether the script's meeting
+    /// is tried by itself next. Where memory runs out nothing changes.
     pub fn wait_again(
         &mut self,
         ticket: Ticket,
@@ -496,6 +523,9 @@ impl WaitingList {
         ensures ok { OnOk result ((waiter : WaiterSeen)
             → waiter_of self.old ticket ≡ Some waiter
             → self.new ≡ back ticket rank counts alone waiter self.old) }
+        ensures updates { OnOk result ((waiter : WaiterSeen)
+            → waiter_of self.old ticket ≡ Some waiter
+            → UpdatesAt ticket (back_or_gone rank counts alone waiter) self.old.waiters self.new.waiters) }
         ensures err { OnErr result (self.new ≡ self.old) }
         ensures onward { Onward self.old self.new }
     {
@@ -531,6 +561,9 @@ impl WaitingList {
         ensures ok { OnOk result ((waiter : WaiterSeen)
             → waiter_of self.old ticket ≡ Some waiter
             → self.new ≡ changed ticket (back_in rank counts alone waiter) self.old) }
+        ensures updates { OnOk result ((waiter : WaiterSeen)
+            → waiter_of self.old ticket ≡ Some waiter
+            → UpdatesAt ticket (Some (back_in rank counts alone waiter)) self.old.waiters self.new.waiters) }
         ensures err { OnErr result (self.new ≡ self.old) }
         ensures onward { Onward self.old self.new }
     {
@@ -551,6 +584,7 @@ impl WaitingList {
         ensures ok { OnOk result ((waiter : WaiterSeen)
             → waiter_of self.old ticket ≡ Some waiter
             → self.new ≡ ending_as ticket ending counts waiter self.old) }
+        ensures updates { OnOk result (UpdatesAt ticket None self.old.waiters self.new.waiters) }
         ensures err { OnErr result (self.new ≡ self.old) }
         ensures onward { Onward self.old self.new }
     {

@@ -1,0 +1,277 @@
+//! Epochs.
+ghost use Rattle.std.specs.Prelude.{◌≡◌, ◌+◌, ◌<◌, ◌≤◌, ℕ, IfErr, IfOk, IsSome, OnErr, OnOk, Some, false, length};
+ghost use Rattle.std.specs.Option.{option_copied};
+ghost use Rattle.ent_value.specs.Refusal.{Gives};
+ghost use Rattle.ent_value.specs.declared.refusal.Refusal.TheVariants.{Fault};
+ghost use Rattle.ent_form.specs.OpeningFault.{opening_fault, unless};
+ghost use Rattle.ent_group.specs.declared.members.TheConstants.{MOST_MEMBERS};
+ghost use Rattle.ent_headline.specs.Resolved.{resolved_forms};
+ghost use Rattle.ent_form.specs.declared.fault.FormFault.{FormFault as FormFaultSeen};
+ghost use Rattle.ent_protocol.specs.Event.{Full as IsFull, Faulty as IsFaulty, Submit, Submitted};
+ghost use Rattle.ent_protocol.specs.Lookup.{standing};
+ghost use Rattle.ent_protocol.specs.Reached.{CanClose, book_of};
+ghost use Rattle.ent_protocol.specs.Step.{Step};
+ghost use Rattle.ent_sched.specs.Onward.{LeadsOn};
+ghost use Rattle.ent_semantics.specs.Book.{IsLegal};
+ghost use Rattle.ent_semantics.specs.Serial.{numbered};
+ghost use Rattle.ent_epoch.specs.Epoch.{Takes, begun, core_in, fate_at, for_one_run};
+ghost use Rattle.ent_epoch.specs.OneRun.{AreForOneRun, MakesRun};
+ghost use Rattle.ent_epoch.specs.declared.epoch.NotSubmitted.TheVariants.{Full, Faulty};
+
+use crate::one_run::run_to_end;
+use crate::script::for_one_run;
+use ent_core::{Core, Reply, Standing};
+use ent_form::FormFault;
+use ent_group::Tx;
+use ent_headline::resolved_runs_are_legal;
+use ent_semantics::{Fate, element};
+use ent_tree::{Opening, Script};
+use ent_value::Refusal;
+use ent_waiting::{Submission, Ticket};
+use std::alloc::{AllocError, Global};
+use std::marker::Model;
+
+/// Why an epoch doesn't take a script.
+#[derive(Clone, Copy, Debug, PartialEq, Eq)]
+pub enum NotSubmitted {
+    /// As many scripts as a core takes were submitted to it.
+    Full,
+    /// The script has this fault of form.
+    Faulty(FormFault),
+}
+
+/// A core, and the ticket of each of its transactions. Contracts see its number, the core's state, and the tickets by
+/// transaction.
+#[derive(Drop)]
+pub struct Epoch {
+    number: u64,
+    core: Option<Core>,
+    tickets: Vec<Ticket>,
+}
+
+impl Model for Epoch {
+    ghost use Rattle.std.specs.Coded.{codes};
+    ghost use Rattle.std.specs.Prelude.{IsSome};
+    ghost use Rattle.ent_rel.specs.Relation.{coded_rows};
+    ghost use Rattle.ent_epoch.specs.Epoch.{Epoch, IsKept, core_in};
+
+    ghost Value = { Epoch };
+
+    ghost coded = { Prim.hlevel (codes, coded_rows) };
+
+    ghost view = { λ e. record { number = e.number; core = core_in e.core; tickets = e.tickets.items } };
+
+    ghost invariant = { λ e. IsSome e.core
+        × IsKept (record { number = e.number; core = core_in e.core; tickets = e.tickets.items }) };
+}
+
+/// The core of an epoch.
+fn core_of(core: &Option<Core>) -> &Core
+    requires { IsSome core.now }
+    ensures { core.now ≡ Some result.now }
+{
+    match core {
+        Some(core) => core,
+        None => unreachable!(),
+    }
+}
+
+/// Makes one run of the core of an epoch, to its end. Where memory runs out, what was done stands.
+fn run_in(alloc: Global, core: &mut Option<Core>) -> Result<(), AllocError>
+    requires there { IsSome core.old }
+    requires once { AreForOneRun (core_in core.old) }
+    ensures there { IsSome core.new }
+    ensures ok { OnOk result (MakesRun (core_in core.old) (core_in core.new)) }
+    ensures kept { AreForOneRun (core_in core.new) }
+    ensures submitted { (core_in core.new).submitted ≡ (core_in core.old).submitted }
+    ensures err { OnErr result ((count : ℕ) × LeadsOn resolved_forms count (core_in core.old) (core_in core.new)) }
+{
+    let Some(open) = core.take() else {
+        unreachable!();
+    };
+    match run_to_end(alloc, open) {
+        Ok(new) => {
+            *core = Some(new);
+            Ok(())
+        }
+        Err(refused) => {
+            *core = Some(refused.value);
+            Err(AllocError)
+        }
+    }
+}
+
+/// Submits a script to a core.
+fn submit_to(core: &mut Core, script: Script) -> Result<Tx, Refusal<NotSubmitted>>
+    ensures ok { IfOk result (λ tx. Step resolved_forms core.old (Submit script) (Submitted tx) core.new) }
+    ensures err { OnErr result (core.new ≡ core.old) }
+    ensures full { IfErr result (λ refusal. refusal ≡ Fault Full
+        → Step resolved_forms core.old (Submit script) (IsFull script) core.old) }
+    ensures faulty { IfErr result (λ refusal. (fault : FormFaultSeen) → refusal ≡ Fault (Faulty fault)
+        → Step resolved_forms core.old (Submit script) (IsFaulty script fault) core.old) }
+{
+    match core.submit(script)? {
+        Reply::Submitted(tx) => Ok(tx),
+        Reply::Full(script) => {
+            drop(script);
+            Err(Refusal::Fault(NotSubmitted::Full))
+        }
+        Reply::Faulty(script, fault) => {
+            drop(script);
+            Err(Refusal::Fault(NotSubmitted::Faulty(fault)))
+        }
+        // No other reply is made to a submit.
+        other => {
+            drop(other);
+            Err(Refusal::Memory)
+        }
+    }
+}
+
+/// Submits a script that asks for one run, where no run is on and one has room for one more.
+#[tactic(auto, using(crate::proofs::Tries::submitted_kept, crate::proofs::Tries::submitted_counted, crate::proofs::Tries::submitted_next))]
+fn submit_once(core: &mut Core, script: Script) -> Result<Tx, Refusal<NotSubmitted>>
+    requires once { AreForOneRun core.old }
+    requires idle { core.old.running ≡ false }
+    requires room { length core.old.dormant < MOST_MEMBERS }
+    requires within { script.within ≤ 1 }
+    ensures kept { AreForOneRun core.new }
+    ensures counted { OnOk result (length core.new.submitted ≡ length core.old.submitted + 1) }
+    ensures next { IfOk result (λ tx. tx ≡ length core.old.submitted + 1) }
+    ensures ok { IfOk result (λ tx. Step resolved_forms core.old (Submit script) (Submitted tx) core.new) }
+    ensures err { OnErr result (core.new ≡ core.old) }
+    ensures full { IfErr result (λ refusal. refusal ≡ Fault Full
+        → Step resolved_forms core.old (Submit script) (IsFull script) core.old) }
+    ensures faulty { IfErr result (λ refusal. (fault : FormFaultSeen) → refusal ≡ Fault (Faulty fault)
+        → Step resolved_forms core.old (Submit script) (IsFaulty script fault) core.old) }
+{
+    let tx = submit_to(core, script)?;
+    Ok(tx)
+}
+
+/// Submits a script that asks for one run to the core of an epoch, where no run is on and one has room for one more.
+fn submit_in(core: &mut Option<Core>, script: Script) -> Result<Tx, Refusal<NotSubmitted>>
+    requires there { IsSome core.old }
+    requires once { AreForOneRun (core_in core.old) }
+    requires idle { (core_in core.old).running ≡ false }
+    requires room { length (core_in core.old).dormant < MOST_MEMBERS }
+    requires within { script.within ≤ 1 }
+    ensures there { IsSome core.new }
+    ensures ok { IfOk result (λ tx.
+        Step resolved_forms (core_in core.old) (Submit script) (Submitted tx) (core_in core.new)) }
+    ensures kept { AreForOneRun (core_in core.new) }
+    ensures counted { OnOk result (length (core_in core.new).submitted ≡ length (core_in core.old).submitted + 1) }
+    ensures next { IfOk result (λ tx. tx ≡ length (core_in core.old).submitted + 1) }
+    ensures err { OnErr result (core_in core.new ≡ core_in core.old) }
+    ensures full { IfErr result (λ refusal. refusal ≡ Fault Full
+        → Step resolved_forms (core_in core.old) (Submit script) (IsFull script) (core_in core.old)) }
+    ensures faulty { IfErr result (λ refusal. (fault : FormFaultSeen) → refusal ≡ Fault (Faulty fault)
+        → Step resolved_forms (core_in core.old) (Submit script) (IsFaulty script fault) (core_in core.old)) }
+{
+    match core {
+        Some(core) => submit_once(core, script),
+        None => unreachable!(),
+    }
+}
+
+impl Epoch {
+    /// An epoch of this number over an opening, to which nothing is submitted; or the opening's first fault of form.
+    pub fn open(alloc: Global, number: u64, opening: Opening) -> Result<Self, Refusal<FormFault>>
+        ensures { Gives (λ epoch. epoch) result (unless (opening_fault opening) (begun number opening)) }
+    {
+        let core = Core::open(alloc, opening)?;
+        Ok(Epoch {
+            number,
+            core: Some(core),
+            tickets: Vec::new(alloc),
+        })
+    }
+
+    /// Takes a copy of a script of a ticket in, which asks for one run. At a refusal nothing changes.
+    pub fn submit(
+        &mut self,
+        alloc: Global,
+        ticket: Ticket,
+        script: &Script,
+    ) -> Result<Submission, Refusal<NotSubmitted>>
+        requires idle { self.old.core.running ≡ false }
+        requires room { length self.old.core.dormant < MOST_MEMBERS }
+        ensures ok { IfOk result (λ submission. Takes self.old ticket script.now submission self.new) }
+        ensures next { IfOk result (λ submission. submission.tx ≡ length self.old.tickets + 1) }
+        ensures err { OnErr result (self.new ≡ self.old) }
+        ensures full { IfErr result (λ refusal. refusal ≡ Fault Full
+            → let once = for_one_run script.now in
+            Step resolved_forms self.old.core (Submit once) (IsFull once) self.old.core) }
+        ensures faulty { IfErr result (λ refusal. (fault : FormFaultSeen) → refusal ≡ Fault (Faulty fault)
+            → let once = for_one_run script.now in
+            Step resolved_forms self.old.core (Submit once) (IsFaulty once fault) self.old.core) }
+    {
+        let once = for_one_run(alloc, script)?;
+        self.tickets.reserve(1)?;
+        let tx = submit_in(&mut self.core, once)?;
+        self.tickets.push_reserved(ticket);
+        Ok(Submission {
+            epoch: self.number,
+            tx,
+        })
+    }
+
+    /// Makes one run of those who were submitted since the last one, to its end: then no run is on, nobody waits for
+    /// another, and each transaction has its fate. Where memory runs out, what was done stands, and the call may be
+    /// made again.
+    pub fn run(&mut self, alloc: Global) -> Result<(), AllocError>
+        ensures ok { OnOk result (MakesRun self.old.core self.new.core) }
+        ensures closes { OnOk result (CanClose self.new.core) }
+        ensures err { OnErr result ((count : ℕ) × LeadsOn resolved_forms count self.old.core self.new.core) }
+        ensures same { self.new ≡ record self.old { core = self.new.core } }
+    {
+        run_in(alloc, &mut self.core)
+    }
+
+    /// The number of the epoch.
+    pub fn number(&self) -> u64
+        ensures { result ≡ self.now.number }
+    {
+        self.number
+    }
+
+    /// How many scripts were submitted.
+    pub fn submitted(&self) -> usize
+        ensures submitted { result ≡ length self.now.core.submitted }
+        ensures tickets { result ≡ length self.now.tickets }
+    {
+        self.tickets.len()
+    }
+
+    /// Whose a transaction is.
+    pub fn ticket(&self, tx: Tx) -> Option<Ticket>
+        ensures { result ≡ numbered self.now.tickets tx }
+    {
+        element(self.tickets.as_slice(), tx).copied()
+    }
+
+    /// The core, for its look-ups.
+    pub fn core(&self) -> &Core
+        ensures { result.now ≡ self.now.core }
+    {
+        core_of(&self.core)
+    }
+
+    /// A law, which does nothing: the book of the epoch is legal, at all times.
+    pub fn is_legal(&self)
+        ensures { IsLegal (book_of self.now.core) }
+    {
+        resolved_runs_are_legal();
+        self.core().is_reached();
+    }
+
+    /// The fate of a transaction, where it has one.
+    pub fn fate(&self, tx: Tx) -> Option<Fate>
+        ensures { result ≡ fate_at (standing self.now.core tx) }
+    {
+        match self.core().standing(tx) {
+            Some(Standing::Finished(fate)) => Some(fate),
+            _ => None,
+        }
+    }
+}
