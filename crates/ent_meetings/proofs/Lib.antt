@@ -5,3 +5,9 @@ pub mod Indexing
 pub mod Sought
 pub mod Nexts
 pub mod Seeing
+pub mod Waiters
+pub mod Passed
+pub mod Ways
+pub mod Stands
+pub mod Places
+pub mod Moving

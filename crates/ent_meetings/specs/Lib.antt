@@ -7,3 +7,5 @@ pub mod Indexed
 pub mod Group
 pub mod Meeting
 pub mod Stand
+pub mod Search
+pub mod SearchSteps

@@ -1,5 +1,5 @@
 -- Who comes next after a ticket.
-use Rattle.std.specs.Prelude.{ℕ, ◌≡◌, ◌<◌, ◌≤◌, Bool, true, false, Option, Some, None, IfSome}
+use Rattle.std.specs.Prelude.{ℕ, ◌≡◌, ◌<◌, ◌≤◌, Bool, true, false, Option, Some, None, IsSomeAnd}
 use Rattle.ent_meetings.specs.declared.next.Next.{Next}
 use Rattle.ent_meetings.specs.declared.next.Next.TheVariants.{Found, Nobody, Stopped}
 
@@ -20,4 +20,4 @@ IsNext passes after looks left (Found ticket) = IsAfter after ticket × (passes 
 IsNext passes after looks left Nobody = (other : ℕ) → IsAfter after other → passes other ≡ false
 IsNext passes after looks left (Stopped last) = (left ≡ 0)
     × ((other : ℕ) → IsAfter after other → IsUpTo last other → passes other ≡ false)
-    × (0 < looks → IfSome last (IsAfter after))
+    × (0 < looks → IsSomeAnd last (IsAfter after))

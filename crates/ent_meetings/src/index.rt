@@ -154,6 +154,7 @@ impl Index {
     fn next(&self, side: Side, sought: &Pattern, after: Option<u64>, looks: &mut usize) -> Next
         ensures next { IsNext (fits_at side self.now sought.now) after looks.old looks.new result }
         ensures looks { looks.new ≤ looks.old }
+        ensures looked { 0 < looks.old → looks.new < looks.old }
     {
         let postings = self.postings(side);
         let mut last = after;
@@ -178,6 +179,7 @@ impl Index {
     pub fn next_offerer(&self, demand: &Pattern, after: Option<u64>, looks: &mut usize) -> Next
         ensures next { IsNext (offers_at self.now demand.now) after looks.old looks.new result }
         ensures looks { looks.new ≤ looks.old }
+        ensures looked { 0 < looks.old → looks.new < looks.old }
     {
         self.next(Side::Offers, demand, after, looks)
     }
@@ -187,6 +189,7 @@ impl Index {
     pub fn next_demander(&self, offer: &Pattern, after: Option<u64>, looks: &mut usize) -> Next
         ensures next { IsNext (demands_at self.now offer.now) after looks.old looks.new result }
         ensures looks { looks.new ≤ looks.old }
+        ensures looked { 0 < looks.old → looks.new < looks.old }
     {
         self.next(Side::Demands, offer, after, looks)
     }

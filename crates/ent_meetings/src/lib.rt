@@ -3,12 +3,16 @@
 
 mod board;
 mod entry;
+mod found;
 mod group;
 mod index;
 mod key;
 mod next;
 mod postings;
+mod search;
 mod side;
 
+pub use found::{Bound, Found};
 pub use index::Index;
 pub use next::Next;
+pub use search::{MOST_CHOICES, Search};

@@ -1,4 +1,4 @@
-use Rattle.std.proofs.Common.{◌≡◌, ◌<◌, ◌≤◌, ℕ, false, IfSome}
+use Rattle.std.proofs.Common.{◌≡◌, ◌<◌, ◌≤◌, ℕ, false, IsSomeAnd}
 use Rattle.ent_meetings.specs.Next.{IsAfter, IsUpTo}
 use Rattle.ent_meetings.specs.Sides.{fits_at}
 use Rattle.ent_meetings.proofs.index.Index.next.Given as goal
@@ -13,5 +13,5 @@ invariant-loop-looks l = record {
   none : (other : ℕ) → IsAfter l.initial.last other → IsUpTo l.last other
       → fits_at l.side l.self l.sought other ≡ false;
   later : (other : ℕ) → IsAfter l.last other → IsAfter l.initial.last other;
-  further : l.looks < l.initial.looks → IfSome l.last (IsAfter l.initial.last);
+  further : l.looks < l.initial.looks → IsSomeAnd l.last (IsAfter l.initial.last);
 }
