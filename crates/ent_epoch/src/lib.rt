@@ -11,6 +11,6 @@ mod law;
 mod one_run;
 mod script;
 
-pub use epoch::{Epoch, NotSubmitted};
+pub use epoch::{Epoch, NotClosed, NotSubmitted};
 pub use one_run::run_to_end;
 pub use script::for_one_run;
