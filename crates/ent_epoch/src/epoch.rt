@@ -226,8 +226,8 @@ impl Epoch {
         })
     }
 
-    /// Makes one run of those who were submitted since the last one, to its end: then no run is on, and nobody waits for
-    /// another. Where memory runs out, what was done stands, and the call may be made again.
+    /// Makes one run of those who were submitted since the last one, to its end: then no run is on, and nobody waits
+    /// for another. Where memory runs out, what was done stands, and the call may be made again.
     pub fn run(&mut self, alloc: Global) -> Result<(), AllocError>
         ensures ok { OnOk result (MakesRun self.old.core self.new.core) }
         ensures closes { OnOk result (CanClose self.new.core) }
