@@ -1,6 +1,8 @@
 //! Epochs.
 ghost use Rattle.std.specs.Prelude.{◌≡◌, ◌+◌, ◌<◌, ◌≤◌, ℕ, IfErr, IfOk, IsSome, OnErr, OnOk, Some, false, length};
 ghost use Rattle.std.specs.Option.{option_copied};
+ghost use Rattle.ent_book.specs.Tables.{book_seen};
+ghost use Rattle.ent_core.specs.declared.closing.NotDone.{NotDone};
 ghost use Rattle.ent_value.specs.Refusal.{Gives};
 ghost use Rattle.ent_value.specs.declared.refusal.Refusal.TheVariants.{Fault};
 ghost use Rattle.ent_form.specs.OpeningFault.{opening_fault, unless};
@@ -20,10 +22,11 @@ ghost use Rattle.ent_epoch.specs.declared.epoch.NotSubmitted.TheVariants.{Full, 
 
 use crate::one_run::run_to_end;
 use crate::script::for_one_run;
-use ent_core::{Core, Reply, Standing};
+use ent_core::{Core, NotDone, Reply, Standing};
 use ent_form::FormFault;
 use ent_group::Tx;
 use ent_headline::resolved_runs_are_legal;
+use ent_renewal::FinishedBook;
 use ent_semantics::{Fate, element};
 use ent_tree::{Opening, Script};
 use ent_value::Refusal;
@@ -63,6 +66,13 @@ impl Model for Epoch {
 
     ghost invariant = { λ e. IsSome e.core
         × IsKept (record { number = e.number; core = core_in e.core; tickets = e.tickets.items }) };
+}
+
+/// An epoch that isn't closed, as it was, and why.
+#[derive(Drop)]
+pub struct NotClosed {
+    pub epoch: Epoch,
+    pub refusal: Refusal<NotDone>,
 }
 
 /// The core of an epoch.
@@ -216,9 +226,8 @@ impl Epoch {
         })
     }
 
-    /// Makes one run of those who were submitted since the last one, to its end: then no run is on, nobody waits for
-    /// another, and each transaction has its fate. Where memory runs out, what was done stands, and the call may be
-    /// made again.
+    /// Makes one run of those who were submitted since the last one, to its end: then no run is on, and nobody waits
+    /// for another. Where memory runs out, what was done stands, and the call may be made again.
     pub fn run(&mut self, alloc: Global) -> Result<(), AllocError>
         ensures ok { OnOk result (MakesRun self.old.core self.new.core) }
         ensures closes { OnOk result (CanClose self.new.core) }
@@ -272,6 +281,40 @@ impl Epoch {
         match self.core().standing(tx) {
             Some(Standing::Finished(fate)) => Some(fate),
             _ => None,
+        }
+    }
+
+    /// The book of the epoch, where no run is on and nobody waits for one; else, and where memory runs out, the epoch
+    /// comes back.
+    pub fn close(self) -> Result<FinishedBook, NotClosed>
+        ensures book { IfOk result (λ book. book_seen book ≡ book_of self.core) }
+        ensures legal { IfOk result (λ book. IsLegal (book_seen book)) }
+        ensures done { OnOk result (CanClose self.core) }
+        ensures returned { IfErr result (λ refused. refused.epoch ≡ self) }
+        ensures not_done { IfErr result (λ refused. (fault : NotDone)
+            → refused.refusal ≡ Fault fault
+            → ¬ CanClose self.core) }
+    {
+        let Epoch {
+            number,
+            core,
+            tickets,
+        } = self;
+        let Some(open) = core else {
+            unreachable!();
+        };
+        // A law: the opening has no fault of form.
+        open.is_reached();
+        match open.close() {
+            Ok(book) => Ok(FinishedBook::new(book)),
+            Err(ent_core::NotClosed { core, refusal }) => Err(NotClosed {
+                epoch: Epoch {
+                    number,
+                    core: Some(core),
+                    tickets,
+                },
+                refusal,
+            }),
         }
     }
 }

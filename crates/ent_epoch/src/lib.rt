@@ -1,9 +1,8 @@
 //! An epoch: a core whose transactions are those of tickets, each for one run.
 //!
 //! An [`Epoch`] takes a batch of scripts, at most as many as a run has members, and makes one run of them, to its end.
-//! Then nobody waits in the core, no run is on, and each script has a fate: so a caller finds the core between two
-//! batches as if all of it were over. A caller may rely on it that an epoch submits nothing but what it is given, for
-//! one run each, that its book is legal at all times, and that it can be closed after each batch.
+//! Then nobody waits in the core and no run is on. A caller may rely on it that an epoch submits nothing but what it is
+//! given, for one run each, that its book is legal at all times, and that it can be closed after each batch.
 #![tactic(auto)]
 
 mod epoch;
@@ -11,6 +10,6 @@ mod law;
 mod one_run;
 mod script;
 
-pub use epoch::{Epoch, NotSubmitted};
+pub use epoch::{Epoch, NotClosed, NotSubmitted};
 pub use one_run::run_to_end;
 pub use script::for_one_run;
