@@ -15,6 +15,7 @@ use Rattle.ent_driver.specs.Fault.{status as refusal_status}
 use Rattle.ent_driver.specs.declared.driver.Driver.{Driver}
 use Rattle.ent_driver.specs.declared.driver.Driver.TheVariants.{Vacant}
 use Rattle.ent_driver.specs.declared.fault.DriverFault.{DriverFault}
+use Rattle.ent_driver.specs.declared.fault.DriverFault.TheVariants as faults
 use Rattle.ent_c.specs.Calls.{HandsOut, Declines}
 use Rattle.ent_c.specs.Position.{position_of}
 use Rattle.ent_c.specs.Told.{told_of_text, TellsFault, TellsRefusal}
@@ -47,11 +48,12 @@ SubmitsTo bytes old new tx number told status =
     ⊎ ((fault : DriverFault) × IsNotSubmitted bytes (behind old) fault × (new ≡ old) × (number ≡ tx)
     × TellsRefusal fault bytes told × (status ≡ pos (refusal_status fault)))
 
--- one run is made; or it stopped for want of memory, or nothing is open
+-- one run is made; or it stopped for want of memory; or nothing is open, and that stays so
 abbrev pub RunsManager : Held → Held → ℤ → Type 0
 RunsManager old new status =
     (Runs (behind old) (behind new) × (status ≡ pos 0))
-    ⊎ ((fault : DriverFault) × StopsRun (behind old) (behind new) fault × (status ≡ pos (refusal_status fault)))
+    ⊎ ((fault : DriverFault) × StopsRun (behind old) (behind new) fault
+    × (fault ≡ faults.Vacant → behind new ≡ behind old) × (status ≡ pos (refusal_status fault)))
 
 -- where a transaction stands is told; or nothing, where it stands nowhere, or nothing is open
 abbrev pub StandsIn : Held → ℕ → Position → Position → ℤ → Type 0

@@ -17,6 +17,7 @@ returns-in-Err c =
     inr (
       c.in-Err.fault,
       behind_both (λ old new. StopsRun old new c.in-Err.fault) held c.put.ensures c.in-Err.ensures.stopped,
+      behind_both (λ old new. c.in-Err.fault ≡ Vacant → new ≡ old) held c.put.ensures c.in-Err.ensures.vacant,
       of_byte c.status.result c.status.type_inv c.status.ensures,
     )
 
@@ -24,4 +25,5 @@ pub returns-in_default : goal.returns-in_default
 returns-in_default c =
     let null = c.in_default.ensures.taken in
     let same : c.take.new.self.held ≡ c.args.handle.now.held = c.take.ensures.left ∙ sym null in
-    inr (Vacant, inr (ap behind same, refl), refl)
+    let stops : StopsRun (behind c.args.handle.now.held) (behind c.take.new.self.held) Vacant = rw null refl in
+    inr (Vacant, stops, (λ vacant. ap behind same), refl)
