@@ -11,3 +11,7 @@ pub mod Ways
 pub mod Stands
 pub mod Places
 pub mod Moving
+pub mod ListPlaces
+pub mod Taking
+pub mod HandingOut
+pub mod Resting

@@ -14,7 +14,8 @@ use Rattle.ent_meetings.specs.Stand.{IsPassed, Stand}
 use Rattle.ent_meetings.specs.Waiting.{Waiting, named, offers_at}
 use Rattle.ent_meetings.specs.declared.search.Search.{Search}
 use Rattle.ent_meetings.proofs.Places as place
-use Rattle.ent_meetings.proofs.Stands.{chosen_more, further_on, none_left, one_less, stand_begins}
+use Rattle.ent_meetings.proofs.Passed.{passed_full}
+use Rattle.ent_meetings.proofs.Stands.{chosen_more, further_on, none_left, one_less, stand_begins, still}
 
 module _ (waiting : Waiting) (old : Search) (right : IsStand waiting old) where
   pub goes_back : (chosen : Vec ℕ) (ticket : ℕ) → old.chosen.items ≡ chosen.items ++ ticket ∷ [] → IsPast waiting old
@@ -108,3 +109,18 @@ module _ (waiting : Waiting) (old : Search) (right : IsStand waiting old) where
     further = subst (λ (b : Bool). slice_cmp nat_cmp (pass_of b ∷ (old.chosen.items ++ next_of old.last ∷ []))
         (1 ∷ (chosen.items ++ 0 ∷ [])) ≡ Less) (sym clear) refl;
   }
+
+  -- the sets with the chosen are too large, and are left out
+  pub cuts : (demand : Pattern) → first_unmet (named waiting old.chosen.items) ≡ Some demand
+      → MOST_MEMBERS ≤ length old.chosen.items
+      → IsStand waiting (record old { is_cut = true }) × IsPast waiting (record old { is_cut = true })
+  cuts demand unmet full = (
+    record {
+      root = right.root;
+      meetings = right.meetings;
+      stand = still waiting old.root (found_of old) (found_of old) old.is_clear old.is_cut true (λ one at. at) (λ cut. refl)
+          old.chosen.items old.last right.stand;
+      cleared = right.cleared;
+    },
+    passed_full waiting old.root (found_of old) old.is_clear true old.chosen.items demand unmet right.stand.distinct full refl,
+  )

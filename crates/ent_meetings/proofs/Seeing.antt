@@ -9,7 +9,7 @@ use Rattle.std.proofs.lemmas.List.{append-nil, get_or-map, length-map, take-appe
 use Rattle.std.proofs.lemmas.List.Sums.{sum_by-append}
 use Rattle.std.proofs.lemmas.List.Folds.{find-append, list_any-append, list_any_at, list_any_more}
 use Rattle.std.proofs.lemmas.Bool.{or_from}
-use Rattle.ent_lists.specs.Elements.{from_here}
+use Rattle.ent_lists.specs.Elements.{from_here, map_joined}
 
 pub any_flat : {X Y : Type 0} (f : X → List Y) (p : Y → Bool) (xs : List X)
     → list_any p (flat_map f xs) ≡ list_any (λ x. list_any p (f x)) xs
@@ -81,3 +81,9 @@ any_whole {X = X} p refs n all none =
 pub none_copied : {X : Type 0} (o : Option (Bor X)) → is_some o ≡ false → option_copied o ≡ None
 none_copied None is = refl
 none_copied (Some x) is = cc
+
+-- one more reference
+pub seen_more : {X : Type 0} (refs after : List (Bor X)) (item : Bor X) → after ≡ refs ++ item ∷ []
+    → map (λ (x : Bor X). x.now) after ≡ map (λ (x : Bor X). x.now) refs ++ item.now ∷ []
+seen_more {X} refs after item is =
+    ap (map (λ (x : Bor X). x.now)) is ∙ map_joined (λ (x : Bor X). x.now) refs (item ∷ [])

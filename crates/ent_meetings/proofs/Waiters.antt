@@ -1,9 +1,10 @@
 -- The parties that tickets name.
-use Rattle.std.proofs.Common.{◌≡◌, ◌<◌, ◌≤◌, ℕ, zero, suc, Bool, true, false, not, cond, List, [], ◌∷◌, length, Option, None, Some}
+use Rattle.std.proofs.Common.{◌≡◌, ◌<◌, ◌≤◌, ℕ, zero, suc, Bool, true, false, not, cond, List, [], ◌∷◌, ◌++◌, ◌+◌, length, take, get_or, Option, None, Some}
 use Rattle.std.proofs.Common.{IsSome, All, Contains, refl, sym, ap, subst, ◌∙◌, inl, inr, arith}
 use Rattle.std.specs.List.{AllPass, cons_option, filter_map, find, flat_map, list_any}
 use Rattle.std.specs.Option.{option_map_or}
-use Rattle.std.proofs.lemmas.List.Elements.{All-contains}
+use Rattle.std.proofs.lemmas.List.{take_more}
+use Rattle.std.proofs.lemmas.List.Elements.{All-contains, filter_map-append}
 use Rattle.ent_lists.specs.Elements.{In, any_in, any_some, contains_in, in_contains, in_flat, to_flat, turned}
 use Rattle.ent_parties.specs.Meeting.{IsClosed, MeetAll, is_met, offers}
 use Rattle.ent_parties.specs.declared.party.Party.{Party}
@@ -129,3 +130,8 @@ closed_by parties none =
     turned' : (b : Bool) → not b ≡ false → b ≡ true
     turned' true is = refl
     turned' false is = cc
+
+-- one more ticket
+pub named_more : {X Y : Type 0} (f : X → Option Y) (xs : List X) (i : ℕ) (d : X) → i < length xs
+    → filter_map f (take (i + 1) xs) ≡ filter_map f (take i xs) ++ cons_option (f (get_or xs i d)) []
+named_more f xs i d low = ap (filter_map f) (take_more xs i d low) ∙ filter_map-append f (take i xs) (get_or xs i d ∷ [])

@@ -1,8 +1,11 @@
 -- How a search moves on.
-use Rattle.std.specs.Prelude.{ℕ, ◌≡◌, List, Option, None, Some}
+use Rattle.std.specs.Prelude.{ℕ, ◌≡◌, List, [], Option, None, Some}
+use Rattle.ent_meetings.specs.Meeting.{HasOneOf, IsLonely, IsMeeting}
 use Rattle.ent_meetings.specs.Search.{IsFurther, IsStand, IsTaken, found_of}
 use Rattle.ent_meetings.specs.Stand.{IsPassed}
 use Rattle.ent_meetings.specs.Waiting.{Waiting}
+use Rattle.ent_meetings.specs.declared.found.Found.{Found}
+use Rattle.ent_meetings.specs.declared.found.Found.TheVariants.{Meeting, Lonely, Nobody, Stopped}
 use Rattle.ent_meetings.specs.declared.search.Search.{Search}
 
 -- the sets that have all of the chosen are passed
@@ -30,3 +33,10 @@ pub record IsUnmoved (old new : Search) : Type 0 where
 abbrev pub IsStep : Waiting → Search → Search → Option (List ℕ) → Type 0
 IsStep waiting old new None = Moves waiting old new
 IsStep waiting old new (Some meeting) = IsStand waiting new × (new.root ≡ old.root) × IsTaken waiting old new meeting
+
+-- what a search tells once both passes are over
+abbrev pub IsRest : Waiting → Search → Found → Type 0
+IsRest waiting search (Meeting meeting) = ⊥
+IsRest waiting search Lonely = (found_of search ≡ []) × IsLonely waiting search.root
+IsRest waiting search Nobody = (others : List ℕ) → IsMeeting waiting search.root others → HasOneOf (found_of search) others
+IsRest waiting search (Stopped bound) = ⊥

@@ -1,5 +1,5 @@
 //! Those who wait, and who of them offers or demands something.
-ghost use Rattle.std.specs.Prelude.{All, ◌≡◌, ◌≤◌, ◌<◌, ◌^◌, ◌↔◌, ℕ, [], None, Some, OnErr, OnOk, IfErr, MatchOption, is_some, length};
+ghost use Rattle.std.specs.Prelude.{All, ◌≡◌, ◌≤◌, ◌<◌, ◌^◌, ◌↔◌, ℕ, [], None, Some, OnErr, OnOk, IfErr, IfOk, MatchOption, is_some, length};
 ghost use Rattle.std.specs.BTreeMap.{insert_entry, is_at};
 ghost use Rattle.std.specs.Map.{keys_of, remove_entry};
 ghost use Rattle.std.specs.Map.Iter.{ShowsInOrder, deref_pair};
@@ -10,7 +10,8 @@ ghost use Rattle.std.specs.Ordering.{nat_cmp};
 ghost use Rattle.ent_meetings.specs.Next.{IsAfter, IsNext};
 ghost use Rattle.ent_meetings.specs.Postings.{IsPosted};
 ghost use Rattle.ent_meetings.specs.Sides.{fits_at, patterns_of};
-ghost use Rattle.ent_meetings.specs.Waiting.{demands_at, offers_at, party_at};
+ghost use Rattle.ent_meetings.specs.Group.{seen};
+ghost use Rattle.ent_meetings.specs.Waiting.{demands_at, named, offers_at, party_at};
 
 use crate::board::{post_party, unpost_party};
 use crate::next::Next;
@@ -88,6 +89,19 @@ impl Index {
         ensures { option_copied result ≡ party_at self.now ticket }
     {
         self.parties.get(&ticket)
+    }
+
+    /// The parties that wait under tickets.
+    pub(crate) fn parties(&self, alloc: Global, tickets: &[u64]) -> Result<Vec<&Party>, AllocError>
+        ensures { IfOk result (λ parties. seen parties.items ≡ named self.now tickets.now) }
+    {
+        let mut parties = Vec::with_capacity(alloc, tickets.len())?;
+        for ticket in tickets {
+            if let Some(party) = self.party(*ticket) {
+                parties.push(party)?;
+            }
+        }
+        Ok(parties)
     }
 
     /// Whether somebody waits under a ticket.

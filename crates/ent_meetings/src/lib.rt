@@ -11,6 +11,7 @@ mod next;
 mod postings;
 mod search;
 mod side;
+mod tickets;
 
 pub use found::{Bound, Found};
 pub use index::Index;
