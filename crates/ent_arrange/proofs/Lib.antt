@@ -1,0 +1,4 @@
+pub mod Chosen
+pub mod Numbers
+pub mod Picked
+pub mod Reread
