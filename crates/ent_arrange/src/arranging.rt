@@ -1,27 +1,26 @@
 //! A whole input arranged: bytes in, the text with its scripts in another order out.
-ghost use Rattle.std.specs.Prelude.{◌≡◌, ◌≤◌, length, IfErr, IfOk, IsTrue, None, OnOk, map};
+ghost use Rattle.std.specs.Prelude.{◌≡◌, ◌≤◌, length, IfErr, IfOk, IsTrue, OnOk};
 ghost use Rattle.std.specs.List.{range_with_len};
 ghost use Rattle.std.specs.List.Sorted.{IsPermutation};
 ghost use Rattle.ent_value.specs.Watched.{IsUnmarked};
-ghost use Rattle.ent_sched.specs.Play.{input_fault};
 ghost use Rattle.ent_tree.specs.declared.script.Input.{Input};
-ghost use Rattle.ent_parties.specs.Party.{party_of};
 ghost use Rattle.ent_engine.specs.Io.{IsSilent, IsWriterMarkedBy};
-ghost use Rattle.ent_engine.specs.Reading.{IsInput, IsRefused, IsRefusedInRun};
+ghost use Rattle.ent_engine.specs.Reading.{IsRead, IsRefused, IsRefusedInRun};
 ghost use Rattle.ent_engine.specs.declared.reader.TheConstants.{MOST_BYTES};
 ghost use Rattle.ent_arrange.specs.Arranged.{IsArranged, WasRead};
 ghost use Rattle.ent_arrange.specs.Written.{Arranges, WritesArranged, WritesBeginning};
 
 use crate::again::is_arranged;
 use crate::cut::Cut;
-use crate::order::{Arrangement, order};
+use crate::order::order;
 use crate::told::Told;
 use crate::write::write_whole;
 use ent_book::WriteFault;
 use ent_engine::{MOST_BYTES, RunFault, parse_bytes, submit_all};
 use ent_fault_text::valid_text;
-use ent_parties::Party;
-use ent_tree::{Input, Script};
+use ent_form_laws::first_fault_is_first;
+use ent_tree::Input;
+use ent_unplaced_laws::faults_are_the_same_without_places;
 use ent_value::Watched;
 use std::alloc::{AllocError, Global};
 use std::io::Write;
@@ -29,14 +28,14 @@ use std::io::Write;
 /// Writes an input with its scripts in another order, so that scripts that may meet stand together, and tells of their
 /// meetings.
 ///
-/// What is written is an input without a fault, which has the same opening, and the same scripts in another order, places
-/// aside. It is made of pieces of the text that was given. It isn't concluded from these that they are read so again: it
-/// is read again and compared before it is written, and where it were another input, the text would be written as it was
-/// given, which is an input with its scripts in an order too. No clause says that this never happens, nor which order it
-/// is.
+/// What is written is an input without a fault, which has the same opening, and the same scripts in another order,
+/// places aside. It is made of pieces of the text that was given. It isn't concluded from these that they are read so
+/// again: it is read again and compared before it is written, and where it were another input, the text would be
+/// written as it was given, which is an input with its scripts in an order too. No clause says that this never happens,
+/// nor which order it is.
 ///
-/// The writer is handed in unmarked, as [`Watched::new`] makes it. Where the bytes are no input, nothing is written, and
-/// the fault is the first, as a run has it.
+/// The writer is handed in unmarked, as [`Watched::new`] makes it. Where the bytes are no input, nothing is written,
+/// and the fault is the first, as a run has it.
 pub fn arrange<'a, W: Write>(
     alloc: Global,
     bytes: &'a [u8],
@@ -73,18 +72,14 @@ fn text_and_told<'a>(alloc: Global, bytes: &'a [u8]) -> Result<Arranged<'a>, Run
     ensures ok { IfOk result (λ made. Arranges bytes.now made.text.items) }
     ensures err { IfErr result (λ fault. IsRefused bytes.now fault) }
 {
+    first_fault_is_first();
+    faults_are_the_same_without_places();
     let input = parse_bytes(alloc, bytes)?;
     let text = valid_text(bytes);
-    let parties = parties_of(alloc, input.scripts.as_slice())?;
-    let arrangement = order(alloc, parties.as_slice())?;
-    let told = Told::of(
-        alloc,
-        text,
-        input.scripts.as_slice(),
-        parties.as_slice(),
-        &arrangement,
-    )?;
-    let order = arrangement.scripts.as_slice();
+    let scripts = input.scripts.as_slice();
+    let arrangement = order(alloc, scripts)?;
+    let told = Told::of(alloc, text, scripts, &arrangement)?;
+    let order = arrangement.order.as_slice();
     let arranged = in_order(alloc, &Cut::of(alloc, text)?, order)?;
     let is_right = is_right(alloc, &input, order, arranged.as_slice())?;
     submit_all(alloc, input)?;
@@ -94,17 +89,6 @@ fn text_and_told<'a>(alloc: Global, bytes: &'a [u8]) -> Result<Arranged<'a>, Run
         Vec::from_slice(alloc, bytes)?
     };
     Ok(Arranged { text, told })
-}
-
-/// What the scripts offer and demand.
-fn parties_of(alloc: Global, scripts: &[Script]) -> Result<Vec<Party>, AllocError>
-    ensures { IfOk result (λ parties. parties.items ≡ map party_of scripts.now) }
-{
-    let mut parties = Vec::with_capacity(alloc, scripts.len())?;
-    for script in scripts {
-        parties.push(Party::of(alloc, script)?)?;
-    }
-    Ok(parties)
 }
 
 /// The text with its scripts in this order. Each piece of it ends its line.
@@ -129,31 +113,18 @@ fn push_lines(text: &mut Vec<u8>, lines: &[u8]) -> Result<(), AllocError> {
     }
 }
 
-/// Whether a text is an input without a fault that has the scripts of this one in this order.
+/// Whether a text is read as an input that has the scripts of this one in this order.
 fn is_right(alloc: Global, input: &Input, order: &[usize], text: &[u8]) -> Result<bool, AllocError>
     requires input { WasRead input.now }
     requires order { IsPermutation (range_with_len 0 (length input.now.scripts)) order.now }
     ensures { IfOk result (λ right. IsTrue right
-        → (again : Input) × IsInput text.now again × IsArranged input.now again) }
+        → (again : Input) × IsRead text.now again × IsArranged input.now again) }
 {
     if text.len() > MOST_BYTES {
         return Ok(false);
     }
     match parse_bytes(alloc, text) {
-        Ok(again) => {
-            Ok(is_arranged(alloc, input, order, &again)? && is_faultless(alloc, again)?)
-        }
-        Err(RunFault::Memory) => Err(AllocError),
-        Err(_) => Ok(false),
-    }
-}
-
-/// Whether an input has no fault of form.
-fn is_faultless(alloc: Global, input: Input) -> Result<bool, AllocError>
-    ensures { IfOk result (λ faultless. IsTrue faultless → input_fault input.opening input.scripts ≡ None) }
-{
-    match submit_all(alloc, input) {
-        Ok(_) => Ok(true),
+        Ok(again) => is_arranged(alloc, input, order, &again),
         Err(RunFault::Memory) => Err(AllocError),
         Err(_) => Ok(false),
     }

@@ -1,56 +1,74 @@
 //! Meetings one after the other, in blocks of as many scripts as a run has.
-use crate::waiting::Meeting;
+ghost use Rattle.std.specs.Prelude.{◌≡◌, ◌≤◌, ◌-◌, ◌%◌, length};
+ghost use Rattle.ent_group.specs.declared.members.TheConstants.{MOST_MEMBERS};
+
+use crate::meeting::Meeting;
+use crate::sizes::Sizes;
 use ent_group::MOST_MEMBERS;
-use ent_parties::Party;
 use std::alloc::{AllocError, Global};
+
+/// How a meeting goes on with the present block, the best first.
+#[derive(Clone, Copy, Debug, PartialEq, Eq, PartialOrd, Ord)]
+enum Aptness {
+    /// It fits, and others fill what is left exactly.
+    Fills,
+    /// It fits.
+    Fits,
+    /// It crosses the end of the block.
+    Crosses,
+    /// It fits, and may meet another one that stands there.
+    Meets,
+    /// Both of the latter.
+    MeetsAndCrosses,
+}
+
+impl Aptness {
+    /// The same, where it may meet another one that stands there.
+    fn barred(self) -> Self {
+        match self {
+            Aptness::Fills | Aptness::Fits | Aptness::Meets => Aptness::Meets,
+            Aptness::Crosses | Aptness::MeetsAndCrosses => Aptness::MeetsAndCrosses,
+        }
+    }
+}
 
 /// Meetings that get their places one after the other.
 #[derive(Drop)]
 struct Blocks<'a> {
-    parties: &'a [Party],
     meetings: &'a [Meeting],
     /// Whether each meeting has its place.
     placed: Vec<bool>,
     /// The meetings before this one have theirs.
     first: usize,
-    /// The meetings of which scripts stand in the present block.
-    block: Vec<usize>,
-    /// Of each meeting the latest block where somebody stands whom it may meet, as far as that was asked.
+    /// Those of which scripts stand in the present block.
+    block: Vec<&'a Meeting>,
+    /// Of each meeting the latest block where one stands that it may meet, as far as that was asked.
     barred: Vec<Option<usize>>,
+    /// The sizes of those that have no place yet.
+    sizes: Sizes,
     /// The scripts that have a place, in order.
     scripts: Vec<usize>,
 }
 
-/// The scripts of meetings, one meeting after the other. The next one is the first that fits into the present block and
-/// can't meet anybody there; else the first that can't, though it crosses the end of the block; else the first that fits;
-/// else the first.
-pub(crate) fn in_blocks(
-    alloc: Global,
-    parties: &[Party],
-    meetings: &[Meeting],
-) -> Result<Vec<usize>, AllocError> {
+/// The scripts of meetings, one meeting after the other. The next meeting is always the first of those that go on best
+/// with the present block.
+pub(crate) fn in_blocks(alloc: Global, meetings: &[Meeting]) -> Result<Vec<usize>, AllocError> {
     let mut blocks = Blocks {
-        parties,
         meetings,
         placed: vec![in alloc; false; meetings.len()]?,
         first: 0,
         block: Vec::new(alloc),
         barred: vec![in alloc; None; meetings.len()]?,
-        scripts: Vec::with_capacity(alloc, parties.len())?,
+        sizes: Sizes::of(alloc, meetings)?,
+        scripts: Vec::with_capacity(alloc, meetings.len())?,
     };
     for _ in 0..meetings.len() {
         let next = blocks.next();
-        blocks.place(next, members_of(meetings, next))?;
+        if let Some(meeting) = meetings.get(next) {
+            blocks.place(next, meeting)?;
+        }
     }
     Ok(blocks.scripts)
-}
-
-/// The scripts of a meeting of some.
-fn members_of(meetings: &[Meeting], meeting: usize) -> &[usize] {
-    match meetings.get(meeting) {
-        Some(members) => members.as_slice(),
-        None => &[],
-    }
 }
 
 impl<'a> Blocks<'a> {
@@ -60,108 +78,109 @@ impl<'a> Blocks<'a> {
     }
 
     /// How many scripts the present block has room for.
-    fn room(&self) -> usize {
+    fn room(&self) -> usize
+        ensures value { result ≡ MOST_MEMBERS - length self.now.scripts.items % MOST_MEMBERS }
+        ensures bound { result ≤ MOST_MEMBERS }
+    {
         MOST_MEMBERS - self.scripts.len() % MOST_MEMBERS
-    }
-
-    fn members(&self, meeting: usize) -> &'a [usize] {
-        members_of(self.meetings, meeting)
-    }
-
-    fn is_placed(&self, meeting: usize) -> bool {
-        self.placed.get(meeting).copied().unwrap_or(true)
     }
 
     /// The meeting that comes next.
     fn next(&mut self) -> usize {
-        let room = self.room();
-        let mut apart = None;
-        let mut fitting = None;
-        for meeting in self.first..self.meetings.len() {
-            if self.is_placed(meeting) {
+        let filling = self.sizes.filling(self.room());
+        let best = if filling.contains(&true) {
+            Aptness::Fills
+        } else {
+            Aptness::Fits
+        };
+        let mut found = Aptness::MeetsAndCrosses;
+        let mut next = self.first;
+        for index in self.first..self.meetings.len() {
+            let unbarred = self.aptness(index, &filling);
+            if self.is_placed(index) || unbarred >= found {
                 continue;
             }
-            let fits = self.members(meeting).len() <= room;
-            if fits {
-                fitting = fitting.or(Some(meeting));
+            let aptness = if self.is_barred(index) {
+                unbarred.barred()
+            } else {
+                unbarred
+            };
+            if aptness < found {
+                found = aptness;
+                next = index;
             }
-            if (fits || apart.is_none()) && !self.is_barred(meeting) {
-                if fits {
-                    return meeting;
-                }
-                apart = Some(meeting);
+            if found == best {
+                break;
             }
         }
-        apart.or(fitting).unwrap_or(self.first)
+        next
     }
 
-    /// Puts a meeting behind all others.
-    fn place(&mut self, meeting: usize, members: &[usize]) -> Result<(), AllocError> {
+    /// How a meeting goes on with the present block by its size alone.
+    fn aptness(&self, index: usize, filling: &[bool]) -> Aptness {
+        let size = self.meetings.get(index).map_or(0, Meeting::len);
+        if filling.get(size).copied().unwrap_or(false) {
+            Aptness::Fills
+        } else if size <= self.room() {
+            Aptness::Fits
+        } else {
+            Aptness::Crosses
+        }
+    }
+
+    fn is_placed(&self, index: usize) -> bool {
+        self.placed.get(index).copied().unwrap_or(true)
+    }
+
+    /// Whether one stands in the present block that a meeting may meet.
+    fn is_barred(&mut self, index: usize) -> bool {
         let number = self.number();
-        self.scripts.extend_from_slice(members)?;
-        if self.number() != number {
-            self.block.clear();
-        }
-        if self.room() < MOST_MEMBERS {
-            self.block.push(meeting)?;
-        }
-        if let Some(placed) = self.placed.get_mut(meeting) {
-            *placed = true;
-        }
-        self.pass_placed();
-        Ok(())
-    }
-
-    /// Passes over the meetings in front that have their place.
-    fn pass_placed(&mut self) {
-        for meeting in self.first..self.meetings.len() {
-            if !self.is_placed(meeting) {
-                return;
-            }
-            self.first = meeting + 1;
-        }
-    }
-
-    /// Whether somebody stands in the present block whom the meeting may meet.
-    fn is_barred(&mut self, meeting: usize) -> bool {
-        let number = self.number();
-        if self.barred.get(meeting).copied().flatten() == Some(number) {
+        if self.barred.get(index).copied().flatten() == Some(number) {
             return true;
         }
-        let is_barred = self.may_meet_the_block(meeting);
+        let is_barred = self.may_meet_the_block(index);
         if is_barred {
-            if let Some(barred) = self.barred.get_mut(meeting) {
+            if let Some(barred) = self.barred.get_mut(index) {
                 *barred = Some(number);
             }
         }
         is_barred
     }
 
-    fn may_meet_the_block(&self, meeting: usize) -> bool {
-        self.block
-            .iter()
-            .any(|other| self.may_meet(meeting, *other))
+    fn may_meet_the_block(&self, index: usize) -> bool {
+        match self.meetings.get(index) {
+            Some(meeting) => self.block.iter().any(|other| meeting.may_meet(other)),
+            None => false,
+        }
     }
 
-    /// Whether an offer of the one meeting may meet a demand of the other.
-    fn may_meet(&self, one: usize, other: usize) -> bool {
-        self.may_serve(one, other) || self.may_serve(other, one)
+    /// Puts a meeting behind all others.
+    fn place(&mut self, index: usize, meeting: &'a Meeting) -> Result<(), AllocError> {
+        let number = self.number();
+        for member in meeting.members.as_slice() {
+            self.scripts.push(member.script)?;
+        }
+        if self.number() != number {
+            self.block.clear();
+        }
+        if self.room() < MOST_MEMBERS {
+            self.block.push(meeting)?;
+        }
+        if let Some(placed) = self.placed.get_mut(index) {
+            *placed = true;
+        }
+        self.sizes.take(meeting.len());
+        self.pass_placed();
+        Ok(())
     }
 
-    /// Whether an offer of one meeting may meet a demand of another.
-    fn may_serve(&self, one: usize, other: usize) -> bool {
-        self.members(other).iter().any(|script| {
-            self.party(*script).is_some_and(|demanding| {
-                demanding.demands.iter().any(|demand| {
-                    self.members(one).iter().any(|own| self
-                        .party(*own)
-                        .is_some_and(|party| party.offers(demand)))
-                })
-            })
-        })
-    }
-
-    fn party(&self, script: usize) -> Option<&'a Party> {
-        self.parties.get(script)
+    /// Passes over the meetings in front that have their place.
+    fn pass_placed(&mut self) {
+        for index in self.first..self.meetings.len() {
+            if !self.is_placed(index) {
+                return;
+            }
+            self.first = index + 1;
+        }
     }
 }

@@ -7,9 +7,9 @@ use std::alloc::{AllocError, Global};
 /// The text of an input in pieces: what stands before its scripts, the text of each script in order, and what stands
 /// behind them.
 ///
-/// The text of a script begins where the piece before it ends, so that the comments before a script are its own. A piece
-/// ends with the line on which its last token stands, and the comment there; or behind that token, if another one follows
-/// on that line.
+/// The text of a script begins where the piece before it ends, so that the comments before a script are its own. A
+/// piece ends with the line on which its last token stands, and the comment there; or behind that token, if another one
+/// follows on that line.
 #[derive(Drop)]
 pub(crate) struct Cut<'a> {
     pub(crate) opening: &'a [u8],

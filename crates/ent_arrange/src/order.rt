@@ -4,46 +4,47 @@ ghost use Rattle.std.specs.List.{range_with_len};
 ghost use Rattle.std.specs.List.Sorted.{IsPermutation};
 
 use crate::blocks::in_blocks;
+use crate::meeting::Member;
 use crate::waiting::Waiting;
-use ent_parties::Party;
+use ent_tree::Script;
 use std::alloc::{AllocError, Global};
 
 /// An order of scripts, and who meets. A script is named by its place in the input, from 0.
 #[derive(Drop)]
 pub(crate) struct Arrangement {
     /// All scripts, in this order.
-    pub(crate) scripts: Vec<usize>,
+    pub(crate) order: Vec<usize>,
     /// How many meetings of two scripts and more there are.
     pub(crate) meetings: usize,
     /// How many scripts the largest of them has; 0 where there is none.
     pub(crate) largest: usize,
-    /// Whoever stands in no set of these scripts in which each demand may be met.
-    pub(crate) lonely: Vec<usize>,
+    /// Whoever stands in no set of these scripts, without those of meetings, in which each demand may be met.
+    pub(crate) lonely: Vec<Member>,
     /// Whoever may stand in one, of which none of a run's size was found.
-    pub(crate) unmet: Vec<usize>,
+    pub(crate) unmet: Vec<Member>,
 }
 
-/// The order of scripts that offer and demand this: whole meetings, each begun by its first script, its members in order;
-/// then those who are in no meeting, in order.
+/// The order of scripts: whole meetings, each begun by its first script, its members in order; then those who are in no
+/// meeting, in order.
 ///
-/// It is an order of the scripts; no clause says which. Meetings stand in blocks of as many scripts as a run has, and cross
-/// the end of a block only where no other one fits in; two of which an offer may meet a demand of the other
-/// stand in different blocks, as long as there are others to put between.
-pub(crate) fn order(alloc: Global, parties: &[Party]) -> Result<Arrangement, AllocError>
+/// It is an order of the scripts; no clause says which. Meetings stand in blocks of as many scripts as a run has. One
+/// crosses the end of a block only where no other one fits in, and two that may meet stand in different blocks, as long
+/// as there are others to put between.
+pub(crate) fn order(alloc: Global, scripts: &[Script]) -> Result<Arrangement, AllocError>
     ensures { IfOk result (λ made.
-        IsPermutation (range_with_len 0 (length parties.now)) made.scripts.items) }
+        IsPermutation (range_with_len 0 (length scripts.now)) made.order.items) }
 {
-    let mut waiting = Waiting::of(alloc, parties)?;
+    let mut waiting = Waiting::of(alloc, scripts)?;
     let mut meetings = Vec::new(alloc);
-    for root in 0..parties.len() {
-        if let Some(meeting) = waiting.meet(alloc, root)? {
+    for script in 0..scripts.len() {
+        if let Some(meeting) = waiting.meet(alloc, script)? {
             meetings.push(meeting)?;
         }
     }
-    let met = in_blocks(alloc, parties, meetings.as_slice())?;
-    let (lonely, unmet) = waiting.left(alloc)?;
+    let met = in_blocks(alloc, meetings.as_slice())?;
+    let (lonely, unmet) = waiting.left(alloc, scripts.len())?;
     Ok(Arrangement {
-        scripts: with_first(alloc, parties.len(), met.as_slice())?,
+        order: with_first(alloc, scripts.len(), met.as_slice())?,
         meetings: meetings.iter().filter(|meeting| meeting.len() > 1).count(),
         largest: meetings
             .iter()
