@@ -1,4 +1,5 @@
 //! What the program does: it reads its command line, and runs what that asks for.
+use crate::arranging::arrange_input;
 use crate::drawing::draw_trace;
 use crate::ending::Ending;
 use crate::running::run;
@@ -14,10 +15,10 @@ use std::sync::Wait;
 use std::thread::Threads;
 use std::{env, io};
 
-/// The program: reads its command line, and runs the scripts of standard input, checks the report of standard input or
-/// draws the trace of standard input, as that asks; where it asks for workers, in threads that `threads` starts. A
-/// fault is one line on standard error. How it ended says what `main` ends with. Where standard input is a terminal, it
-/// says first what it waits for.
+/// The program: reads its command line, and runs the scripts of standard input or puts them in another order, checks
+/// the report of standard input or draws the trace of standard input, as that asks; where it asks for workers, in
+/// threads that `threads` starts. A fault is one line on standard error. How it ended says what `main` ends with. Where
+/// standard input is a terminal, it says first what it waits for.
 pub fn entangle<R, T>(rt: &R, threads: &T, is_terminal: bool) -> Ending
 where
     R: Env + AllocGlobal + Input + Print + Eprint,
@@ -38,6 +39,10 @@ where
         Ok(Asked::Check) => {
             say_what_is_read(rt, is_terminal, "a report of version 2");
             said(rt, check(rt))
+        }
+        Ok(Asked::Arrange) => {
+            say_what_is_read(rt, is_terminal, "tables, rows and scripts");
+            arrange_input(rt)
         }
         Ok(Asked::Draw(picked)) => {
             say_what_is_read(rt, is_terminal, "a trace");

@@ -3,6 +3,7 @@
 //! The exit status is a function of how the command ended, and says which of a fault's four kinds stopped it.
 #![tactic(auto)]
 
+mod arranging;
 mod command;
 mod drawing;
 mod ending;

@@ -30,8 +30,12 @@ const DRAW_EXAMPLE: &str = "Example:
   entangle run --trace < friends.sql 2> friends.trace
   entangle draw < friends.trace > friends.svg";
 
+/// What stands below what arranging is for.
+const ARRANGE_EXAMPLE: &str = "Example:
+  entangle arrange < friends.sql | entangle run";
+
 /// The program's words: the subcommand `run` with its options, each a whole number in its range but for `--trace`
-/// and `--explain`; `check`; and `draw`, with the transactions whose lanes are wanted.
+/// and `--explain`; `check`; `arrange`; and `draw`, with the transactions whose lanes are wanted.
 pub(crate) fn command<'a>(alloc: Global) -> Result<Command<'a>, AllocError> {
     let run = Command::new(alloc, "run")
         .about(
@@ -49,12 +53,19 @@ pub(crate) fn command<'a>(alloc: Global) -> Result<Command<'a>, AllocError> {
              else `no`, a line and the rule that is broken there",
         )
         .after_help(CHECK_EXAMPLE);
+    let arrange = Command::new(alloc, "arrange")
+        .about(
+            "Reads an input from standard input and writes it with its scripts in another order: \
+             those that may meet stand together, so that they share a run",
+        )
+        .after_help(ARRANGE_EXAMPLE);
     Command::new(alloc, "entangle")
         .about("An in-memory transaction manager for entangled SQL")
         .version(VERSION)
         .subcommand_required(true)
         .subcommand(run)?
         .subcommand(check)?
+        .subcommand(arrange)?
         .subcommand(drawing(alloc)?)
 }
 
@@ -133,6 +144,8 @@ pub(crate) enum Asked {
     Run(AskedRun),
     /// A check of the report of standard input.
     Check,
+    /// The input of standard input with its scripts in another order.
+    Arrange,
     /// A picture of the trace of standard input; where transactions are picked, of these and those that they met.
     Draw(Vec<u64>),
 }
@@ -174,6 +187,9 @@ fn picked<'a>(alloc: Global, draw: &ArgMatches<'a>) -> Result<Vec<u64>, AllocErr
 fn asked_without_picture<'a>(matches: &ArgMatches<'a>) -> Asked {
     if matches.subcommand_matches("check").is_some() {
         return Asked::Check;
+    }
+    if matches.subcommand_matches("arrange").is_some() {
+        return Asked::Arrange;
     }
     let Some(run) = matches.subcommand_matches("run") else {
         return Asked::Run(AskedRun {

@@ -1,8 +1,8 @@
 //! Streams that move few bytes, or fail at a stated call.
 //!
-//! `STREAMS.tsv` names a row's input, the most bytes that a read moves and which read fails (0 for none), the same of
-//! writes, and how the command must end: the exit status, the line on standard error, and how many bytes of the row's
-//! report were written.
+//! `STREAMS.tsv` names a row's input, a command line, the most bytes that a read moves and which read fails (0 for
+//! none), the same of writes, and how the command must end: the exit status, the line on standard error, and how many
+//! bytes of the row's output were written.
 use crate::machine::Behaviour;
 use crate::outcome::Outcome;
 use anyhow::{Context, Result, bail, ensure};
@@ -27,6 +27,7 @@ fn check<T: Threads + Wait + Sync>(rt: &HostRuntime, threads: &T, fields: &[&str
     let alloc = rt.alloc();
     let [
         name,
+        words,
         read,
         failing_read,
         written,
@@ -45,7 +46,7 @@ fn check<T: Threads + Wait + Sync>(rt: &HostRuntime, threads: &T, fields: &[&str
         behaviour(read, failing_read)?,
         behaviour(written, failing_write)?,
     );
-    let ran = Outcome::of(alloc, threads, "run", input.as_slice(), reads, writes)?;
+    let ran = Outcome::of(alloc, threads, words, input.as_slice(), reads, writes)?;
     let length = number(length)?;
     ensure!(
         Some(ran.output()) == report.as_slice().get(..length),

@@ -8,9 +8,9 @@ use std::alloc::{AllocError, Global};
 
 /// A postcondition, as it is written: the tuple, and the relation that it has to be in.
 #[derive(Clone, Copy)]
-pub(crate) struct Postcondition<'a> {
-    pub(crate) tuple: &'a Tuple,
-    pub(crate) relation: &'a Identifier,
+pub struct Postcondition<'a> {
+    pub tuple: &'a Tuple,
+    pub relation: &'a Identifier,
 }
 
 impl<'a> Postcondition<'a> {
@@ -18,10 +18,7 @@ impl<'a> Postcondition<'a> {
     ghost use Rattle.ent_warnings.specs.Seen.{written};
 
     /// Those of a script, in order of its text: each is the demand of the same number.
-    pub(crate) fn all_of(
-        alloc: Global,
-        script: &'a Script,
-    ) -> Result<Vec<Postcondition<'a>>, AllocError>
+    pub fn all_of(alloc: Global, script: &'a Script) -> Result<Vec<Postcondition<'a>>, AllocError>
         ensures exact { IfOk result (λ all. map written all.items ≡ postconditions script.now) }
         ensures relations { IfOk result (λ all. map (λ held. held.relation.now.name) all.items
             ≡ map (λ demand. demand.relation) (party_of script.now).demands) }

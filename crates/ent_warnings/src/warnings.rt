@@ -1,4 +1,5 @@
-//! Demands that nothing in an input is offered for, and answer relations that nobody demands.
+//! Demands that nothing in an input is offered for, or only far away, and answer relations that nobody demands.
+use crate::apart::Apart;
 use crate::names::{Meant, Relations, meant_text, near_relation, text_of};
 use crate::offer::{is_demanded, is_named, parties_of};
 use crate::postcondition::Postcondition;
@@ -56,7 +57,10 @@ impl<'a> Warnings<'a> {
         for (script, party) in scripts.iter().zip(parties.iter()) {
             self.warn_demands(alloc, parties, script, party)?;
         }
-        Ok(())
+        match Apart::of(alloc, scripts, parties)? {
+            Some(apart) => self.warn_apart(alloc, apart),
+            None => Ok(()),
+        }
     }
 
     /// Nobody offers rows of a relation that is demanded.
@@ -126,7 +130,20 @@ impl<'a> Warnings<'a> {
         }
     }
 
-    /// A warning of a place of the text, where so many columns are marked.
+    /// Demands that only scripts may meet that stand too far away.
+    fn warn_apart(&mut self, alloc: Global, apart: Apart<'_>) -> Result<(), AllocError> {
+        let Apart { first, count } = apart;
+        let name = text_of(&first.relation.name);
+        let sentence = format!(in alloc;
+            "who may offer this row of {name} stands in another block of 64 of the scripts that wait for others"
+        )?;
+        let hint = format!(in alloc;
+            "demands of which this is so: {count}; entangle arrange puts scripts that may meet together"
+        )?;
+        self.push_hinted(first.tuple.place, 1, sentence, Some(hint))
+    }
+
+    /// A warning of a place of the text, where so many columns are marked, and what may be meant.
     fn push(
         &mut self,
         alloc: Global,
@@ -135,14 +152,24 @@ impl<'a> Warnings<'a> {
         sentence: String,
         near: Option<&str>,
     ) -> Result<(), AllocError> {
-        if self.told.len() >= MOST_TOLD {
-            self.more = self.more.saturating_add(1);
-            return Ok(());
-        }
         let hint = match near {
             Some(near) => Some(format!(in alloc; "did you mean {near}?")?),
             None => None,
         };
+        self.push_hinted(offset, marked, sentence, hint)
+    }
+
+    fn push_hinted(
+        &mut self,
+        offset: usize,
+        marked: usize,
+        sentence: String,
+        hint: Option<String>,
+    ) -> Result<(), AllocError> {
+        if self.told.len() >= MOST_TOLD {
+            self.more = self.more.saturating_add(1);
+            return Ok(());
+        }
         self.told.push(Explanation {
             place: Place::of(self.text, offset),
             sentence,
