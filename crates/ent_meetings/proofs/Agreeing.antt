@@ -1,5 +1,5 @@
 -- Tickets that a place of a pattern rules out.
-use Rattle.std.proofs.Common.{◌≡◌, ◌≤◌, ◌<◌, ℕ, Bool, true, false, length, sym, ◌∙◌, Option, None, Some, ⊎_elim, arith}
+use Rattle.std.proofs.Common.{◌≡◌, ◌≤◌, ◌<◌, ℕ, true, false, length, Option, None, Some, ⊎_elim, arith}
 use Rattle.std.specs.Option.{MatchOption}
 use Rattle.std.proofs.lemmas.Bool.{cases_lt, both_ways}
 use Rattle.ent_parties.specs.declared.pattern.Pattern.{Pattern}

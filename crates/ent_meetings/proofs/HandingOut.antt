@@ -1,12 +1,12 @@
 -- A meeting is handed out.
-use Rattle.std.proofs.Common.{◌≡◌, ◌<◌, ◌++◌, ◌∷◌, [], ℕ, Bool, true, false, List, length, map, All, Contains, refl, sym, ap, subst, ◌∙◌}
+use Rattle.std.proofs.Common.{◌≡◌, ◌++◌, ◌∷◌, [], ℕ, List, map, All, Contains, refl, sym, ap, subst, ◌∙◌}
 use Rattle.std.proofs.Common.{◌⊎◌, inl, inr}
 use Rattle.std.specs.Global.{Vec}
-use Rattle.ent_lists.specs.Elements.{In, in_either, in_first, in_second, in_contains, contains_in, map_joined}
+use Rattle.ent_lists.specs.Elements.{in_either, in_first, in_second, in_contains, contains_in, map_joined}
 use Rattle.ent_parties.specs.Meeting.{IsClear}
 use Rattle.ent_meetings.specs.Meeting.{HasOneOf, IsMeeting, IsWithin}
 use Rattle.ent_meetings.specs.Search.{AreCleared, IsStand, IsTaken, found_of}
-use Rattle.ent_meetings.specs.SearchSteps.{IsPast, IsStep, Moves}
+use Rattle.ent_meetings.specs.SearchSteps.{IsPast, Moves}
 use Rattle.ent_meetings.specs.Stand.{Stand}
 use Rattle.ent_meetings.specs.Waiting.{Waiting, named}
 use Rattle.ent_meetings.specs.declared.search.Search.{Search}

@@ -15,3 +15,6 @@ pub mod ListPlaces
 pub mod Taking
 pub mod HandingOut
 pub mod Resting
+pub mod Coming
+pub mod Wider
+pub mod Growing

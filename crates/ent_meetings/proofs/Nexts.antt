@@ -1,5 +1,5 @@
 -- The next ticket that passes, where some up to a last one were looked at.
-use Rattle.std.proofs.Common.{◌≡◌, ◌≤◌, ◌<◌, ◌↔◌, ℕ, Bool, true, false, ◌⊎◌, inl, inr, Option, None, Some, ⊎_elim, arith, subst}
+use Rattle.std.proofs.Common.{◌≡◌, ◌≤◌, ◌<◌, ◌↔◌, ℕ, Bool, true, false, ◌⊎◌, inl, Option, None, Some, ⊎_elim, arith, subst}
 use Rattle.std.proofs.lemmas.Bool.{cases_lt, false_from_ne_true}
 use Rattle.ent_meetings.specs.Next.{IsAfter, IsUpTo}
 

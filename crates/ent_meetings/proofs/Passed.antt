@@ -1,24 +1,21 @@
 -- What a search has passed.
-use Rattle.std.proofs.Common.{◌≡◌, ◌≢◌, ◌<◌, ◌≤◌, ℕ, zero, suc, Bool, true, false, not, List, [], ◌∷◌, ◌++◌, length, Option, None, Some}
-use Rattle.std.proofs.Common.{All, Any, AllPairs, Contains, refl, sym, ap, subst, ◌∙◌, inl, inr, ⊎_elim, arith}
-use Rattle.std.specs.List.{list_any}
-use Rattle.std.specs.Option.{option_map_or}
+use Rattle.std.proofs.Common.{◌≡◌, ◌≢◌, ◌<◌, ◌≤◌, ℕ, Bool, true, false, not, List, [], ◌∷◌, ◌++◌, length, Some}
+use Rattle.std.proofs.Common.{sym, subst, inl, inr, arith}
 use Rattle.std.proofs.lemmas.Bool.Decides.{Decides-eqb}
 use Rattle.std.proofs.lemmas.Cmp.{nat_eq_equiv}
 use Rattle.std.specs.Prelude.{nat_eq}
 use Rattle.std.proofs.lemmas.List.{length_push}
 use Rattle.std.proofs.lemmas.Map.Made.{IsDistinct-from_AllPairs, length-le_from_is_member}
 use Rattle.ent_group.specs.declared.members.TheConstants.{MOST_MEMBERS}
-use Rattle.ent_lists.specs.Elements.{In, Pairs, any_in, any_some, clash, in_either, pairs_behind, pairs_index, same_number, number_itself, turned}
-use Rattle.ent_parties.specs.Meeting.{IsClear, is_met, offers, ways}
-use Rattle.ent_parties.specs.declared.party.Party.{Party}
+use Rattle.ent_lists.specs.Elements.{In, Pairs, any_in, any_some, clash, in_either, pairs_behind, pairs_index, turned}
+use Rattle.ent_parties.specs.Meeting.{is_met, ways}
 use Rattle.ent_parties.specs.declared.pattern.Pattern.{Pattern}
 use Rattle.ent_meetings.specs.Group.{demands_of, first_unmet}
 use Rattle.ent_meetings.specs.Meeting.{HasOneOf, IsClosedWith, IsWithin}
-use Rattle.ent_meetings.specs.Stand.{IsPassed, IsSought, gives}
-use Rattle.ent_meetings.specs.Waiting.{Waiting, Waits, named, offers_at, party_at}
+use Rattle.ent_meetings.specs.Stand.{IsPassed}
+use Rattle.ent_meetings.specs.Waiting.{Waiting, named, offers_at}
 use Rattle.ent_meetings.proofs.Ways.{clear_ways, ways_more}
-use Rattle.ent_meetings.proofs.Waiters.{all_in, closed_meets, demanded_more, found_in, giver_of, met_by, within, within_both, within_by}
+use Rattle.ent_meetings.proofs.Waiters.{closed_meets, demanded_more, found_in, giver_of, met_by, within, within_both, within_by}
 
 -- distinct numbers of a list are no more than it has
 pub no_more : (xs ys : List ℕ) → Pairs (λ (one other : ℕ). one ≢ other) xs → IsWithin xs ys → length xs ≤ length ys

@@ -1,13 +1,13 @@
 -- What posting and taking out leave, one pattern after the other.
 use Rattle.std.proofs.Common.{◌≡◌, ◌≤◌, ◌<◌, ℕ, zero, suc, Bool, true, false, ◌||◌, ◌&&◌, not, cond, ◌==◌, List, length, ◌+◌}
-use Rattle.std.proofs.Common.{take, drop, get_or, refl, sym, ap, ◌∙◌, ⊎_elim, eq-eqb, arith, add-one, subst}
+use Rattle.std.proofs.Common.{take, drop, get_or, refl, sym, ap, ◌∙◌, ⊎_elim, arith, add-one, subst}
 use Rattle.std.specs.BTreeSet.{IsUnchanged, Updates}
 use Rattle.std.specs.BTreeMap.{is_at}
 use Rattle.std.specs.List.{list_any}
 use Rattle.std.specs.Ordering.{is_eq, nat_cmp, ordering_then}
 use Rattle.std.specs.declared.cmp.Ordering.{Ordering}
 use Rattle.std.specs.declared.cmp.Ordering.TheVariants.{Less, Equal, Greater}
-use Rattle.std.proofs.lemmas.Bool.{cases_eq, ne_eqb, or_left, or_right}
+use Rattle.std.proofs.lemmas.Bool.{cases_eq, or_left, or_right}
 use Rattle.std.proofs.lemmas.Bool.Decides.{nat_tests}
 use Rattle.std.proofs.lemmas.List.{take-append-drop}
 use Rattle.std.proofs.lemmas.List.Folds.{list_any-append, list_any_at}

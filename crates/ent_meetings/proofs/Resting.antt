@@ -1,5 +1,5 @@
 -- What a search tells once both passes are over, and one step after the other.
-use Rattle.std.proofs.Common.{◌≡◌, ◌<◌, ◌≤◌, ◌∷◌, ◌++◌, [], ℕ, Bool, true, false, List, length, Contains, refl, sym, ap, subst, ◌∙◌, ◌⊎◌, inl, inr, ⊎_elim, arith}
+use Rattle.std.proofs.Common.{◌≡◌, ◌<◌, ◌≤◌, ◌∷◌, ◌++◌, [], ℕ, false, List, length, Contains, sym, ap, subst, ◌∙◌, ◌⊎◌, ⊎_elim, arith}
 use Rattle.std.specs.Cmp.Lexicographic.{slice_cmp}
 use Rattle.std.specs.Ordering.{nat_cmp}
 use Rattle.std.specs.declared.cmp.Ordering.TheVariants.{Less}
@@ -9,7 +9,6 @@ use Rattle.ent_parties.specs.Meeting.{IsClear}
 use Rattle.ent_meetings.specs.Meeting.{HasOneOf, IsLonely, IsMeeting}
 use Rattle.ent_meetings.specs.Search.{AreCleared, IsFound, IsFurther, IsStand, IsTaken, found_of, place_of}
 use Rattle.ent_meetings.specs.SearchSteps.{IsRest}
-use Rattle.ent_meetings.specs.Stand.{IsSought}
 use Rattle.ent_meetings.specs.Waiting.{Waiting, named}
 use Rattle.ent_meetings.specs.declared.found.Found.{Found}
 use Rattle.ent_meetings.specs.declared.found.Found.TheVariants.{Meeting, Lonely, Nobody, Stopped}

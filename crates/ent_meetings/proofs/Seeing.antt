@@ -1,6 +1,6 @@
 -- Parties behind references, and the demands of several parties.
-use Rattle.std.proofs.Common.{◌≡◌, ◌<◌, ℕ, ◌+◌, Bool, true, false, cond, not, ◌||◌, List, [], ◌∷◌, ◌++◌, length, take, drop, get_or, map}
-use Rattle.std.proofs.Common.{Option, None, Some, IsSome, refl, sym, ap, subst, ◌∙◌, ◌≤◌, count_by, sum_by}
+use Rattle.std.proofs.Common.{◌≡◌, ◌<◌, ℕ, ◌+◌, Bool, true, false, cond, ◌||◌, List, [], ◌∷◌, ◌++◌, length, take, drop, get_or, map}
+use Rattle.std.proofs.Common.{Option, None, Some, IsSome, refl, sym, ap, ◌∙◌, ◌≤◌, count_by}
 use Rattle.std.specs.Borrow.{Bor}
 use Rattle.std.specs.List.{find, flat_map, list_any}
 use Rattle.std.specs.Option.{is_some, option_copied, option_or}

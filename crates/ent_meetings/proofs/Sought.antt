@@ -1,8 +1,7 @@
 -- Who fits what is sought is posted where it is looked for.
-use Rattle.std.proofs.Common.{◌≡◌, ◌≢◌, ◌<◌, ◌≤◌, ℕ, zero, suc, Bool, true, false, ◌&&◌, ◌||◌, ◌==◌, List, [], ◌∷◌, length}
+use Rattle.std.proofs.Common.{◌≡◌, ◌<◌, ◌≤◌, ℕ, zero, suc, true, false, ◌==◌, List, [], ◌∷◌, length}
 use Rattle.std.proofs.Common.{All, ◌⊎◌, Option, None, Some, IsSome, get_or, refl, sym, ap, subst, ◌∙◌, inl, inr, ⊎_elim, arith, eq-eqb}
 use Rattle.std.specs.Cmp.Lexicographic.{pointwise}
-use Rattle.std.specs.List.{list_any}
 use Rattle.std.specs.Option.{option_map_or}
 use Rattle.std.specs.Ordering.{is_eq}
 use Rattle.std.specs.declared.cmp.Ordering.{Ordering}
@@ -22,7 +21,7 @@ use Rattle.ent_parties.specs.Pattern.{may_be_one, may_meet}
 use Rattle.ent_parties.specs.declared.party.Party.{Party}
 use Rattle.ent_parties.specs.declared.pattern.Pattern.{Pattern}
 use Rattle.ent_meetings.specs.Keys.{has_key, has_key_below, have_key, key, key_at, unknown_at}
-use Rattle.ent_meetings.specs.Postings.{Agrees, IsPosted, Postings, agrees_at, has}
+use Rattle.ent_meetings.specs.Postings.{Agrees, IsPosted, Postings, has}
 use Rattle.ent_meetings.specs.Sides.{fits, fits_at, patterns_of}
 use Rattle.ent_meetings.specs.Waiting.{Waiting, party_at}
 use Rattle.ent_meetings.specs.declared.side.Side.{Side}

@@ -1,17 +1,16 @@
 -- How a search moves on.
-use Rattle.std.proofs.Common.{◌≡◌, ◌≢◌, ◌<◌, ◌≤◌, ◌+◌, ℕ, zero, suc, Bool, true, false, List, [], ◌∷◌, ◌++◌, length, take, get_or}
-use Rattle.std.proofs.Common.{Option, None, Some, refl, sym, ap, subst, ◌∙◌, ◌⊎◌, inl, inr, ⊎_elim, arith, add-one}
-use Rattle.std.specs.List.{AllByRecursion}
+use Rattle.std.proofs.Common.{◌≡◌, ◌≢◌, ◌<◌, ◌≤◌, ℕ, zero, suc, Bool, true, false, List, [], ◌∷◌, ◌++◌, length, take, get_or}
+use Rattle.std.proofs.Common.{Option, None, Some, refl, sym, ap, subst, ◌∙◌, ◌⊎◌, inl, inr, ⊎_elim, arith}
 use Rattle.std.specs.Option.{option_map_or}
-use Rattle.std.proofs.lemmas.Bool.{cases_lt, cases_eq, both_ways}
+use Rattle.std.proofs.lemmas.Bool.{cases_lt, both_ways}
 use Rattle.std.proofs.Math.Seq.{get_or-append_seam}
 use Rattle.std.proofs.lemmas.List.{get_or_append_left, length_push, take-append-le, take_all}
 use Rattle.ent_group.specs.declared.members.TheConstants.{MOST_MEMBERS}
-use Rattle.ent_lists.specs.Elements.{In, Pairs, contains_in, in_contains, all_first, all_joined, in_second, of_all, pairs_behind, pairs_first, to_all}
+use Rattle.ent_lists.specs.Elements.{In, contains_in, in_contains, all_first, all_joined, pairs_behind, pairs_first}
 use Rattle.ent_parties.specs.declared.pattern.Pattern.{Pattern}
 use Rattle.ent_meetings.specs.Group.{first_unmet}
 use Rattle.ent_meetings.specs.Next.{IsAfter, IsUpTo}
-use Rattle.ent_meetings.specs.Stand.{IsPassed, IsSought, Stand, gives}
+use Rattle.ent_meetings.specs.Stand.{IsPassed, Stand, gives}
 use Rattle.ent_meetings.specs.Waiting.{Waiting, Waits, named, offers_at}
 use Rattle.ent_meetings.specs.Meeting.{HasOneOf, IsWithin}
 use Rattle.ent_meetings.proofs.Passed.{not_chosen, passed_all}

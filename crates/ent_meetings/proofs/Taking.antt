@@ -1,7 +1,7 @@
 -- Chosen that need nobody else are a meeting.
-use Rattle.std.proofs.Common.{◌≡◌, ◌≢◌, ◌<◌, ◌≤◌, ◌++◌, ◌∷◌, [], ℕ, suc, Bool, true, false, cond, not, nat_lt, List, length, get_or, Option, None, Some}
-use Rattle.std.proofs.Common.{All, Contains, refl, sym, ap, subst, ◌∙◌, ◌⊎◌, inl, inr, arith, count_by, sum_by}
-use Rattle.std.specs.List.{AllByRecursion, flat_map, list_any}
+use Rattle.std.proofs.Common.{◌≡◌, ◌≢◌, ◌<◌, ◌≤◌, ◌∷◌, [], ℕ, Bool, true, false, cond, nat_lt, List, length, get_or, Option, None}
+use Rattle.std.proofs.Common.{All, sym, ap, ◌∙◌, inl, inr, arith, count_by}
+use Rattle.std.specs.List.{flat_map}
 use Rattle.std.specs.List.Sorted.{IsNonDecreasing, IsPermutation}
 use Rattle.std.proofs.lemmas.Bool.{ltb-false, ltb-true}
 use Rattle.std.proofs.lemmas.Bool.Decides.{Decides-eqb}
@@ -11,25 +11,24 @@ use Rattle.std.proofs.lemmas.List.Sums.{sum_by-cons}
 use Rattle.std.proofs.lemmas.Map.Keys.{IsDistinct-IsPermutation, IsStrictlyIncreasing-from_distinct}
 use Rattle.std.proofs.lemmas.Map.Made.{AllPairs-from_IsDistinct, IsDistinct-from_AllPairs}
 use Rattle.std.specs.Prelude.{nat_eq}
-use Rattle.ent_group.specs.declared.members.TheConstants.{MOST_MEMBERS}
-use Rattle.ent_lists.specs.Elements.{In, Pairs, any_none, any_some, contains_in, in_contains, index_pairs, nth_in, of_all, pairs_index, to_flat}
+use Rattle.ent_lists.specs.Elements.{In, Pairs, any_none, any_some, contains_in, in_contains, index_pairs, of_all, pairs_index, to_flat}
 use Rattle.ent_parties.specs.Meeting.{IsClear, IsClosed, MeetAll, is_met, offers, ways}
 use Rattle.ent_parties.specs.Pattern.{may_meet}
 use Rattle.ent_parties.specs.declared.party.Party.{Party}
 use Rattle.ent_parties.specs.declared.pattern.Pattern.{Pattern}
 use Rattle.ent_meetings.specs.Group.{demands_of, first_unmet, is_crowded}
-use Rattle.ent_meetings.specs.Meeting.{HasOneOf, IsClosedWith, IsMeeting, IsWithin}
+use Rattle.ent_meetings.specs.Meeting.{IsMeeting, IsWithin}
 use Rattle.ent_meetings.specs.Stand.{Stand}
-use Rattle.ent_meetings.specs.Waiting.{Waiting, Waits, named, party_at}
+use Rattle.ent_meetings.specs.Waiting.{Waiting, Waits, named}
 use Rattle.ent_meetings.proofs.Ways.{ways_more}
-use Rattle.ent_meetings.proofs.Waiters.{all_in, closed_by, closed_meets, demanded_more, giver_of, met_by, of_named, within, within_by}
+use Rattle.ent_meetings.proofs.Waiters.{all_in, closed_by, closed_meets, demanded_more, giver_of, met_by, within, within_by}
 
 -- the same tickets in another order
 pub within_permuted : (one other : List ℕ) → IsPermutation one other → IsWithin one other
 within_permuted one other moved =
     within_by one other (λ ticket at. contains_in other ticket (Contains-permutation one other ticket moved (in_contains one ticket at)))
 
-distinct_permuted : (one other : List ℕ) → IsPermutation one other → Pairs (λ (a b : ℕ). a ≢ b) one
+pub distinct_permuted : (one other : List ℕ) → IsPermutation one other → Pairs (λ (a b : ℕ). a ≢ b) one
     → Pairs (λ (a b : ℕ). a ≢ b) other
 distinct_permuted one other moved distinct =
     index_pairs (λ (a b : ℕ). a ≢ b) other

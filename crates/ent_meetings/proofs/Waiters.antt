@@ -1,16 +1,16 @@
 -- The parties that tickets name.
-use Rattle.std.proofs.Common.{◌≡◌, ◌<◌, ◌≤◌, ℕ, zero, suc, Bool, true, false, not, cond, List, [], ◌∷◌, ◌++◌, ◌+◌, length, take, get_or, Option, None, Some}
+use Rattle.std.proofs.Common.{◌≡◌, ◌<◌, ℕ, zero, suc, Bool, true, false, not, cond, List, [], ◌∷◌, ◌++◌, ◌+◌, length, take, get_or, Option, None, Some}
 use Rattle.std.proofs.Common.{IsSome, All, Contains, refl, sym, ap, subst, ◌∙◌, inl, inr, arith}
-use Rattle.std.specs.List.{AllPass, cons_option, filter_map, find, flat_map, list_any}
+use Rattle.std.specs.List.{cons_option, filter_map, find}
 use Rattle.std.specs.Option.{option_map_or}
 use Rattle.std.proofs.lemmas.List.{take_more}
 use Rattle.std.proofs.lemmas.List.Elements.{All-contains, filter_map-append}
-use Rattle.ent_lists.specs.Elements.{In, any_in, any_some, contains_in, in_contains, in_flat, to_flat, turned}
+use Rattle.ent_lists.specs.Elements.{In, any_in, any_some, contains_in, in_contains, in_flat, to_flat}
 use Rattle.ent_parties.specs.Meeting.{IsClosed, MeetAll, is_met, offers}
 use Rattle.ent_parties.specs.declared.party.Party.{Party}
 use Rattle.ent_parties.specs.declared.pattern.Pattern.{Pattern}
 use Rattle.ent_meetings.specs.Group.{demands_of, first_unmet}
-use Rattle.ent_meetings.specs.Meeting.{IsClosedWith, IsWithin}
+use Rattle.ent_meetings.specs.Meeting.{IsWithin}
 use Rattle.ent_meetings.specs.Waiting.{Waiting, Waits, named, offers_at, party_at}
 
 pub in_all : {X : Type 0} (P : X → Type 0) (xs : List X) (x : X) → All P xs → In x xs → P x

@@ -1,9 +1,11 @@
 -- How many offers of a set may meet a demand.
-use Rattle.std.proofs.Common.{◌≡◌, ◌≢◌, ◌≤◌, ◌<◌, ℕ, ◌+◌, Bool, cond, List, [], ◌∷◌, ◌++◌, Option, None, Some, All, refl, sym, ap, subst}
+use Rattle.std.proofs.Common.{◌≡◌, ◌≢◌, ◌≤◌, ℕ, ◌+◌, cond, List, [], ◌∷◌, ◌++◌, Option, None, Some, All, refl, sym, ap, subst}
 use Rattle.std.proofs.Common.{◌∙◌, inl, inr, arith, sum_by, count_by}
 use Rattle.std.specs.List.{cons_option, flat_map}
 use Rattle.std.specs.Option.{option_map_or}
+use Rattle.std.proofs.lemmas.List.Sorted.{sum_by-IsPermutation}
 use Rattle.std.proofs.lemmas.List.Sums.{sum_by-append, sum_by-cons}
+use Rattle.std.specs.List.Sorted.{IsPermutation}
 use Rattle.ent_lists.specs.Elements.{In, Pairs, in_either, in_first, in_second, in_flat, of_all}
 use Rattle.ent_parties.specs.Meeting.{IsClear, ways}
 use Rattle.ent_parties.specs.Pattern.{may_meet}
@@ -78,6 +80,13 @@ ways_more waiting one others demand distinct all =
     let here = ways_weigh waiting demand one in
     let there = ways_weigh waiting demand others in
     omega arith
+
+-- in another order they have as many
+pub ways_permuted : (waiting : Waiting) (one other : List ℕ) (demand : Pattern) → IsPermutation one other
+    → ways (named waiting other) demand ≡ ways (named waiting one) demand
+ways_permuted waiting one other demand moved =
+    ways_weigh waiting demand other ∙ sum_by-IsPermutation (weight waiting demand) one other moved
+    ∙ sym (ways_weigh waiting demand one)
 
 -- what is demanded in a clear set is met in one way
 pub clear_ways : (parties : List Party) (demand : Pattern) → IsClear parties → In demand (demands_of parties)

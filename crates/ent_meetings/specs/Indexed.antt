@@ -1,5 +1,5 @@
 -- What an index keeps.
-use Rattle.std.specs.Prelude.{ℕ, ◌<◌, ◌^◌, All}
+use Rattle.std.specs.Prelude.{◌<◌, ◌^◌, All}
 use Rattle.std.specs.Map.{keys_of}
 use Rattle.ent_meetings.specs.Postings.{IsPosted, Postings}
 use Rattle.ent_meetings.specs.Waiting.{Waiting}

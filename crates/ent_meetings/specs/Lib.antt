@@ -9,3 +9,6 @@ pub mod Meeting
 pub mod Stand
 pub mod Search
 pub mod SearchSteps
+pub mod Widening
+pub mod Gathering
+pub mod Lack

@@ -1,5 +1,5 @@
 -- Which of those who wait may meet.
-use Rattle.std.specs.Prelude.{ℕ, ◌≡◌, ◌≤◌, All, Any, Contains, List, length}
+use Rattle.std.specs.Prelude.{ℕ, ◌≤◌, All, Any, Contains, List, length}
 use Rattle.std.specs.List.Sorted.{IsStrictlyIncreasing}
 use Rattle.ent_group.specs.declared.members.TheConstants.{MOST_MEMBERS}
 use Rattle.ent_parties.specs.Meeting.{IsClear, IsClosed}

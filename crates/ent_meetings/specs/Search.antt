@@ -8,7 +8,6 @@ use Rattle.ent_parties.specs.Meeting.{IsClear}
 use Rattle.ent_meetings.specs.Meeting.{HasOneOf, IsClearMeeting, IsLonely, IsMeeting}
 use Rattle.ent_meetings.specs.Stand.{Stand}
 use Rattle.ent_meetings.specs.Waiting.{Waiting, Waits, named}
-use Rattle.ent_meetings.specs.declared.found.Bound.{Bound}
 use Rattle.ent_meetings.specs.declared.found.Bound.TheVariants as bounds
 use Rattle.ent_meetings.specs.declared.found.Found.{Found}
 use Rattle.ent_meetings.specs.declared.found.Found.TheVariants.{Meeting, Lonely, Nobody, Stopped}

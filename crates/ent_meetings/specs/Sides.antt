@@ -4,7 +4,6 @@ use Rattle.std.specs.Option.{option_map_or}
 use Rattle.ent_parties.specs.Meeting.{offers}
 use Rattle.ent_parties.specs.declared.party.Party.{Party}
 use Rattle.ent_parties.specs.declared.pattern.Pattern.{Pattern}
-use Rattle.ent_meetings.specs.Postings.{Postings}
 use Rattle.ent_meetings.specs.Waiting.{Waiting, demands, party_at}
 use Rattle.ent_meetings.specs.declared.side.Side.{Side}
 use Rattle.ent_meetings.specs.declared.side.Side.TheVariants.{Offers, Demands}

@@ -1,5 +1,5 @@
 -- Those who wait, each under a ticket, by arrival.
-use Rattle.std.specs.Prelude.{ℕ, ◌≡◌, ◌<◌, ◌≤◌, Bool, true, false, List, Option, Some, None, IsSome, IfSome}
+use Rattle.std.specs.Prelude.{ℕ, Bool, false, List, Option, IsSome}
 use Rattle.std.specs.BTreeMap.{is_at}
 use Rattle.std.specs.List.{filter_map, list_any}
 use Rattle.std.specs.Map.{lookup}

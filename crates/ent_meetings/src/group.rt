@@ -1,10 +1,10 @@
 //! What the parties of a set demand of each other.
-ghost use Rattle.std.specs.Prelude.{◌≡◌, ◌≤◌, ◌+◌, not, min, nat_lt};
+ghost use Rattle.std.specs.Prelude.{◌≡◌, ◌≤◌, ◌+◌, ◌==◌, ◌++◌, ◌∷◌, [], not, min, nat_lt};
 ghost use Rattle.std.specs.List.{count_by, find, list_any};
 ghost use Rattle.std.specs.Option.{option_copied};
-ghost use Rattle.ent_parties.specs.Meeting.{is_met, ways};
+ghost use Rattle.ent_parties.specs.Meeting.{is_met, offers, ways};
 ghost use Rattle.ent_parties.specs.Pattern.{may_meet};
-ghost use Rattle.ent_meetings.specs.Group.{first_unmet, is_crowded, seen};
+ghost use Rattle.ent_meetings.specs.Group.{first_unmet, is_crowded, is_served_once, may_come, seen, serves};
 
 use ent_parties::{Party, Pattern};
 
@@ -82,4 +82,48 @@ pub(crate) fn is_crowded(parties: &[&Party]) -> bool
         }
     }
     false
+}
+
+/// Whether one offer alone may meet a demand, of those of the parties and of another one.
+fn is_met_once(parties: &[&Party], party: &Party, demand: &Pattern) -> bool
+    ensures { result ≡ (ways (seen parties.now ++ party.now ∷ []) demand.now == 1) }
+{
+    more_ways(party, demand, ways(parties, demand)) == 1
+}
+
+/// Whether one offer alone may meet each demand of a party, of those of the parties and of its own.
+fn is_served_once(parties: &[&Party], party: &Party) -> bool
+    ensures { result ≡ is_served_once (seen parties.now) party.now }
+{
+    party
+        .demands
+        .iter()
+        .all(|demand| is_met_once(parties, party, demand))
+}
+
+/// Whether a party offers what another one demands.
+fn serves_one(other: &Party, party: &Party) -> bool
+    ensures { result ≡ list_any (λ demand. offers demand party.now) other.now.demands }
+{
+    other.demands.iter().any(|demand| party.offers(demand))
+}
+
+/// Whether a party offers what one of the parties demands.
+fn serves(parties: &[&Party], party: &Party) -> bool
+    ensures { result ≡ serves (seen parties.now) party.now }
+{
+    for other in parties {
+        if serves_one(other, party) {
+            return true;
+        }
+    }
+    false
+}
+
+/// Whether a party may come to the parties: one offer alone may meet each of its demands, and it offers nothing that
+/// they demand.
+pub(crate) fn may_come(parties: &[&Party], party: &Party) -> bool
+    ensures { result ≡ may_come (seen parties.now) party.now }
+{
+    is_served_once(parties, party) && !serves(parties, party)
 }

@@ -18,6 +18,10 @@ use std::alloc::{AllocError, Global};
 /// So many meetings of one root are handed out at most.
 pub const MOST_CHOICES: usize = 8;
 
+/// At so many candidates one call looks at most, where its caller has no reason for another number: enough for meetings
+/// of people who name each other, and soon over where demands fit everybody.
+pub const MOST_LOOKS: usize = 4_096;
+
 /// A search for the meetings of one root among those who wait. It keeps the meetings that it handed out, and where it
 /// stands, so that it goes on there. It holds for an index that doesn't change meanwhile: at a changed one make another.
 ///

@@ -1,5 +1,3 @@
-use Rattle.std.proofs.Common.{◌≡◌, ◌≤◌, ◌<◌, ℕ, true, false, rules, arith}
-use Rattle.ent_meetings.specs.Postings.{has}
 use Rattle.ent_meetings.proofs.EntryOrder.{none_found, other_key, from_first, has_first, none_before}
 use Rattle.ent_meetings.proofs.entry.first_under.Goals as goal
 

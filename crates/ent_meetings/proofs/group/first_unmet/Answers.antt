@@ -1,4 +1,4 @@
-use Rattle.std.proofs.Common.{◌≡◌, ◌<◌, None, Some, IsSome, not, length, arith, rules, subst, sym, ◌∙◌}
+use Rattle.std.proofs.Common.{◌≡◌, None, IsSome, not, arith, rules, sym, ◌∙◌}
 use Rattle.std.specs.List.{find}
 use Rattle.ent_parties.specs.Meeting.{is_met}
 use Rattle.ent_parties.specs.declared.party.Party.{Party}

@@ -1,4 +1,4 @@
-use Rattle.std.proofs.Common.{◌<◌, ◌≤◌, Bool, nat_lt, length, arith, sym, ◌∙◌}
+use Rattle.std.proofs.Common.{nat_lt, arith, sym, ◌∙◌}
 use Rattle.std.specs.List.{list_any}
 use Rattle.ent_parties.specs.Meeting.{ways}
 use Rattle.ent_parties.specs.declared.party.Party.{Party}

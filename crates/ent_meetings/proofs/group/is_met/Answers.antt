@@ -1,4 +1,4 @@
-use Rattle.std.proofs.Common.{◌<◌, ◌≤◌, length, arith, sym, ◌∙◌}
+use Rattle.std.proofs.Common.{arith, sym, ◌∙◌}
 use Rattle.ent_parties.specs.Meeting.{offers}
 use Rattle.ent_meetings.proofs.Seeing.{any_off, any_on, any_whole}
 use Rattle.ent_meetings.proofs.group.is_met.Goals as goal

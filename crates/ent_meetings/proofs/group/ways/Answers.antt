@@ -1,4 +1,4 @@
-use Rattle.std.proofs.Common.{◌≡◌, ◌<◌, ◌+◌, min, take, length, arith, count_by}
+use Rattle.std.proofs.Common.{◌≡◌, ◌+◌, take, arith, count_by}
 use Rattle.ent_parties.specs.Meeting.{ways}
 use Rattle.ent_parties.specs.Pattern.{may_meet}
 use Rattle.ent_parties.specs.declared.party.Party.{Party}

@@ -1,4 +1,4 @@
-use Rattle.std.proofs.Common.{rules, arith}
+use Rattle.std.proofs.Common.{arith}
 use Rattle.std.proofs.lemmas.Grind.{common_steps}
 use Rattle.ent_meetings.specs.Keys.{key}
 use Rattle.ent_meetings.proofs.key.key.Goals as goal

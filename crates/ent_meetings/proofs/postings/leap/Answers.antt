@@ -1,4 +1,4 @@
-use Rattle.std.proofs.Common.{◌≤◌, ℕ, None, IsSome, arith, rules, sym, subst}
+use Rattle.std.proofs.Common.{None, IsSome, arith, rules, sym, subst}
 use Rattle.std.specs.Prelude.{slice_index_or}
 use Rattle.ent_meetings.proofs.Agreeing.{NoneAgrees, behind, none_before, none_from}
 use Rattle.ent_meetings.proofs.postings.leap.Goals as goal

@@ -1,4 +1,4 @@
-use Rattle.std.proofs.Common.{◌<◌, length, arith, rules}
+use Rattle.std.proofs.Common.{arith, rules}
 use Rattle.ent_meetings.proofs.Posted.{posts_up_to}
 use Rattle.ent_meetings.proofs.postings.post.Goals as goal
 

@@ -1,4 +1,4 @@
-use Rattle.std.proofs.Common.{◌≡◌, false, length, arith, rules}
+use Rattle.std.proofs.Common.{◌≡◌, false, length, arith}
 use Rattle.std.specs.BTreeSet.{Updates}
 use Rattle.ent_meetings.specs.Postings.{entry_cmp}
 use Rattle.ent_meetings.specs.Keys.{key_at}

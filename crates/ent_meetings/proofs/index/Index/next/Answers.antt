@@ -1,5 +1,5 @@
-use Rattle.std.proofs.Common.{◌≡◌, ◌≤◌, ◌<◌, ◌^◌, ℕ, true, false, arith, sym, ◌∙◌}
-use Rattle.ent_meetings.specs.Next.{IsAfter, IsUpTo}
+use Rattle.std.proofs.Common.{◌<◌, ◌^◌, arith, sym, ◌∙◌}
+use Rattle.ent_meetings.specs.Next.{IsAfter}
 use Rattle.ent_meetings.specs.Sides.{fits_at}
 use Rattle.ent_meetings.proofs.Nexts.{nobody, none_before, none_up_to}
 use Rattle.ent_meetings.proofs.Sought.{fitting_agrees, fitting_waits}

@@ -1,4 +1,3 @@
-use Rattle.std.proofs.Common.{◌≡◌, ◌++◌, ◌∷◌, [], rules}
 use Rattle.ent_meetings.proofs.Moving.{goes_back}
 use Rattle.ent_meetings.proofs.search.Search.back.Goals as goal
 

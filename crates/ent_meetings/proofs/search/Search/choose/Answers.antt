@@ -1,4 +1,3 @@
-use Rattle.std.proofs.Common.{◌≡◌, rules}
 use Rattle.ent_meetings.proofs.Moving.{comes, looks_on, past_all}
 use Rattle.ent_meetings.proofs.search.Search.choose.Goals as goal
 

@@ -1,7 +1,4 @@
-use Rattle.std.proofs.Common.{◌≡◌, ◌≤◌, ℕ, List, Option, Some, true, length, sym, ap, ◌∙◌, arith}
-use Rattle.std.specs.Borrow.{Bor}
-use Rattle.ent_group.specs.declared.members.TheConstants.{MOST_MEMBERS}
-use Rattle.ent_parties.specs.declared.party.Party.{Party}
+use Rattle.std.proofs.Common.{◌≡◌, sym, ap, ◌∙◌, arith}
 use Rattle.ent_meetings.specs.Group.{first_unmet, is_crowded, seen}
 use Rattle.ent_meetings.specs.Search.{found_of}
 use Rattle.ent_meetings.specs.Waiting.{named}

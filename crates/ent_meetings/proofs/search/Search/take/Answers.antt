@@ -1,11 +1,10 @@
-use Rattle.std.proofs.Common.{◌≡◌, ◌<◌, ◌∷◌, ◌++◌, [], ℕ, Bool, true, false, List, length, map, Contains, refl, sym, ap, subst, ◌∙◌, ◌⊎◌, inl, inr}
+use Rattle.std.proofs.Common.{◌≡◌, ℕ, Bool, true, false, List, map, Contains, refl, sym, subst, ◌∙◌, ◌⊎◌, inl, inr}
 use Rattle.std.specs.Global.{Vec}
 use Rattle.std.specs.List.Sorted.{IsPermutation}
 use Rattle.std.proofs.lemmas.Bool.{both_ways}
 use Rattle.std.proofs.lemmas.List.Sorted.{IsPermutation-sym}
 use Rattle.ent_parties.specs.Meeting.{IsClear}
-use Rattle.ent_meetings.specs.Group.{is_crowded}
-use Rattle.ent_meetings.specs.Meeting.{HasOneOf, IsMeeting, IsWithin}
+use Rattle.ent_meetings.specs.Meeting.{HasOneOf, IsWithin}
 use Rattle.ent_meetings.specs.Search.{AreCleared, IsStand, found_of}
 use Rattle.ent_meetings.specs.Waiting.{Waiting, named}
 use Rattle.ent_meetings.specs.declared.search.Search.{Search}

@@ -1,0 +1,18 @@
+-- Sets that are widened by others of those who wait.
+use Rattle.std.specs.Prelude.{ℕ, ◌≡◌, All, Contains, IfSome, List, ◌⊎◌}
+use Rattle.ent_parties.specs.Meeting.{ways}
+use Rattle.ent_meetings.specs.Group.{demands_of}
+use Rattle.ent_meetings.specs.Meeting.{IsWithin}
+use Rattle.ent_meetings.specs.Waiting.{Waiting, Waits, named, party_at}
+
+-- who waits under the ticket has each demand met by one offer of these alone
+pub record IsServed (waiting : Waiting) (tickets : List ℕ) (ticket : ℕ) : Type 0 where
+  pub waits : Waits waiting ticket
+  pub once : IfSome (party_at waiting ticket) (λ party. All (λ demand. ways (named waiting tickets) demand ≡ 1) party.demands)
+
+-- all of the one set, whose demands as many offers may meet as before, and others who are served
+pub record IsWidened (waiting : Waiting) (tickets wider : List ℕ) : Type 0 where
+  pub kept : IsWithin tickets wider
+  pub ways : All (λ demand. ways (named waiting wider) demand ≡ ways (named waiting tickets) demand)
+      (demands_of (named waiting tickets))
+  pub others : All (λ ticket. Contains tickets ticket ⊎ IsServed waiting wider ticket) wider
