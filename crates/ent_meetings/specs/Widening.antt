@@ -8,7 +8,8 @@ use Rattle.ent_meetings.specs.Waiting.{Waiting, Waits, named, party_at}
 -- who waits under the ticket has each demand met by one offer of these alone
 pub record IsServed (waiting : Waiting) (tickets : List ℕ) (ticket : ℕ) : Type 0 where
   pub waits : Waits waiting ticket
-  pub once : IfSome (party_at waiting ticket) (λ party. All (λ demand. ways (named waiting tickets) demand ≡ 1) party.demands)
+  pub once : IfSome (party_at waiting ticket) (λ party.
+      All (λ demand. ways (named waiting tickets) demand ≡ 1) party.demands)
 
 -- all of the one set, whose demands as many offers may meet as before, and others who are served
 pub record IsWidened (waiting : Waiting) (tickets wider : List ℕ) : Type 0 where

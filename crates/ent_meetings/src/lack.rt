@@ -19,12 +19,13 @@ pub enum Lack {
     Stopped,
 }
 
-/// The first demand of a party that nobody who waits may offer. With such a demand, whoever waits is lonely. It looks at
+/// The first demand of a party that nobody who waits may offer. Whoever waits with such a demand is lonely. It looks at
 /// as many candidates as `looks` says, which counts down.
 pub fn unoffered(index: &Index, party: &Party, looks: &mut usize) -> Lack
     ensures lack { IsLack index.now party.now looks.new result }
     ensures looks { looks.new ≤ looks.old }
-    ensures lonely { LacksSome result → (root : ℕ) → party_at index.now root ≡ Some party.now → IsLonely index.now root }
+    ensures lonely { LacksSome result → (root : ℕ) → party_at index.now root ≡ Some party.now
+        → IsLonely index.now root }
 {
     let demands = party.demands.as_slice();
     for place in 0..demands.len() {
