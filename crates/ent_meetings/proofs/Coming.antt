@@ -25,7 +25,7 @@ ways_joined parties party demand =
     ∙ ap (λ (more : List Pattern). flat_map offered parties ++ more) (append-nil party.offers))
     ∙ sum_by-append (λ offer. cond (may_meet demand offer) 1 0) (flat_map offered parties) party.offers
 
-none_counted : {X : Type 0} (p : X → Bool) (xs : List X) → list_any p xs ≡ false → count_by p xs ≡ 0
+pub none_counted : {X : Type 0} (p : X → Bool) (xs : List X) → list_any p xs ≡ false → count_by p xs ≡ 0
 none_counted p [] none = refl
 none_counted p (x ∷ xs) none =
     let both = neither (p x) (list_any p xs) none in

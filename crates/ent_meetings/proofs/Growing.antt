@@ -1,6 +1,6 @@
 -- A set of those who wait grows.
-use Rattle.std.proofs.Common.{◌≡◌, ◌≢◌, ◌<◌, ℕ, true, List, [], ◌∷◌, ◌++◌, length, Some, sym, ap, subst, ◌∙◌, arith}
-use Rattle.std.proofs.lemmas.List.{length_push}
+use Rattle.std.proofs.Common.{◌≡◌, ◌≢◌, ◌<◌, ℕ, true, List, [], ◌∷◌, ◌++◌, length, Some, sym, ap, subst, ◌∙◌, append_assoc, arith}
+use Rattle.std.proofs.lemmas.List.{append-nil, length-append, length_push}
 use Rattle.ent_group.specs.declared.members.TheConstants.{MOST_MEMBERS}
 use Rattle.ent_lists.specs.Elements.{In, pairs_behind}
 use Rattle.ent_parties.specs.declared.party.Party.{Party}
@@ -17,6 +17,7 @@ module _ (waiting : Waiting) where
   grows_not gathering parties = record {
     parties = parties;
     wider = widened_not waiting gathering.tickets.items;
+    longer = ([], sym (append-nil gathering.tickets.items));
     runnable = λ runnable. runnable;
   }
 
@@ -24,6 +25,11 @@ module _ (waiting : Waiting) where
   grows_both one mid last first second = record {
     parties = second.parties;
     wider = widened_both waiting one.tickets.items mid.tickets.items last.tickets.items first.wider second.wider;
+    longer = (
+      first.longer.0 ++ second.longer.0,
+      second.longer.1 ∙ ap (λ (xs : List ℕ). xs ++ second.longer.0) first.longer.1
+          ∙ append_assoc one.tickets.items first.longer.0 second.longer.0,
+    );
     runnable = λ runnable. second.runnable (first.runnable runnable);
   }
 
@@ -39,9 +45,16 @@ module _ (waiting : Waiting) where
     wider = subst (IsWidened waiting old.tickets.items) (sym tickets_are)
         (comes waiting old.tickets.items ticket party at
         (ap (λ (ps : List Party). may_come ps party) (sym parties) ∙ may));
+    longer = (ticket ∷ [], tickets_are);
     runnable = λ runnable. subst IsRunnable (sym tickets_are) (record {
       distinct = pairs_behind (λ (one other : ℕ). one ≢ other) old.tickets.items ticket runnable.distinct
           (λ y there same. other (subst (λ (n : ℕ). In n old.tickets.items) same there));
       bound = omega (arith, room, length_push old.tickets.items ticket);
     });
   }
+
+-- it was no longer before
+pub shorter : (old new more : List ℕ) → new ≡ old ++ more → length new < MOST_MEMBERS → length old < MOST_MEMBERS
+shorter old new more is low =
+    let long = ap length is ∙ length-append old more in
+    omega arith

@@ -18,3 +18,5 @@ pub mod Resting
 pub mod Coming
 pub mod Wider
 pub mod Growing
+pub mod Settled
+pub mod NobodyElse

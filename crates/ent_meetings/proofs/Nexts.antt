@@ -3,7 +3,7 @@ use Rattle.std.proofs.Common.{◌≡◌, ◌≤◌, ◌<◌, ◌↔◌, ℕ, Boo
 use Rattle.std.proofs.lemmas.Bool.{cases_lt, false_from_ne_true}
 use Rattle.ent_meetings.specs.Next.{IsAfter, IsUpTo}
 
-after_or_up_to : (last : Option ℕ) (other : ℕ) → IsAfter last other ⊎ IsUpTo last other
+pub after_or_up_to : (last : Option ℕ) (other : ℕ) → IsAfter last other ⊎ IsUpTo last other
 after_or_up_to None other = inl tt
 after_or_up_to (Some last) other = cases_lt last other
 

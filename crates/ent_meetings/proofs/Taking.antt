@@ -44,7 +44,7 @@ met_more waiting one others demand all met =
     met_by waiting others demand giver.0 (within one others giver.0 all giver.1) giver.2
 
 -- one that passes is counted
-counted : {X : Type 0} (p : X → Bool) (xs : List X) (x : X) → In x xs → p x ≡ true → 1 ≤ count_by p xs
+pub counted : {X : Type 0} (p : X → Bool) (xs : List X) (x : X) → In x xs → p x ≡ true → 1 ≤ count_by p xs
 counted p [] x at passes = absurd at
 counted p (y ∷ ys) x (inl same) passes =
     let one : cond {A = ℕ} (p y) 1 0 ≡ 1 = ap (λ (b : Bool). cond b 1 0) (ap p (sym same) ∙ passes) in

@@ -1,5 +1,5 @@
 -- A set of those who wait that grows.
-use Rattle.std.specs.Prelude.{ℕ, ◌≡◌, ◌≢◌, ◌≤◌, List, length}
+use Rattle.std.specs.Prelude.{ℕ, ◌≡◌, ◌≢◌, ◌≤◌, ◌++◌, List, length}
 use Rattle.ent_group.specs.declared.members.TheConstants.{MOST_MEMBERS}
 use Rattle.ent_lists.specs.Elements.{Pairs}
 use Rattle.ent_meetings.specs.Group.{seen}
@@ -20,4 +20,5 @@ pub record IsRunnable (tickets : List ℕ) : Type 0 where
 pub record Grows (waiting : Waiting) (old new : Gathering) : Type 0 where
   pub parties : IsGathering waiting new
   pub wider : IsWidened waiting old.tickets.items new.tickets.items
+  pub longer : (more : List ℕ) × (new.tickets.items ≡ old.tickets.items ++ more)
   pub runnable : IsRunnable old.tickets.items → IsRunnable new.tickets.items

@@ -10,6 +10,10 @@ use Rattle.ent_parties.specs.declared.pattern.Pattern.{Pattern}
 abbrev pub seen : List (Bor Party) → List Party
 seen parties = map (λ party. party.now) parties
 
+-- all that the parties offer, in order
+abbrev pub offers_of : List Party → List Pattern
+offers_of parties = flat_map (λ party. party.offers) parties
+
 -- all that the parties demand, in order
 abbrev pub demands_of : List Party → List Pattern
 demands_of parties = flat_map (λ party. party.demands) parties

@@ -10,5 +10,6 @@ pub mod Stand
 pub mod Search
 pub mod SearchSteps
 pub mod Widening
+pub mod Settling
 pub mod Gathering
 pub mod Lack

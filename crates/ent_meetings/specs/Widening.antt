@@ -1,9 +1,10 @@
 -- Sets that are widened by others of those who wait.
-use Rattle.std.specs.Prelude.{ℕ, ◌≡◌, All, Contains, IfSome, List, ◌⊎◌}
+use Rattle.std.specs.Prelude.{ℕ, ◌≡◌, true, All, Any, Contains, IfSome, List, Some, ◌⊎◌}
 use Rattle.ent_parties.specs.Meeting.{ways}
-use Rattle.ent_meetings.specs.Group.{demands_of}
+use Rattle.ent_parties.specs.declared.party.Party.{Party}
+use Rattle.ent_meetings.specs.Group.{demands_of, may_come, offers_of}
 use Rattle.ent_meetings.specs.Meeting.{IsWithin}
-use Rattle.ent_meetings.specs.Waiting.{Waiting, Waits, named, party_at}
+use Rattle.ent_meetings.specs.Waiting.{Waiting, Waits, demands, named, party_at}
 
 -- who waits under the ticket has each demand met by one offer of these alone
 pub record IsServed (waiting : Waiting) (tickets : List ℕ) (ticket : ℕ) : Type 0 where
@@ -17,3 +18,11 @@ pub record IsWidened (waiting : Waiting) (tickets wider : List ℕ) : Type 0 whe
   pub ways : All (λ demand. ways (named waiting wider) demand ≡ ways (named waiting tickets) demand)
       (demands_of (named waiting tickets))
   pub others : All (λ ticket. Contains tickets ticket ⊎ IsServed waiting wider ticket) wider
+
+-- somebody else might come: who waits under the ticket demands something that these offer, and may come to them
+pub record MightCome (waiting : Waiting) (tickets : List ℕ) (ticket : ℕ) : Type 0 where
+  pub other : Contains tickets ticket → ⊥
+  pub party : Party
+  pub waits : party_at waiting ticket ≡ Some party
+  pub asks : Any (λ offer. demands offer party ≡ true) (offers_of (named waiting tickets))
+  pub comes : may_come (named waiting tickets) party ≡ true
