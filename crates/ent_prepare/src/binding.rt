@@ -2,9 +2,11 @@
 ghost use Rattle.std.specs.Prelude.{◌≡◌, IfErr, IfOk, None};
 ghost use Rattle.ent_bound.specs.Bound.{bound_script};
 ghost use Rattle.ent_bound.specs.Refused.{first_fault};
+ghost use Rattle.ent_prepare.specs.Cached.{AreRead};
 ghost use Rattle.ent_prepare.specs.Prepared.{IsBound, RefusesBinding, RefusesBound, RefusesReading};
 ghost use Rattle.ent_prepare.specs.Reading.{IsScript};
 
+use crate::cache::{Cache, keep, kept, touch};
 use crate::fault::PrepareFault;
 use crate::reading::read;
 use ent_bound::{BoundVariable, bound};
@@ -41,15 +43,25 @@ fn bound_in(
     }
 }
 
-/// The script that a text reads as, with these values bound in it; or the first fault.
+/// The script that a text reads as, with these values bound in it; or the first fault. The text is kept with its
+/// script.
 pub(crate) fn bound_of(
     alloc: Global,
+    cache: &mut Cache,
     text: &[u8],
     variables: &[BoundVariable],
 ) -> Result<Script, Refusal<PrepareFault>>
+    requires { AreRead cache.old.entries }
     ensures ok { IfOk result (λ made. IsBound text.now variables.now made) }
     ensures refused { IfErr result (λ refusal. RefusesBound text.now variables.now refusal) }
+    ensures kept { AreRead cache.new.entries }
 {
+    touch(cache, text);
+    if let Some(script) = kept(cache, text) {
+        return bound_in(alloc, script, variables);
+    }
     let script = script_of(alloc, text)?;
-    bound_in(alloc, &script, variables)
+    let made = bound_in(alloc, &script, variables);
+    keep(alloc, cache, text, script);
+    made
 }

@@ -5,10 +5,12 @@
 #![tactic(auto)]
 
 mod binding;
+mod cache;
 mod fault;
 mod preparing;
 mod reading;
 
+pub use cache::{LONGEST_KEPT, MOST_TEXTS};
 pub use fault::{PrepareFault, ReadingFault};
 pub use preparing::Preparing;
 pub use reading::LONGEST_SCRIPT;

@@ -6,6 +6,7 @@ ghost use Rattle.ent_prepare.specs.Prepared.{HasForm, IsPrepared, IsRefused, Ref
 ghost use Rattle.ent_value.specs.Refusal.{Gives};
 
 use crate::binding::bound_of;
+use crate::cache::{Cache, empty};
 use crate::fault::PrepareFault;
 use ent_bound::BoundVariable;
 use ent_form::{Catalogue, FormFault, resolve};
@@ -14,20 +15,25 @@ use ent_value::Refusal;
 use std::alloc::Global;
 use std::marker::Model;
 
-/// The tables over which texts are prepared. Contracts see their schemas.
+/// The tables over which texts are prepared. Contracts see their schemas. The last texts are kept with the scripts that
+/// they read as: of these only the values and the form are new work.
 #[derive(Drop)]
 pub struct Preparing {
     alloc: Global,
     catalogue: Catalogue,
+    read: Cache,
 }
 
 impl Model for Preparing {
     ghost use Rattle.std.specs.Prelude.{List};
     ghost use Rattle.ent_form.specs.declared.catalogue.TableSchema.{TableSchema};
+    ghost use Rattle.ent_prepare.specs.Cached.{AreRead};
 
     ghost Value = { List TableSchema };
 
     ghost view = { λ preparing. preparing.catalogue.tables };
+
+    ghost invariant = { λ preparing. AreRead preparing.read.entries };
 }
 
 impl Preparing {
@@ -39,6 +45,7 @@ impl Preparing {
         Ok(Preparing {
             alloc,
             catalogue: Catalogue::of(alloc, opening)?,
+            read: empty(alloc)?,
         })
     }
 
@@ -54,7 +61,7 @@ impl Preparing {
         ensures refused { IfErr result (λ refusal. IsRefused self.old text.now variables.now refusal) }
         ensures same { self.new ≡ self.old }
     {
-        let script = bound_of(self.alloc, text, variables)?;
+        let script = bound_of(self.alloc, &mut self.read, text, variables)?;
         check(self.alloc, &self.catalogue, &script)?;
         Ok(script)
     }
