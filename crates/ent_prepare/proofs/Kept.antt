@@ -1,6 +1,6 @@
 -- Texts that are kept go on reading as their scripts.
 use Rattle.std.proofs.Common.{◌≡◌, ℕ, Bool, true, List, Option, Some, None, Result, Ok, Err, IfSome, OnOk, OnErr}
-use Rattle.std.proofs.Common.{Contains, sym, subst, ap, inl, inr, vec_items}
+use Rattle.std.proofs.Common.{sym, subst, ap, inl, inr, vec_items}
 use Rattle.std.proofs.lemmas.Slice.Eq.{bytes_eq-Decides}
 use Rattle.std.specs.Map.{lookup}
 use Rattle.std.specs.Option.{option_copied}
