@@ -1,19 +1,29 @@
-//! Laws of bound scripts. Nothing here has a body; what holds is in the contracts.
-ghost use Rattle.std.specs.Prelude.{◌≡◌, List, [], Some, None, false, map};
+//! Laws of bound scripts. Nothing here does any work; what holds is in the contracts.
+ghost use Rattle.std.specs.Prelude.{◌≡◌, ℕ, Contains, List, [], Ok, Some, None, false, map};
+ghost use Rattle.std.specs.List.{All};
 ghost use Rattle.std.specs.Option.{option_map};
 ghost use Rattle.ent_value.specs.declared.value.Value.{Value};
 ghost use Rattle.ent_tree.specs.declared.declaration.Create.{Create};
 ghost use Rattle.ent_tree.specs.declared.entangled.Entangled.{Entangled};
+ghost use Rattle.ent_tree.specs.declared.script.Input.{Input};
 ghost use Rattle.ent_tree.specs.declared.script.Script.{Script};
+ghost use Rattle.ent_sql.specs.Reading.{reading};
+ghost use Rattle.ent_print.specs.Printing.{script_text};
+ghost use Rattle.ent_print.specs.Reading.{IsReadable};
+ghost use Rattle.ent_sql_laws.specs.Fits.{ScriptFits};
+ghost use Rattle.ent_sql_laws.specs.Itself.{IsAlone};
 ghost use Rattle.ent_semantics.specs.Database.{Database, Environment, Name, nothing_bound};
 ghost use Rattle.ent_semantics.specs.Entangled.{Valuation, is_grounding, posts};
 ghost use Rattle.ent_semantics.specs.Serial.{script_run};
+ghost use Rattle.ent_bound.specs.Bindable.{IsBindable};
 ghost use Rattle.ent_bound.specs.Bound.{bound_script, bound_value, value_bound};
 ghost use Rattle.ent_bound_laws.specs.Meaning.{run_with_bound, script_run_from, with_bound};
 ghost use Rattle.ent_bound.specs.Over.{entangled_over};
 ghost use Rattle.ent_bound.specs.Refused.{first_fault};
 ghost use Rattle.ent_bound.specs.Values.{is_set, is_used, script_values};
 ghost use Rattle.ent_bound.specs.declared.variable.BoundVariable.{BoundVariable};
+
+use ent_sql_laws::{printed_text_is_itself, read_scripts_can_be_printed};
 
 /// A script in which nothing is bound is that script.
 pub fn nothing_bound_changes_nothing()
@@ -52,3 +62,22 @@ pub fn bound_scripts_mean_the_same()
         → posts environment (entangled_over (bound_value variables) asked) valuation
         ≡ posts (with_bound variables environment) asked valuation }
 {}
+
+/// A text can spell each bound script: where values that can be bound stand in a script that keeps the limits and can
+/// be printed, the bound script does so too. So the text of a bound script, whatever text the script was read from, is
+/// read again as that bound script alone, places aside.
+pub fn bound_scripts_can_be_spelled()
+    ensures fits { (variables : List BoundVariable) (script : Script)
+        → ScriptFits script → ScriptFits (bound_script variables script) }
+    ensures readable { (variables : List BoundVariable) (script : Script)
+        → All (λ variable. IsBindable variable.value) variables → IsReadable script
+        → IsReadable (bound_script variables script) }
+    ensures again { (variables : List BoundVariable) (text : List ℕ) (input : Input) (script : Script)
+        → All (λ variable. IsBindable variable.value) variables → reading text ≡ Ok input
+        → Contains input.scripts script
+        → (again : Input) × (reading (script_text (bound_script variables script)) ≡ Ok again)
+        × IsAlone (bound_script variables script) again }
+{
+    read_scripts_can_be_printed();
+    printed_text_is_itself();
+}

@@ -1,0 +1,4 @@
+pub mod Fault
+pub mod Reading
+pub mod Cached
+pub mod Prepared
