@@ -14,7 +14,7 @@ use Rattle.ent_headline.specs.Resolved.{resolved_forms}
 use Rattle.ent_renewal.specs.Renewal.{HoldsTablesOf}
 use Rattle.ent_renewal.proofs.Names.{held_tables}
 
-settled_held : (s : State) → HasSettledKinds s → opening_fault s.opening ≡ None
+pub settled_held : (s : State) → HasSettledKinds s → opening_fault s.opening ≡ None
     → HoldsTablesOf s.opening.tables (named_tables (table_names s.opening) (settled s))
 settled_held s kinds e =
     let creates = s.opening.tables in

@@ -4,3 +4,5 @@ pub mod Again
 pub mod Formed
 pub mod Finished
 pub mod Onward
+pub mod Rest
+pub mod Emptied

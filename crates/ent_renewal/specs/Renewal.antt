@@ -1,10 +1,10 @@
 -- Openings, and states of their own, that go on where the tables of a database stand.
-use Rattle.std.specs.Prelude.{◌≡◌, ℕ, false, All, List, None}
+use Rattle.std.specs.Prelude.{◌≡◌, ℕ, false, All, List, None, if◌then◌else◌}
 use Rattle.std.specs.List.{list_any, sum_by}
 use Rattle.ent_set.specs.Sets as set
 use Rattle.ent_tree.specs.declared.declaration.Create.{Create}
 use Rattle.ent_tree.specs.declared.declaration.Opening.{Opening}
-use Rattle.ent_semantics.specs.Database.{Database, Name, opening_database, same_name}
+use Rattle.ent_semantics.specs.Database.{Database, Name, is_among, opening_database, same_name}
 use Rattle.ent_semantics.specs.Kinds.{RowsHaveKinds}
 use Rattle.ent_form.specs.Catalogue.{table_schema}
 use Rattle.ent_form.specs.OpeningFault.{opening_fault}
@@ -17,6 +17,10 @@ pub record HoldsTablesOf (declared : List Create) (database : Database) : Type 0
   pub kinds : All (λ create. RowsHaveKinds (column_kinds (table_schema create)) (database create.name.name)) declared
   pub others : (name : Name) → list_any (λ create. same_name create.name.name name) declared ≡ false
       → database name ≡ set.empty
+
+-- the tables of these names are empty, the others as they were
+abbrev pub drained : List Name → Database → Database
+drained names database name = if is_among names name then set.empty else database name
 
 -- how many rows stand in declared tables together
 abbrev pub rows_together : List Create → Database → ℕ

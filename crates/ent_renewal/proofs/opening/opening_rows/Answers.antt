@@ -1,15 +1,14 @@
 use Rattle.std.proofs.Common.{◌≡◌, length, take, get_or, ap, arith}
 use Rattle.ent_set.specs.Sets as set
 use Rattle.ent_tree.specs.declared.declaration.Create.{Create}
-use Rattle.ent_book.specs.Tables.{tables_database}
 use Rattle.ent_renewal.specs.Rows.{opening_rows}
 use Rattle.ent_renewal.proofs.Counted.{room}
 use Rattle.ent_renewal.proofs.opening.opening_rows.Goals as goal
 
 pub push_table-requires-clause-room : goal.push_table-requires-clause-room
-push_table-requires-clause-room c =
+push_table-requires-clause-room g c =
     let declared = c.args.declared.now in
-    let database = tables_database c.args.tables.now in
+    let database = g.T.TablesByName.database c.args.tables.now in
     let n = c.loop-create.create-index in
     let create = c.create-item.result in
     let before : length c.loop-create.rows ≡ length (opening_rows (take n declared) database) =

@@ -1,8 +1,6 @@
-use Rattle.std.proofs.Common.{◌≡◌, List, sym, ap, subst, ◌∙◌}
+use Rattle.std.proofs.Common.{List, sym, subst}
 use Rattle.std.proofs.lemmas.Result.{IfOk-weaker}
-use Rattle.ent_tree.specs.declared.declaration.Create.{Create}
 use Rattle.ent_tree.specs.declared.declaration.Opening.{Opening}
-use Rattle.ent_semantics.specs.Database.{Database}
 use Rattle.ent_semantics.specs.declared.book.Book.{Book}
 use Rattle.ent_book.specs.Tables.{book_seen, tables_database}
 use Rattle.ent_book.specs.declared.table.NamedTable.{NamedTable}
@@ -15,11 +13,9 @@ pub opening_over-requires-clause-holds : goal.opening_over-requires-clause-holds
 opening_over-requires-clause-holds c =
     let book = c.args.book.now in
     let left = c.book-book.ensures.left in
-    subst (λ (tables : List NamedTable).
-    HoldsTablesOf c.book-book.result.now.opening.tables (tables_database tables)) (sym c.as_slice.ensures)
-    (subst (λ (b : Book (List NamedTable)). HoldsTablesOf b.opening.tables (tables_database b.database))
+    subst (λ (b : Book (List NamedTable)). HoldsTablesOf b.opening.tables (tables_database b.database))
     (sym c.book-book.ensures.book)
-    (c.finished_books_hold_their_tables.ensures book.opening book.scripts (book_seen book) left.formed left.finished))
+    (c.finished_books_hold_their_tables.ensures book.opening book.scripts (book_seen book) left.formed left.finished)
 
 pub returns-clause-goes_on : goal.returns-clause-goes_on
 returns-clause-goes_on c =
@@ -27,16 +23,11 @@ returns-clause-goes_on c =
     let left = c.book-book.ensures.left in
     let held =
     c.finished_books_hold_their_tables.ensures book.opening book.scripts (book_seen book) left.formed left.finished in
-    let declared : c.book-book.result.now.opening.tables ≡ book.opening.tables =
-    ap (λ (b : Book (List NamedTable)). b.opening.tables) c.book-book.ensures.book in
-    let tables : tables_database c.as_slice.result.now ≡ tables_database book.database =
-    ap tables_database (c.as_slice.ensures ∙ ap (λ (b : Book (List NamedTable)). b.database) c.book-book.ensures.book)
-    in
     IfOk-weaker c.opening_over.result
-    (λ renewed. IsRenewed c.book-book.result.now.opening.tables (tables_database c.as_slice.result.now) renewed)
+    (λ renewed. IsRenewed c.book-book.result.now.opening.tables (tables_database c.book-book.result.now.database) renewed)
     (λ renewed. GoesOn book.opening.tables (tables_database book.database) (opened renewed))
     (λ (renewed : Opening) is.
     goes_on book.opening.tables (tables_database book.database) renewed held
-    (subst (λ (creates : List Create). IsRenewed creates (tables_database book.database) renewed) declared
-    (subst (λ (database : Database). IsRenewed c.book-book.result.now.opening.tables database renewed) tables is)))
+    (subst (λ (b : Book (List NamedTable)). IsRenewed b.opening.tables (tables_database b.database) renewed)
+    c.book-book.ensures.book is))
     c.opening_over.ensures.ok

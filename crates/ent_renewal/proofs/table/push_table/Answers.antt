@@ -3,14 +3,13 @@ use Rattle.ent_set.specs.Sets as set
 use Rattle.ent_value.specs.declared.value.Value.{Value}
 use Rattle.ent_tree.specs.declared.limits.TheConstants.{MOST_PARTS}
 use Rattle.ent_semantics.specs.Database.{Rows}
-use Rattle.ent_book.specs.Tables.{tables_database}
 use Rattle.ent_book.proofs.Ascending.{count_of_ascending}
 use Rattle.ent_renewal.proofs.Counted.{nothing_put, widths}
 use Rattle.ent_renewal.proofs.table.push_table.Goals as goal
 
 pub push_rows-requires-clause-room : goal.push_rows-requires-clause-room
-push_rows-requires-clause-room c =
-    let own : Rows = tables_database c.args.tables.now c.args.create.now.name.name in
+push_rows-requires-clause-room g c =
+    let own : Rows = g.T.TablesByName.database c.args.tables.now c.args.create.now.name.name in
     let is : c.as_slice.result.now ≡ set.ascending own =
     c.as_slice.ensures.value ∙ c.in_ok-present-in-Some.ensures.rows
     ∙ ap (λ (rows : Rows). set.ascending rows) (sym c.in-Some.ensures) in
@@ -19,8 +18,8 @@ push_rows-requires-clause-room c =
     omega (arith, many, room)
 
 pub push_rows-requires-clause-widths : goal.push_rows-requires-clause-widths
-push_rows-requires-clause-widths c =
-    let own : Rows = tables_database c.args.tables.now c.args.create.now.name.name in
+push_rows-requires-clause-widths g c =
+    let own : Rows = g.T.TablesByName.database c.args.tables.now c.args.create.now.name.name in
     let is : c.as_slice.result.now ≡ set.ascending own =
     c.as_slice.ensures.value ∙ c.in_ok-present-in-Some.ensures.rows
     ∙ ap (λ (rows : Rows). set.ascending rows) (sym c.in-Some.ensures) in
@@ -30,5 +29,5 @@ push_rows-requires-clause-widths c =
     (widths c.args.create.now own MOST_PARTS few c.requires.kinds)
 
 pub returns-in-None : goal.returns-in-None
-returns-in-None c =
-    nothing_put (tables_database c.args.tables.now) c.args.create.now c.args.rows.now c.in-None.ensures
+returns-in-None g c =
+    nothing_put (g.T.TablesByName.database c.args.tables.now) c.args.create.now c.args.rows.now c.in-None.ensures

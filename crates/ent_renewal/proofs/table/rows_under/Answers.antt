@@ -6,4 +6,4 @@ use Rattle.ent_set.specs.Sets as set
 use Rattle.ent_renewal.proofs.table.rows_under.Goals as goal
 
 pub returns-in-None-clause-rows : goal.returns-in-None-clause-rows
-returns-in-None-clause-rows c = sym (ap (λ (rows : Rows). set.len rows) c.in-None.ensures ∙ len-empty row_cmp)
+returns-in-None-clause-rows g c = sym (ap (λ (rows : Rows). set.len rows) c.in-None.ensures ∙ len-empty row_cmp)
