@@ -19,6 +19,7 @@ use Rattle.ent_protocol.specs.Step.{Step}
 use Rattle.ent_protocol_laws.specs.Attempts.{AskForMost, HasRunLeft, MayTakePart, StayWithin}
 use Rattle.ent_semantics.specs.Serial.{numbered}
 use Rattle.ent_termination.specs.Tries.{present_run, runs_beyond, tries_left}
+use Rattle.ent_epoch.specs.Epoch.{AddsOne}
 use Rattle.ent_epoch.specs.OneRun.{AreForOneRun}
 
 of_numbered : {A : Type 0} (P : A → Type 0) (xs : List A) (n : ℕ) (a : A) → AllByRecursion P xs
@@ -146,6 +147,7 @@ record IsIn (s : State) (tx : ℕ) (new : State) : Type 0 where
   for_one : AreForOneRun new
   one_more : length new.submitted ≡ length s.submitted + 1
   next : tx ≡ length s.submitted + 1
+  adds : AddsOne s new
 
 module _ (s new : State) (script : Script) (tx : ℕ) (kept : AreForOneRun s) (off : s.running ≡ false)
     (room : length s.dormant < MOST_MEMBERS) (within : script.within ≤ 1) where
@@ -162,6 +164,12 @@ module _ (s new : State) (script : Script) (tx : ℕ) (kept : AreForOneRun s) (o
         };
         one_more = omega (arith, many);
         next = omega (arith, number);
+        adds = record {
+          opening = refl;
+          running = refl;
+          dormant = omega (arith, more);
+          submitted = omega (arith, many);
+        };
       }
 
   by_form : (form : Result (List (Statement Known)) FormFault)
@@ -187,3 +195,6 @@ module _ (s new : State) (script : Script) (tx : ℕ) (kept : AreForOneRun s) (o
 
   pub submitted_next : Step resolved_forms s (Submit script) (Submitted tx) new → tx ≡ length s.submitted + 1
   submitted_next step = (is_in step).next
+
+  pub submitted_adds : Step resolved_forms s (Submit script) (Submitted tx) new → AddsOne s new
+  submitted_adds step = (is_in step).adds

@@ -1,5 +1,5 @@
 //! Epochs.
-ghost use Rattle.std.specs.Prelude.{◌≡◌, ◌+◌, ◌<◌, ◌≤◌, ℕ, IfErr, IfOk, IsSome, OnErr, OnOk, Some, false, length};
+ghost use Rattle.std.specs.Prelude.{◌≡◌, ◌↔◌, ◌+◌, ◌<◌, ◌≤◌, ℕ, IfErr, IfOk, IsSome, IsTrue, OnErr, OnOk, Some, false, length, true, ◌^◌};
 ghost use Rattle.std.specs.Option.{option_copied};
 ghost use Rattle.ent_book.specs.Tables.{book_seen};
 ghost use Rattle.ent_core.specs.declared.closing.NotDone.{NotDone};
@@ -13,23 +13,27 @@ ghost use Rattle.ent_protocol.specs.Event.{Full as IsFull, Faulty as IsFaulty, S
 ghost use Rattle.ent_protocol.specs.Lookup.{standing};
 ghost use Rattle.ent_protocol.specs.Reached.{CanClose, book_of};
 ghost use Rattle.ent_protocol.specs.Step.{Step};
+ghost use Rattle.ent_renewal.specs.Renewal.{GoesOn, IsRenewed, rows_together};
 ghost use Rattle.ent_sched.specs.Onward.{LeadsOn};
 ghost use Rattle.ent_semantics.specs.Book.{IsLegal};
 ghost use Rattle.ent_semantics.specs.Serial.{numbered};
-ghost use Rattle.ent_epoch.specs.Epoch.{Takes, begun, core_in, fate_at, for_one_run};
+ghost use Rattle.ent_epoch.specs.Epoch.{AddsOne, Takes, begun, core_in, fate_at, for_one_run, carried_over};
 ghost use Rattle.ent_epoch.specs.OneRun.{AreForOneRun, MakesRun};
 ghost use Rattle.ent_epoch.specs.declared.epoch.NotSubmitted.TheVariants.{Full, Faulty};
+ghost use Rattle.ent_epoch.specs.declared.turn.NotTurned.TheVariants as not_turned;
+ghost use Rattle.ent_tree.specs.declared.limits.TheConstants.{MOST_OPENING_ROWS};
 
 use crate::one_run::run_to_end;
 use crate::script::for_one_run;
+use crate::turn::{NotTurned, can_close, exchange, next_core};
 use ent_core::{Core, NotDone, Reply, Standing};
 use ent_form::FormFault;
 use ent_group::Tx;
 use ent_headline::resolved_runs_are_legal;
-use ent_renewal::FinishedBook;
+use ent_renewal::{FinishedBook, TooManyRows};
 use ent_semantics::{Fate, element};
 use ent_tree::{Opening, Script};
-use ent_value::Refusal;
+use ent_value::{Name, Refusal};
 use ent_waiting::{Submission, Ticket};
 use std::alloc::{AllocError, Global};
 use std::marker::Model;
@@ -93,6 +97,7 @@ fn run_in(alloc: Global, core: &mut Option<Core>) -> Result<(), AllocError>
     ensures there { IsSome core.new }
     ensures ok { OnOk result (MakesRun (core_in core.old) (core_in core.new)) }
     ensures kept { AreForOneRun (core_in core.new) }
+    ensures opening { (core_in core.new).opening ≡ (core_in core.old).opening }
     ensures submitted { (core_in core.new).submitted ≡ (core_in core.old).submitted }
     ensures err { OnErr result ((count : ℕ) × LeadsOn resolved_forms count (core_in core.old) (core_in core.new)) }
 {
@@ -139,14 +144,14 @@ fn submit_to(core: &mut Core, script: Script) -> Result<Tx, Refusal<NotSubmitted
 }
 
 /// Submits a script that asks for one run, where no run is on and one has room for one more.
-#[tactic(auto, using(crate::proofs::Tries::submitted_kept, crate::proofs::Tries::submitted_counted, crate::proofs::Tries::submitted_next))]
+#[tactic(auto, using(crate::proofs::Tries::submitted_kept, crate::proofs::Tries::submitted_counted, crate::proofs::Tries::submitted_next, crate::proofs::Tries::submitted_adds))]
 fn submit_once(core: &mut Core, script: Script) -> Result<Tx, Refusal<NotSubmitted>>
     requires once { AreForOneRun core.old }
     requires idle { core.old.running ≡ false }
     requires room { length core.old.dormant < MOST_MEMBERS }
     requires within { script.within ≤ 1 }
     ensures kept { AreForOneRun core.new }
-    ensures counted { OnOk result (length core.new.submitted ≡ length core.old.submitted + 1) }
+    ensures adds { OnOk result (AddsOne core.old core.new) }
     ensures next { IfOk result (λ tx. tx ≡ length core.old.submitted + 1) }
     ensures ok { IfOk result (λ tx. Step resolved_forms core.old (Submit script) (Submitted tx) core.new) }
     ensures err { OnErr result (core.new ≡ core.old) }
@@ -170,7 +175,7 @@ fn submit_in(core: &mut Option<Core>, script: Script) -> Result<Tx, Refusal<NotS
     ensures ok { IfOk result (λ tx.
         Step resolved_forms (core_in core.old) (Submit script) (Submitted tx) (core_in core.new)) }
     ensures kept { AreForOneRun (core_in core.new) }
-    ensures counted { OnOk result (length (core_in core.new).submitted ≡ length (core_in core.old).submitted + 1) }
+    ensures adds { OnOk result (AddsOne (core_in core.old) (core_in core.new)) }
     ensures next { IfOk result (λ tx. tx ≡ length (core_in core.old).submitted + 1) }
     ensures err { OnErr result (core_in core.new ≡ core_in core.old) }
     ensures full { IfErr result (λ refusal. refusal ≡ Fault Full
@@ -207,6 +212,7 @@ impl Epoch {
         requires idle { self.old.core.running ≡ false }
         requires room { length self.old.core.dormant < MOST_MEMBERS }
         ensures ok { IfOk result (λ submission. Takes self.old ticket script.now submission self.new) }
+        ensures adds { OnOk result (AddsOne self.old.core self.new.core) }
         ensures next { IfOk result (λ submission. submission.tx ≡ length self.old.tickets + 1) }
         ensures err { OnErr result (self.new ≡ self.old) }
         ensures full { IfErr result (λ refusal. refusal ≡ Fault Full
@@ -232,6 +238,7 @@ impl Epoch {
         ensures ok { OnOk result (MakesRun self.old.core self.new.core) }
         ensures closes { OnOk result (CanClose self.new.core) }
         ensures err { OnErr result ((count : ℕ) × LeadsOn resolved_forms count self.old.core self.new.core) }
+        ensures opening { self.new.core.opening ≡ self.old.core.opening }
         ensures same { self.new ≡ record self.old { core = self.new.core } }
     {
         run_in(alloc, &mut self.core)
@@ -242,6 +249,13 @@ impl Epoch {
         ensures { result ≡ self.now.number }
     {
         self.number
+    }
+
+    /// Whether no run is on, and nobody waits for one.
+    pub fn is_over(&self) -> bool
+        ensures { IsTrue result ↔ CanClose self.now.core }
+    {
+        can_close(self.core())
     }
 
     /// How many scripts were submitted.
@@ -282,6 +296,46 @@ impl Epoch {
             Some(Standing::Finished(fate)) => Some(fate),
             _ => None,
         }
+    }
+
+    /// Ends the epoch, whose book it gives, and begins the next one. That has the next number and no ticket, and goes on
+    /// where the tables stand, but that the drained ones are empty. At a refusal, and where memory runs out, nothing
+    /// changes.
+    pub fn turn(
+        &mut self,
+        alloc: Global,
+        drained: &[Name],
+    ) -> Result<FinishedBook, Refusal<NotTurned>>
+        ensures book { IfOk result (λ book. book_seen book ≡ book_of self.old.core) }
+        ensures legal { IfOk result (λ book. IsLegal (book_seen book)) }
+        ensures done { OnOk result (CanClose self.old.core) }
+        ensures begun { OnOk result (self.new ≡ begun (self.old.number + 1) self.new.core.opening) }
+        ensures renewed { OnOk result
+            (IsRenewed self.old.core.opening.tables (carried_over drained.now self.old.core) self.new.core.opening) }
+        ensures goes_on { OnOk result
+            (GoesOn self.old.core.opening.tables (carried_over drained.now self.old.core) self.new.core) }
+        ensures err { OnErr result (self.new ≡ self.old) }
+        ensures busy { IfErr result (λ refusal. refusal ≡ Fault not_turned.Busy → ¬ CanClose self.old.core) }
+        ensures too_many { IfErr result (λ refusal. refusal ≡ Fault not_turned.TooManyRows
+            → MOST_OPENING_ROWS < rows_together self.old.core.opening.tables (carried_over drained.now self.old.core)) }
+        ensures no_number { IfErr result (λ refusal. refusal ≡ Fault not_turned.NoNumber
+            → self.old.number + 1 ≡ 2 ^ 64) }
+    {
+        if !can_close(self.core()) {
+            return Err(Refusal::Fault(NotTurned::Busy));
+        }
+        let Some(number) = self.number.checked_add(1) else {
+            return Err(Refusal::Fault(NotTurned::NoNumber));
+        };
+        let next = match next_core(alloc, self.core(), drained) {
+            Ok(next) => next,
+            Err(Refusal::Memory) => return Err(Refusal::Memory),
+            Err(Refusal::Fault(TooManyRows)) => return Err(Refusal::Fault(NotTurned::TooManyRows)),
+        };
+        let book = exchange(&mut self.core, next)?;
+        self.number = number;
+        self.tickets.clear();
+        Ok(book)
     }
 
     /// The book of the epoch, where no run is on and nobody waits for one; else, and where memory runs out, the epoch

@@ -57,6 +57,7 @@ pub fn run_to_end(alloc: Global, mut core: Core) -> Result<Core, AllocFailed<Cor
     ensures kept { IfOk result (λ new. AreForOneRun new) }
     ensures handed_back { IfErr result (λ refused. (count : ℕ) × LeadsOn resolved_forms count core refused.value) }
     ensures handed_back_kept { IfErr result (λ refused. AreForOneRun refused.value) }
+    ensures opening { IfOk result (λ new. new.opening ≡ core.opening) }
     ensures submitted { IfOk result (λ new. new.submitted ≡ core.submitted) }
 {
     events_lead_on::<FormFault>();

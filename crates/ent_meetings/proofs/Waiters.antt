@@ -5,7 +5,7 @@ use Rattle.std.specs.List.{cons_option, filter_map, find}
 use Rattle.std.specs.Option.{option_map_or}
 use Rattle.std.proofs.lemmas.List.{take_more}
 use Rattle.std.proofs.lemmas.List.Elements.{All-contains, filter_map-append}
-use Rattle.ent_lists.specs.Elements.{In, any_in, any_some, contains_in, in_contains, in_flat, to_flat}
+use Rattle.ent_lists.specs.Elements.{In, any_in, any_some, contains_in, in_contains, in_flat, to_flat, turned}
 use Rattle.ent_parties.specs.Meeting.{IsClosed, MeetAll, is_met, offers}
 use Rattle.ent_parties.specs.declared.party.Party.{Party}
 use Rattle.ent_parties.specs.declared.pattern.Pattern.{Pattern}
@@ -135,3 +135,11 @@ closed_by parties none =
 pub named_more : {X Y : Type 0} (f : X → Option Y) (xs : List X) (i : ℕ) (d : X) → i < length xs
     → filter_map f (take (i + 1) xs) ≡ filter_map f (take i xs) ++ cons_option (f (get_or xs i d)) []
 named_more f xs i d low = ap (filter_map f) (take_more xs i d low) ∙ filter_map-append f (take i xs) (get_or xs i d ∷ [])
+
+-- where something is unmet, the set isn't
+pub unmet_opens : (parties : List Party) (demand : Pattern) → first_unmet parties ≡ Some demand → IsClosed parties → ⊥
+unmet_opens parties demand unmet closed =
+    let found = found_in (λ (d : Pattern). not (is_met parties d)) (demands_of parties) demand unmet in
+    let met = closed_meets parties demand closed found.0 in
+    let open' = turned (is_met parties demand) found.1 in
+    absurd (let e = sym met ∙ open' in cc)

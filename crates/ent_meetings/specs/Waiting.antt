@@ -1,5 +1,5 @@
 -- Those who wait, each under a ticket, by arrival.
-use Rattle.std.specs.Prelude.{ℕ, Bool, false, List, Option, IsSome}
+use Rattle.std.specs.Prelude.{ℕ, ◌≡◌, Bool, false, cond, List, Option, IsSome}
 use Rattle.std.specs.BTreeMap.{is_at}
 use Rattle.std.specs.List.{filter_map, list_any}
 use Rattle.std.specs.Map.{lookup}
@@ -17,6 +17,11 @@ Waiting = List (ℕ × Party)
 -- who waits under a ticket
 abbrev pub party_at : Waiting → ℕ → Option Party
 party_at waiting ticket = lookup (is_at (nat_cmp ticket)) waiting
+
+-- under one ticket this party waits, or nobody does, and under all others who did
+abbrev pub ChangesAt : ℕ → Option Party → Waiting → Waiting → Type 0
+ChangesAt ticket party old new =
+    (other : ℕ) → party_at new other ≡ cond (is_at (nat_cmp ticket) other) party (party_at old other)
 
 -- somebody waits under the ticket
 abbrev pub Waits : Waiting → ℕ → Type 0

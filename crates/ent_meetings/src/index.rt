@@ -11,7 +11,7 @@ ghost use Rattle.ent_meetings.specs.Next.{IsAfter, IsNext};
 ghost use Rattle.ent_meetings.specs.Postings.{IsPosted};
 ghost use Rattle.ent_meetings.specs.Sides.{fits_at, patterns_of};
 ghost use Rattle.ent_meetings.specs.Group.{seen};
-ghost use Rattle.ent_meetings.specs.Waiting.{demands_at, named, offers_at, party_at};
+ghost use Rattle.ent_meetings.specs.Waiting.{ChangesAt, demands_at, named, offers_at, party_at};
 
 use crate::board::{post_party, unpost_party};
 use crate::next::Next;
@@ -116,6 +116,7 @@ impl Index {
     pub fn insert(&mut self, ticket: u64, party: Party) -> Result<(), AllocFailed<Party>>
         requires { party_at self.old ticket ≡ None }
         ensures ok { OnOk result (self.new ≡ insert_entry nat_cmp self.old ticket party) }
+        ensures updates { OnOk result (ChangesAt ticket (Some party) self.old self.new) }
         ensures err { OnErr result (self.new ≡ self.old) }
         ensures returned { IfErr result (λ failed. failed.value ≡ party) }
     {
@@ -137,6 +138,7 @@ impl Index {
     pub fn remove(&mut self, ticket: u64) -> Option<Party>
         ensures party { result ≡ party_at self.old ticket }
         ensures others { self.new ≡ remove_entry (is_at (nat_cmp ticket)) self.old }
+        ensures updates { ChangesAt ticket None self.old self.new }
     {
         let party = self.parties.remove(&ticket)?;
         unpost_party(&mut self.offers, &mut self.demands, ticket, &party);

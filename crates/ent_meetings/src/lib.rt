@@ -2,6 +2,7 @@
 #![tactic(auto)]
 
 mod board;
+mod closed;
 mod entry;
 mod found;
 mod group;

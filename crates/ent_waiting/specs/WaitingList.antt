@@ -13,6 +13,7 @@ use Rattle.ent_waiting.specs.declared.ended.Ending.{Ending}
 use Rattle.ent_waiting.specs.declared.ended.Ending.TheVariants.{GaveUp}
 use Rattle.ent_waiting.specs.declared.queues.Queues.{Queues}
 use Rattle.ent_waiting.specs.declared.queues.Rank.{Rank}
+use Rattle.ent_waiting.specs.declared.queues.Station.{Station}
 use Rattle.ent_waiting.specs.declared.waiter.Place.{Place}
 use Rattle.ent_waiting.specs.declared.waiter.Place.TheVariants.{Submitted}
 use Rattle.ent_waiting.specs.declared.waiter.Submission.{Submission}
@@ -153,14 +154,14 @@ pub record Onward (old new : WaitingList) : Type 0 where
 
 -- ---- what a waiting list keeps of its parts
 
-abbrev pub is_queued : Rank → Option Waiter → Bool
-is_queued rank None = false
-is_queued rank (Some waiter) = stands_in rank waiter.place
+abbrev pub is_stationed : Station → Option Waiter → Bool
+is_stationed station None = false
+is_stationed station (Some waiter) = stands_in station waiter.place
 
--- each queue has just those whose place is there
+-- each station has just those whose place is there
 abbrev pub AreQueued : List (ℕ × Waiter) → Queues → Type 0
-AreQueued waiters queues = (rank : Rank) (ticket : ℕ)
-    → has rank queues ticket ≡ is_queued rank (lookup (is_at (nat_cmp ticket)) waiters)
+AreQueued waiters queues = (station : Station) (ticket : ℕ)
+    → has station queues ticket ≡ is_stationed station (lookup (is_at (nat_cmp ticket)) waiters)
 
 pub record IsKept (list : WaitingList) (queues : Queues) : Type 0 where
   pub queued : AreQueued list.waiters queues

@@ -13,7 +13,7 @@ mod waiter;
 mod waiting_list;
 
 pub use ended::{Ended, Ending};
-pub use queues::Rank;
+pub use queues::{Rank, Station};
 pub use ticket::Ticket;
 pub use waiter::{Patience, Place, Submission, Waiter};
 pub use waiting_list::{Full, Limits, NotRestored, NotWithdrawn, WaitingList};

@@ -8,15 +8,15 @@ ghost use Rattle.std.specs.Ordering.{nat_cmp};
 ghost use Rattle.std.specs.Option.{option_copied, option_map};
 ghost use Rattle.ent_value.specs.declared.refusal.Refusal.TheVariants.{Fault};
 ghost use Rattle.ent_waiting.specs.Ended.{ended_of as ended_in, last_of};
-ghost use Rattle.ent_waiting.specs.Queues.{SameQueues};
+ghost use Rattle.ent_waiting.specs.Queues.{SameQueues, stands_in};
 ghost use Rattle.ent_waiting.specs.WaitingList.{AreQueued, IsFull, IsIdle, IsInBatch, IsSubmitted, IsUsed};
 ghost use Rattle.ent_waiting.specs.WaitingList.{MayComeBack, Onward, StandsAt, UpdatesAt};
 ghost use Rattle.ent_waiting.specs.WaitingList.{admitted, back, back_or_gone, changed, ended_as, ending_as};
-ghost use Rattle.ent_waiting.specs.WaitingList.{is_queued, moved, nobody, waits_idle};
+ghost use Rattle.ent_waiting.specs.WaitingList.{is_stationed, moved, nobody, waits_idle};
 ghost use Rattle.ent_waiting.specs.WaitingList.{waiter_of};
 ghost use Rattle.ent_waiting.specs.Waiter.{back_in, is_idle, is_over, newcomer, with_batch, with_place_noted};
 ghost use Rattle.ent_waiting.specs.declared.ended.Ending.TheVariants.{Withdrawn};
-ghost use Rattle.ent_waiting.specs.declared.queues.Rank.{Rank as RankSeen};
+ghost use Rattle.ent_waiting.specs.declared.queues.Station.{Station as StationSeen};
 ghost use Rattle.ent_waiting.specs.declared.waiter.Waiter.{Waiter as WaiterSeen};
 ghost use Rattle.ent_waiting.specs.declared.waiting_list.Full.{Full as FullSeen};
 ghost use Rattle.ent_waiting.specs.declared.waiter.Place.TheVariants.{Queued, Chosen, Resting, Submitted};
@@ -24,7 +24,7 @@ ghost use Rattle.ent_waiting.specs.declared.waiting_list.NotRestored.TheVariants
 ghost use Rattle.ent_waiting.specs.declared.waiting_list.NotWithdrawn.TheVariants.{Absent, InBatch};
 
 use crate::ended::{self, Ended, Ending};
-use crate::queues::{self, Queues, Rank};
+use crate::queues::{self, Queues, Rank, Station};
 use crate::ticket::Ticket;
 use crate::waiter::{Patience, Place, Submission, Waiter, is_over, with_batch};
 use ent_tree::Script;
@@ -235,7 +235,7 @@ fn write_back(
     }
 }
 
-/// A script that was in no queue waits again, in the queue of this rank. Where memory runs out nothing changes.
+/// A script of a batch waits again, in the queue of this rank. Where memory runs out nothing changes.
 fn come_back(
     waiters: &mut BTreeMap<u64, Waiter>,
     queues: &mut Queues,
@@ -246,8 +246,8 @@ fn come_back(
 ) -> Result<(), AllocError>
     requires queued { AreQueued waiters.old.entries queues.old }
     requires there { IsSome (lookup (is_at (nat_cmp ticket)) waiters.old.entries) }
-    requires in_none { (other : RankSeen)
-        → is_queued other (lookup (is_at (nat_cmp ticket)) waiters.old.entries) ≡ false }
+    requires in_batch { (station : StationSeen)
+        → is_stationed station (lookup (is_at (nat_cmp ticket)) waiters.old.entries) ≡ stands_in station Chosen }
     ensures ok { OnOk result ((waiter : WaiterSeen)
         → lookup (is_at (nat_cmp ticket)) waiters.old.entries ≡ Some waiter
         → waiters.new.entries
@@ -258,11 +258,15 @@ fn come_back(
     ensures kept_queued { AreQueued waiters.new.entries queues.new }
     ensures err { OnErr result (waiters.new.entries ≡ waiters.old.entries) }
 {
-    queues::shift(queues, Place::Resting, Place::Queued(rank), ticket)?;
+    let queue = Place::Queued(rank);
+    queues::enter(queues, queue, ticket)?;
     match write_back(waiters, ticket, rank, counts, alone) {
-        Ok(()) => Ok(()),
+        Ok(()) => {
+            queues::quit(queues, Place::Chosen, ticket);
+            Ok(())
+        }
         Err(AllocError) => {
-            queues::quit(queues, Place::Queued(rank), ticket);
+            queues::quit(queues, queue, ticket);
             Err(AllocError)
         }
     }
@@ -363,6 +367,31 @@ impl WaitingList {
         Ok(Ticket::new(ticket))
     }
 
+    /// The ticket that comes next. Nobody waits under it.
+    pub fn next(&self) -> Ticket
+        ensures next { result ≡ self.now.next }
+        ensures unused { waiter_of self.now result ≡ None }
+    {
+        Ticket::new(self.next)
+    }
+
+    /// Why no script of an earlier process comes in under a ticket; nothing where one may.
+    pub fn not_restored(&self, ticket: Ticket) -> Option<NotRestored>
+        ensures may { IfNone result (MayComeBack self.now ticket) }
+        ensures unused { IfNone result (¬ IsUsed self.now ticket) }
+        ensures absent { IfNone result (waiter_of self.now ticket ≡ None) }
+        ensures full { result ≡ Some NoRoom → IsFull self.now }
+        ensures used { result ≡ Some Used → ¬ MayComeBack self.now ticket }
+    {
+        if ticket.number() < self.earlier || ticket.number() >= self.first {
+            Some(NotRestored::Used)
+        } else if self.waiters.len() >= self.limits.most_waiters {
+            Some(NotRestored::NoRoom)
+        } else {
+            None
+        }
+    }
+
     /// Takes a script in again that waited in an earlier process, under its ticket, after so many batches. Those of an
     /// earlier process come in the order of their tickets. At a refusal nothing changes.
     pub fn restore(
@@ -383,15 +412,13 @@ impl WaitingList {
         ensures used { IfErr result (λ refusal. refusal ≡ Fault Used → ¬ MayComeBack self.old ticket) }
         ensures onward { Onward self.old self.new }
     {
-        if ticket.number() < self.earlier || ticket.number() >= self.first {
-            return Err(Refusal::Fault(NotRestored::Used));
+        if let Some(fault) = self.not_restored(ticket) {
+            return Err(Refusal::Fault(fault));
         }
-        if self.waiters.len() >= self.limits.most_waiters {
-            return Err(Refusal::Fault(NotRestored::NoRoom));
-        }
+        let number = ticket.number();
         let waiter = Waiter::new(self.alloc, script, patience, batches, rank);
-        admit(&mut self.waiters, &mut self.queues, ticket.number(), waiter)?;
-        self.earlier = ticket.number() + 1;
+        admit(&mut self.waiters, &mut self.queues, number, waiter)?;
+        self.earlier = number + 1;
         Ok(())
     }
 
@@ -445,7 +472,7 @@ impl WaitingList {
         ensures err { OnErr result (self.new ≡ self.old) }
         ensures onward { Onward self.old self.new }
     {
-        if !self.is_idle(ticket) {
+        if !self.waits_idle(ticket) {
             return Ok(());
         }
         move_to(&mut self.waiters, &mut self.queues, ticket.number(), place)?;
@@ -602,7 +629,7 @@ impl WaitingList {
     }
 
     /// Whether a script waits under a ticket, and is in no batch.
-    fn is_idle(&self, ticket: Ticket) -> bool
+    pub fn waits_idle(&self, ticket: Ticket) -> bool
         ensures { result ≡ waits_idle (waiter_of self.now ticket) }
     {
         match place_of(&self.waiters, ticket.number()) {
@@ -632,19 +659,19 @@ impl WaitingList {
         self.waiters.len()
     }
 
-    /// The first ticket from this one on that is in the queue of a rank.
-    pub fn first_from(&self, rank: Rank, from: Ticket) -> Option<Ticket>
-        ensures there { IfSome result (λ ticket. is_queued rank (waiter_of self.now ticket) ≡ true) }
+    /// The first ticket from this one on that is at a station.
+    pub fn first_from(&self, station: Station, from: Ticket) -> Option<Ticket>
+        ensures there { IfSome result (λ ticket. is_stationed station (waiter_of self.now ticket) ≡ true) }
         ensures from { IfSome result (λ ticket. from ≤ ticket) }
         ensures least { IfSome result (λ ticket. (other : ℕ)
-            → is_queued rank (waiter_of self.now other) ≡ true
+            → is_stationed station (waiter_of self.now other) ≡ true
             → from ≤ other
             → ticket ≤ other) }
         ensures none { IfNone result ((other : ℕ)
             → from ≤ other
-            → is_queued rank (waiter_of self.now other) ≡ false) }
+            → is_stationed station (waiter_of self.now other) ≡ false) }
     {
-        match queues::first_from(&self.queues, rank, from.number()) {
+        match queues::first_from(&self.queues, station, from.number()) {
             Some(ticket) => Some(Ticket::new(ticket)),
             None => None,
         }

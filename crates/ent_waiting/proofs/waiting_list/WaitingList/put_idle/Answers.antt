@@ -11,7 +11,7 @@ invariant_of-self-2 c =
     let e : waits_idle (waiter_of old n) ≡ true =
     ap (λ (k : ℕ). waits_idle (waiter_of old k)) c.number.ensures
     ∙ ap (λ (l : WaitingList). waits_idle (waiter_of l c.args.ticket)) c.self.view_is
-    ∙ sym c.is_idle.ensures ∙ c.if-not-is_idle.false in
+    ∙ sym c.waits_idle.ensures ∙ c.if-not-waits_idle.false in
     let waits = idle (waiter_of old n) e in
     kept_over old c.move_to.new.waiters.entries n waits.0 (record waits.0 { place = c.args.place }) waits.1
     (c.in_ok-move_to.ensures.updates waits.0 waits.1) c.self.inside.queues c.move_to.new.queues c.self.invariant
@@ -24,7 +24,7 @@ returns-clause-onward c =
     let e : waits_idle (waiter_of old n) ≡ true =
     ap (λ (k : ℕ). waits_idle (waiter_of old k)) c.number.ensures
     ∙ ap (λ (l : WaitingList). waits_idle (waiter_of l c.args.ticket)) c.self.view_is
-    ∙ sym c.is_idle.ensures ∙ c.if-not-is_idle.false in
+    ∙ sym c.waits_idle.ensures ∙ c.if-not-waits_idle.false in
     let waits = idle (waiter_of old n) e in
     subst (λ (l : WaitingList). Onward l (record old { waiters = c.move_to.new.waiters.entries })) c.self.view_is
     (onward_over old c.move_to.new.waiters.entries n waits.0 (record waits.0 { place = c.args.place }) waits.1

@@ -3,7 +3,7 @@ use Rattle.ent_waiting.specs.Queues.{stands_in}
 use Rattle.ent_waiting.specs.WaitingList.{WaitingList, Onward, waiter_of}
 use Rattle.ent_waiting.specs.declared.waiter.Place.TheVariants.{Submitted}
 use Rattle.ent_waiting.specs.contracts.waiting_list.WaitingList.{the_view}
-use Rattle.ent_waiting.proofs.Keeping.{kept_over, onward_over, queued_over}
+use Rattle.ent_waiting.proofs.Keeping.{kept_over, like_chosen, onward_over, queued_over}
 use Rattle.ent_waiting.proofs.waiting_list.WaitingList.submitted.Goals as goal
 
 pub invariant_of-self : goal.invariant_of-self
@@ -20,7 +20,7 @@ invariant_of-self c =
     let updates = c.put_at.ensures.updates waiter waits in
     kept_over old new n waiter after waits updates queues queues c.self.invariant
     (queued_over old.waiters new queues n waiter after waits updates
-    (λ rank. sym (ap (stands_in rank) c.requires.chosen.place_is)) c.self.invariant.queued)
+    (λ station. like_chosen station c.args.submission ∙ sym (ap (stands_in station) c.requires.chosen.place_is)) c.self.invariant.queued)
 
 pub returns-clause-onward : goal.returns-clause-onward
 returns-clause-onward c =

@@ -1,0 +1,62 @@
+-- Tables of a core by their names, and the epoch that a turn begins.
+use Rattle.std.proofs.Common.{◌≡◌, ℕ, Bool, true, false, List, [], ◌∷◌, Option, Some, None, refl, sym, ap, subst, ◌∙◌, arith}
+use Rattle.std.specs.Prelude.{MatchOption, if◌then◌else◌}
+use Rattle.std.specs.Option.{option_map}
+use Rattle.ent_set.specs.Sets as set
+use Rattle.ent_tree.specs.declared.declaration.Opening.{Opening}
+use Rattle.ent_closed.specs.Form.{Tables}
+use Rattle.ent_semantics.specs.Database.{Name, Rows, same_name}
+use Rattle.ent_semantics.specs.Serial.{numbered}
+use Rattle.ent_protocol.specs.Lookup.{rows_under}
+use Rattle.ent_protocol.specs.Reached.{named_tables, opened}
+use Rattle.ent_protocol.specs.State.{State}
+use Rattle.ent_epoch.specs.Epoch.{Epoch, IsKept}
+
+-- ---- nobody waits
+
+pub none_waits : {X : Type 0} (xs : List X) → None ≡ numbered xs 1 → xs ≡ []
+none_waits [] e = refl
+none_waits (x ∷ xs) e = cc
+
+pub some_waits : {X : Type 0} (xs : List X) (x : X) → Some x ≡ numbered xs 1 → xs ≡ [] → ⊥
+some_waits [] x e is = cc
+some_waits (y ∷ ys) x e is = cc
+
+-- ---- tables by their names
+
+abbrev rows_or_none : Option Rows → Rows
+rows_or_none (Some rows) = rows
+rows_or_none None = set.empty
+
+looked_up : (names : List Name) (tables : Tables) (name : Name)
+    → named_tables names tables name ≡ rows_or_none (rows_under names tables name)
+looked_up [] tables name = refl
+looked_up (first ∷ names) [] name = refl
+looked_up (first ∷ names) (rows ∷ tables) name = by (same_name first name) (looked_up names tables name)
+  where
+    by : (b : Bool) → named_tables names tables name ≡ rows_or_none (rows_under names tables name)
+        → (if b then rows else named_tables names tables name)
+        ≡ rows_or_none (if b then Some rows else rows_under names tables name)
+    by true rest = refl
+    by false rest = rest
+
+pub found_by_name : {T : Type 0} (rows_of : T → Rows) (found : Option T) (names : List Name) (tables : Tables) (name : Name)
+    → option_map rows_of found ≡ rows_under names tables name
+    → MatchOption found (named_tables names tables name ≡ set.empty) (λ table. named_tables names tables name ≡ rows_of table)
+found_by_name rows_of None names tables name e = looked_up names tables name ∙ ap rows_or_none (sym e)
+found_by_name rows_of (Some table) names tables name e = looked_up names tables name ∙ ap rows_or_none (sym e)
+
+-- ---- the next epoch
+
+own_kept : (number : ℕ) (opening : Opening) → IsKept (record { number = number; core = opened opening; tickets = [] })
+own_kept number opening =
+    record {
+      counted = refl;
+      for_one_run = record { once = tt; fit = λ e. omega arith; alone = λ e. absurd cc };
+    }
+
+pub begun_kept : (number : ℕ) (core : State) → core ≡ opened core.opening
+    → IsKept (record { number = number; core = core; tickets = [] })
+begun_kept number core fresh =
+    subst (λ (s : State). IsKept (record { number = number; core = s; tickets = [] })) (sym fresh)
+    (own_kept number core.opening)
