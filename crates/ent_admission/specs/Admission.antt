@@ -1,0 +1,110 @@
+-- Who waits, and who of them is in the core.
+use Rattle.std.specs.Prelude.{◌≡◌, ◌≤◌, ◌+◌, ℕ, Bool, true, false, [], All, List, length, Option, Some, None, Ok, option_map}
+use Rattle.std.specs.BTreeSet.{BTreeSet, contains}
+use Rattle.std.specs.List.{filter_map}
+use Rattle.std.specs.Ordering.{nat_cmp}
+use Rattle.ent_group.specs.declared.members.TheConstants.{MOST_MEMBERS}
+use Rattle.ent_form.specs.Catalogue.{schemas_of}
+use Rattle.ent_form.specs.Form.{script_in}
+use Rattle.ent_form.specs.declared.script.Plain.{Plain}
+use Rattle.ent_meetings.specs.Waiting.{Waiting, party_at}
+use Rattle.ent_parties.specs.Meeting.{IsClosed}
+use Rattle.ent_parties.specs.Party.{party_of}
+use Rattle.ent_parties.specs.declared.party.Party.{Party}
+use Rattle.ent_protocol.specs.Reached.{CanClose}
+use Rattle.ent_semantics.specs.Serial.{numbered}
+use Rattle.ent_tree.specs.declared.declaration.Opening.{Opening}
+use Rattle.ent_tree.specs.declared.limits.TheConstants.{MOST_SCRIPTS}
+use Rattle.ent_tree.specs.declared.script.Script.{Script}
+use Rattle.ent_epoch.specs.Epoch.{Epoch, begun, for_one_run}
+use Rattle.ent_waiting.specs.WaitingList.{WaitingList, is_stationed, nobody, waiter_of, waits_idle}
+use Rattle.ent_waiting.specs.declared.queues.Station.TheVariants.{Batch}
+use Rattle.ent_waiting.specs.declared.waiter.Place.{Place}
+use Rattle.ent_waiting.specs.declared.waiter.Place.TheVariants.{Chosen, Submitted}
+use Rattle.ent_waiting.specs.declared.waiter.Submission.{Submission}
+use Rattle.ent_waiting.specs.declared.waiter.Waiter.{Waiter}
+
+pub record Admission : Type 0 where
+  -- the present epoch
+  pub epoch : Epoch
+  pub list : WaitingList
+  -- those of the present batch who weren't submitted yet
+  pub coming : BTreeSet ℕ
+
+-- an epoch of this number over an opening, before which nobody waits
+abbrev pub fresh : ℕ → Opening → ℕ → ℕ → ℕ → Admission
+fresh number opening next most_waiters most_ended =
+    record {
+      epoch = begun number opening;
+      list = nobody next most_waiters most_ended;
+      coming = record { keys = [] };
+    }
+
+-- a script that a core over these declarations takes
+abbrev pub IsFormed : Opening → Script → Type 0
+IsFormed opening script = (plain : Plain) × (script_in (schemas_of opening.tables) (for_one_run script) ≡ Ok plain)
+
+-- ---- batches
+
+-- what the script of a ticket that waits offers and demands
+abbrev pub party_of_ticket : WaitingList → ℕ → Option Party
+party_of_ticket list ticket = option_map (λ waiter. party_of waiter.script) (waiter_of list ticket)
+
+abbrev pub parties_of : WaitingList → List ℕ → List Party
+parties_of list tickets = filter_map (party_of_ticket list) tickets
+
+-- These wait, and are in no batch. Each demand of each of them may be met by one of them, and they fit into one run.
+pub record IsBatch (a : Admission) (tickets : List ℕ) : Type 0 where
+  pub waits : All (λ ticket. waits_idle (waiter_of a.list ticket) ≡ true) tickets
+  pub closed : IsClosed (parties_of a.list tickets)
+  pub few : length tickets ≤ MOST_MEMBERS
+
+-- no batch is on: nobody is to come, nobody is submitted, no run is on, and nobody waits in the core
+pub record IsAtRest (a : Admission) : Type 0 where
+  pub coming : (ticket : ℕ) → contains nat_cmp a.coming ticket ≡ false
+  pub closes : CanClose a.epoch.core
+  pub idle : (ticket : ℕ) → is_stationed Batch (waiter_of a.list ticket) ≡ false
+
+-- ---- what an admission keeps
+
+-- who wasn't submitted
+abbrev pub is_before : Place → Bool
+is_before (Submitted submission) = false
+is_before other = true
+
+abbrev pub waits_before : Option Waiter → Bool
+waits_before None = false
+waits_before (Some waiter) = is_before waiter.place
+
+abbrev pub is_chosen : Place → Bool
+is_chosen Chosen = true
+is_chosen other = false
+
+abbrev pub waits_chosen : Option Waiter → Bool
+waits_chosen None = false
+waits_chosen (Some waiter) = is_chosen waiter.place
+
+-- a core that takes as many scripts more
+pub record HasRoomFor (core : Epoch) (count : ℕ) : Type 0 where
+  pub no_run : core.core.running ≡ false
+  pub members : length core.core.dormant + count ≤ MOST_MEMBERS
+  pub scripts : length core.core.submitted + count ≤ MOST_SCRIPTS
+
+-- the index has what each that waits offers and demands
+abbrev pub IsIndexed : Waiting → WaitingList → Type 0
+IsIndexed index list = (ticket : ℕ) → party_at index ticket ≡ party_of_ticket list ticket
+
+pub record IsKept (a : Admission) (index : Waiting) : Type 0 where
+  -- each script that waits is one that the core takes
+  pub formed : (ticket : ℕ) (waiter : Waiter) → waiter_of a.list ticket ≡ Some waiter
+      → IsFormed a.epoch.core.opening waiter.script
+  -- the index has what each that waits offers and demands
+  pub indexed : IsIndexed index a.list
+  -- who is submitted is in the present epoch, under its own ticket
+  pub linked : (ticket : ℕ) (waiter : Waiter) (submission : Submission) → waiter_of a.list ticket ≡ Some waiter
+      → waiter.place ≡ Submitted submission
+      → (submission.epoch ≡ a.epoch.number) × (numbered a.epoch.tickets submission.tx ≡ Some ticket)
+  -- who is to come waits and wasn't submitted, and who is chosen is to come
+  pub before : (ticket : ℕ) → contains nat_cmp a.coming ticket ≡ true → waits_before (waiter_of a.list ticket) ≡ true
+  pub chosen : (ticket : ℕ) → waits_chosen (waiter_of a.list ticket) ≡ true → contains nat_cmp a.coming ticket ≡ true
+  pub room : (ticket : ℕ) → contains nat_cmp a.coming ticket ≡ true → HasRoomFor a.epoch (length a.coming.keys)

@@ -1,0 +1,111 @@
+//! Admissions.
+ghost use Rattle.std.specs.Prelude.{◌≡◌, false, true};
+ghost use Rattle.ent_value.specs.Refusal.{Gives};
+ghost use Rattle.ent_form.specs.OpeningFault.{opening_fault, unless};
+ghost use Rattle.ent_admission.specs.Admission.{IsAtRest, IsIndexed, fresh};
+
+use crate::batch::Again;
+use ent_epoch::Epoch;
+use ent_form::FormFault;
+use ent_meetings::Index;
+use ent_tree::Opening;
+use ent_value::Refusal;
+use ent_waiting::{Limits, Rank, Station, Ticket, WaitingList};
+use std::alloc::Global;
+use std::collections::BTreeSet;
+use std::marker::Model;
+
+/// Who waits, the present epoch, and the batch that is on. Contracts see the list, the epoch, and who
+/// of the batch wasn't submitted yet.
+#[derive(Drop)]
+pub struct Admission {
+    pub(crate) alloc: Global,
+    pub(crate) epoch: Epoch,
+    pub(crate) list: WaitingList,
+    pub(crate) index: Index,
+    pub(crate) coming: BTreeSet<u64>,
+    pub(crate) again: Again,
+}
+
+impl Model for Admission {
+    ghost use Rattle.std.specs.Coded.{codes};
+    ghost use Rattle.ent_rel.specs.Relation.{coded_rows};
+    ghost use Rattle.ent_admission.specs.Admission.{Admission, IsKept};
+
+    ghost Value = { Admission };
+
+    ghost coded = { Prim.hlevel (codes, coded_rows) };
+
+    ghost view = { λ a. record { epoch = a.epoch; list = a.list; coming = a.coming } };
+
+    ghost invariant = { λ a. IsKept (record {
+      epoch = a.epoch;
+      list = a.list;
+      coming = a.coming;
+    }) a.index };
+}
+
+impl Admission {
+    /// An epoch of this number over an opening, before which nobody waits; or the opening's first fault of form. The
+    /// first script that is put gets the ticket `next`; those below it are of an earlier process.
+    pub fn open(
+        alloc: Global,
+        opening: Opening,
+        number: u64,
+        next: Ticket,
+        limits: Limits,
+    ) -> Result<Self, Refusal<FormFault>>
+        ensures { Gives (λ admission. admission) result
+            (unless (opening_fault opening) (fresh number opening next limits.most_waiters limits.most_ended)) }
+    {
+        let epoch = Epoch::open(alloc, number, opening)?;
+        Ok(Admission {
+            alloc,
+            epoch,
+            list: WaitingList::new(alloc, next, limits),
+            index: Index::new(alloc),
+            coming: BTreeSet::new(alloc),
+            again: Again {
+                rank: Rank::Woken,
+                counts: true,
+                alone: false,
+            },
+        })
+    }
+
+    /// The present epoch.
+    pub fn epoch(&self) -> &Epoch
+        ensures { result.now ≡ self.now.epoch }
+    {
+        &self.epoch
+    }
+
+    /// Who waits, and how those ended who wait no more.
+    pub fn list(&self) -> &WaitingList
+        ensures { result.now ≡ self.now.list }
+    {
+        &self.list
+    }
+
+    /// What those who wait offer and demand.
+    pub fn index(&self) -> &Index
+        ensures { IsIndexed result.now self.now.list }
+    {
+        &self.index
+    }
+
+    /// Whether no batch is on. One stays on only where memory ran out in its midst.
+    pub fn is_at_rest(&self) -> bool
+        ensures at_rest { result ≡ true → IsAtRest self.now }
+        ensures busy { result ≡ false → ¬ IsAtRest self.now }
+    {
+        if let Some(_ticket) = self.coming.first() {
+            return false;
+        }
+        let station = Station::Batch;
+        if let Some(_ticket) = self.list.first_from(station, Ticket::new(0)) {
+            return false;
+        }
+        self.epoch.is_over()
+    }
+}

@@ -1,0 +1,172 @@
+//! A batch is over, and those of it end or wait again.
+ghost use Rattle.std.specs.Prelude.{◌≡◌, ◌<◌, ℕ, IsSome, None, OnErr, OnOk, Some, false, true};
+ghost use Rattle.std.specs.BTreeMap.{is_at};
+ghost use Rattle.std.specs.BTreeSet.{contains};
+ghost use Rattle.std.specs.Ordering.{nat_cmp};
+ghost use Rattle.ent_protocol.specs.Reached.{CanClose};
+ghost use Rattle.ent_admission.specs.Acts.{Advances};
+ghost use Rattle.ent_admission.specs.Admission.{IsAtRest};
+ghost use Rattle.ent_admission.specs.Moves.{Goes, Runs, Settles, WaitsAgain, ending_with, submission_at};
+ghost use Rattle.ent_meetings.specs.Waiting.{ChangesAt};
+ghost use Rattle.ent_waiting.specs.WaitingList.{IsSubmitted, Onward, UpdatesAt, ending_as, is_stationed, waiter_of};
+ghost use Rattle.ent_waiting.specs.declared.waiter.Waiter.{Waiter as WaiterSeen};
+ghost use Rattle.ent_waiting.specs.declared.queues.Station.TheVariants.{Batch};
+
+use crate::admission::Admission;
+use crate::batch::Again;
+use ent_meetings::Index;
+use ent_semantics::Fate;
+use ent_waiting::{Ending, Place, Station, Submission, Ticket, WaitingList};
+use std::alloc::AllocError;
+
+/// How a script ends with the fate of its transaction. Who only gave up the one run waits again.
+fn ending_of(submission: Submission, fate: Option<Fate>) -> Option<Ending>
+    ensures { result ≡ ending_with submission.epoch fate }
+{
+    match fate {
+        Some(Fate::Committed { number, runs: _ }) => Some(Ending::Committed {
+            epoch: submission.epoch,
+            number,
+        }),
+        Some(Fate::RolledBack { runs: _ }) => Some(Ending::RolledBack),
+        Some(Fate::Failed { failure, runs: _ }) => Some(Ending::Failed(failure)),
+        Some(Fate::GaveUp { runs: _ }) | None => None,
+    }
+}
+
+/// Who waits no more under a ticket goes from the index too.
+fn keep_up(index: &mut Index, list: &WaitingList, ticket: Ticket)
+    ensures gone { waiter_of list.now ticket ≡ None → ChangesAt ticket None index.old index.new }
+    ensures stays { IsSome (waiter_of list.now ticket) → index.new ≡ index.old }
+{
+    if list.waiter(ticket).is_none() {
+        index.remove(ticket.number());
+    }
+}
+
+impl Admission {
+    /// The run of those who are submitted is made to its end. Where memory runs out, what was done stands.
+    fn run(&mut self) -> Result<(), AllocError>
+        requires all_in { (ticket : ℕ) → contains nat_cmp self.old.coming ticket ≡ false }
+        ensures runs { Runs self.old self.new }
+        ensures over { OnOk result (CanClose self.new.epoch.core) }
+        ensures list { self.new.list ≡ self.old.list }
+        ensures opening { self.new.epoch.core.opening ≡ self.old.epoch.core.opening }
+        ensures coming { self.new.coming ≡ self.old.coming }
+    {
+        self.epoch.run(self.alloc)?;
+        Ok(())
+    }
+
+    /// The transaction that the script of a ticket is.
+    fn submission(&self, ticket: Ticket) -> Option<Submission>
+        ensures { result ≡ submission_at (waiter_of self.now.list ticket) }
+    {
+        match self.list.waiter(ticket)?.place {
+            Place::Submitted(submission) => Some(submission),
+            _ => None,
+        }
+    }
+
+    /// One of a batch that is over ends. Where memory runs out nothing changes.
+    fn end(&mut self, ticket: u64, ending: Ending) -> Result<(), AllocError>
+        requires all_in { (other : ℕ) → contains nat_cmp self.old.coming other ≡ false }
+        requires submitted { IsSubmitted self.old.list ticket }
+        ensures ok { OnOk result ((waiter : WaiterSeen)
+            → waiter_of self.old.list ticket ≡ Some waiter
+            → self.new.list ≡ ending_as ticket ending true waiter self.old.list) }
+        ensures updates { OnOk result (UpdatesAt ticket None self.old.list.waiters self.new.list.waiters) }
+        ensures epoch { self.new.epoch ≡ self.old.epoch }
+        ensures coming { self.new.coming ≡ self.old.coming }
+        ensures err { OnErr result (self.new ≡ self.old) }
+        ensures onward { Onward self.old.list self.new.list }
+    {
+        self.list.end(Ticket::new(ticket), ending)?;
+        self.index.remove(ticket);
+        Ok(())
+    }
+
+    /// One of a batch that is over waits again, or gives up where its patience is used up. Where memory runs out nothing
+    /// changes.
+    fn wait_again(&mut self, ticket: u64) -> Result<(), AllocError>
+        requires all_in { (other : ℕ) → contains nat_cmp self.old.coming other ≡ false }
+        requires submitted { IsSubmitted self.old.list ticket }
+        ensures ok { OnOk result ((waiter : WaiterSeen)
+            → waiter_of self.old.list ticket ≡ Some waiter
+            → WaitsAgain ticket waiter self.old.list self.new.list) }
+        ensures epoch { self.new.epoch ≡ self.old.epoch }
+        ensures coming { self.new.coming ≡ self.old.coming }
+        ensures err { OnErr result (self.new ≡ self.old) }
+        ensures onward { Onward self.old.list self.new.list }
+    {
+        let own = Ticket::new(ticket);
+        let Again {
+            rank,
+            counts,
+            alone,
+        } = self.again;
+        self.list.wait_again(own, rank, counts, alone)?;
+        keep_up(&mut self.index, &self.list, own);
+        Ok(())
+    }
+
+    /// One of a batch that is over ends, or waits again. Where memory runs out nothing changes.
+    fn settle(&mut self, ticket: u64) -> Result<(), AllocError>
+        requires over { CanClose self.old.epoch.core }
+        requires all_in { (other : ℕ) → contains nat_cmp self.old.coming other ≡ false }
+        requires batch { is_stationed Batch (waiter_of self.old.list ticket) ≡ true }
+        ensures ok { OnOk result (Settles self.old self.new) }
+        ensures settled { OnOk result (is_stationed Batch (waiter_of self.new.list ticket) ≡ false) }
+        ensures others { OnOk result ((other : ℕ)
+            → is_at (nat_cmp ticket) other ≡ false
+            → waiter_of self.new.list other ≡ waiter_of self.old.list other) }
+        ensures epoch { self.new.epoch ≡ self.old.epoch }
+        ensures coming { self.new.coming ≡ self.old.coming }
+        ensures err { OnErr result (self.new ≡ self.old) }
+        ensures opening { self.new.epoch.core.opening ≡ self.old.epoch.core.opening }
+        ensures onward { Onward self.old.list self.new.list }
+    {
+        let own = Ticket::new(ticket);
+        let Some(submission) = self.submission(own) else {
+            unreachable!();
+        };
+        match ending_of(submission, self.epoch.fate(submission.tx)) {
+            Some(ending) => self.end(ticket, ending)?,
+            None => self.wait_again(ticket)?,
+        }
+        Ok(())
+    }
+
+    /// All of a batch that is over end, or wait again. Where memory runs out, some do.
+    fn settle_all(&mut self) -> Result<(), AllocError>
+        requires over { CanClose self.old.epoch.core }
+        requires all_in { (ticket : ℕ) → contains nat_cmp self.old.coming ticket ≡ false }
+        ensures goes { Goes self.old self.new }
+        ensures ok { OnOk result (IsAtRest self.new) }
+        ensures opening { self.new.epoch.core.opening ≡ self.old.epoch.core.opening }
+        ensures onward { Onward self.old.list self.new.list }
+    {
+        let mut from = 0;
+        while let Some(next) = self.list.first_from(Station::Batch, Ticket::new(from)) {
+            from = next.number();
+            self.settle(from)?;
+        }
+        Ok(())
+    }
+
+    /// Goes on with the batch to its end: all of it are submitted, their run is made, and each of them ends or waits
+    /// again. Where no batch is on nothing happens. Where memory runs out what was done stands, and the next call goes on
+    /// there.
+    pub fn go_on(&mut self) -> Result<(), AllocError>
+        ensures goes { Goes self.old self.new }
+        ensures ok { OnOk result (IsAtRest self.new) }
+        ensures advances { Advances self.old self.new }
+        ensures opening { self.new.epoch.core.opening ≡ self.old.epoch.core.opening }
+        ensures onward { Onward self.old.list self.new.list }
+    {
+        self.enter_all()?;
+        self.run()?;
+        self.settle_all()?;
+        Ok(())
+    }
+}
