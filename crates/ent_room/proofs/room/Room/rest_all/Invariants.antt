@@ -1,0 +1,5 @@
+use Rattle.ent_admission.specs.Acts.{OnlyShifts}
+use Rattle.ent_room.proofs.room.Room.rest_all.Given as goal
+
+abbrev pub invariant-loop-ticket : goal.invariant-loop-ticket
+invariant-loop-ticket l = OnlyShifts l.fn.self l.self

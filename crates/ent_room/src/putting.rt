@@ -1,0 +1,162 @@
+//! Scripts come to wait, and are taken back.
+ghost use Rattle.std.specs.Prelude.{◌≡◌, ◌⊎◌, ◌+◌, IfErr, IfOk, None, OnErr, OnOk, true};
+ghost use Rattle.std.specs.BTreeSet.{contains};
+ghost use Rattle.std.specs.Ordering.{nat_cmp};
+ghost use Rattle.ent_waiting.specs.WaitingList.{IsFull, IsIdle, IsInBatch, IsUsed, MayComeBack, Onward, waiter_of};
+ghost use Rattle.ent_waiting.specs.declared.waiting_list.NotRestored.TheVariants.{NoRoom, Used};
+ghost use Rattle.ent_waiting.specs.declared.waiting_list.NotWithdrawn.TheVariants.{Absent, InBatch};
+ghost use Rattle.ent_value.specs.declared.refusal.Refusal.TheVariants.{Fault};
+ghost use Rattle.ent_room.specs.declared.putting.NotPut.TheVariants as not_put;
+ghost use Rattle.ent_room.specs.declared.putting.NotPutBack.TheVariants as not_back;
+
+use crate::room::Room;
+use crate::tables::is_ordinary;
+use ent_bound::BoundVariable;
+use ent_prepare::PrepareFault;
+use ent_tree::{Runs, Script};
+use ent_value::Refusal;
+use ent_waiting::{Full, NotRestored, NotWithdrawn, Patience, Rank, Ticket};
+
+/// For how long a script waits.
+#[derive(Clone, Copy, Debug)]
+pub enum Stay {
+    /// For as many batches as its own WITHIN says.
+    AsWritten,
+    /// For so many batches in which it takes part.
+    Batches(Runs),
+    /// Until it is withdrawn.
+    UntilWithdrawn,
+}
+
+/// Why a script isn't taken in.
+#[derive(Clone, Copy, Debug, PartialEq, Eq)]
+pub enum NotPut {
+    /// As many wait as there may be.
+    Full,
+    /// The text or a bound value has this fault.
+    Faulty(PrepareFault),
+}
+
+/// Why a script of an earlier process doesn't come in again.
+#[derive(Clone, Copy, Debug, PartialEq, Eq)]
+pub enum NotPutBack {
+    /// The ticket can't come in again, or as many wait as there may be.
+    Refused(NotRestored),
+    /// The text or a bound value has this fault.
+    Faulty(PrepareFault),
+}
+
+fn patience_of(stay: Stay, script: &Script) -> Patience {
+    match stay {
+        Stay::AsWritten => Patience::Batches(script.within),
+        Stay::Batches(most) => Patience::Batches(most),
+        Stay::UntilWithdrawn => Patience::UntilWithdrawn,
+    }
+}
+
+fn rank_of(script: &Script) -> Rank {
+    if is_ordinary(script) {
+        Rank::Ordinary
+    } else {
+        Rank::Newcomer
+    }
+}
+
+impl Room {
+    /// Takes a script in by its text, with these values bound in it, and gives it the next ticket. It waits from then
+    /// on. At a refusal nothing changes: it tells the first fault of the text, the values or the form, or that as many
+    /// wait as there may be.
+    pub fn put(
+        &mut self,
+        text: &[u8],
+        variables: &[BoundVariable],
+        stay: Stay,
+    ) -> Result<Ticket, Refusal<NotPut>>
+        ensures ticket { IfOk result (λ ticket. ticket ≡ self.old.list.next) }
+        ensures next { OnOk result (self.new.list.next ≡ self.old.list.next + 1) }
+        ensures epoch { self.new.epoch ≡ self.old.epoch }
+        ensures err { OnErr result (self.new ≡ self.old) }
+        ensures full { IfErr result (λ refusal. refusal ≡ Fault not_put.Full → IsFull self.old.list) }
+        ensures onward { Onward self.old.list self.new.list }
+    {
+        let script = match self.preparing.prepare(text, variables) {
+            Ok(script) => script,
+            Err(Refusal::Memory) => return Err(Refusal::Memory),
+            Err(Refusal::Fault(fault)) => return Err(Refusal::Fault(NotPut::Faulty(fault))),
+        };
+        let patience = patience_of(stay, &script);
+        let rank = rank_of(&script);
+        self.prospects
+            .announce(self.admission.list().next().number())?;
+        match self.admission.put(script, patience, rank) {
+            Ok(ticket) => Ok(ticket),
+            Err(refusal) => {
+                self.prospects.unannounce();
+                match refusal {
+                    Refusal::Memory => Err(Refusal::Memory),
+                    Refusal::Fault(Full) => Err(Refusal::Fault(NotPut::Full)),
+                }
+            }
+        }
+    }
+
+    /// Takes a script in again that waited in an earlier process, under its ticket, after so many batches that count.
+    /// Those of an earlier process come in the order of their tickets. At a refusal nothing changes.
+    pub fn restore(
+        &mut self,
+        ticket: Ticket,
+        text: &[u8],
+        variables: &[BoundVariable],
+        stay: Stay,
+        batches: u64,
+    ) -> Result<(), Refusal<NotPutBack>>
+        ensures unused { OnOk result (¬ IsUsed self.old.list ticket) }
+        ensures earlier { OnOk result (self.new.list.earlier ≡ ticket + 1) }
+        ensures epoch { self.new.epoch ≡ self.old.epoch }
+        ensures err { OnErr result (self.new ≡ self.old) }
+        ensures full { IfErr result (λ refusal. refusal ≡ Fault (not_back.Refused NoRoom) → IsFull self.old.list) }
+        ensures used { IfErr result (λ refusal. refusal ≡ Fault (not_back.Refused Used)
+            → ¬ MayComeBack self.old.list ticket) }
+        ensures onward { Onward self.old.list self.new.list }
+    {
+        let script = match self.preparing.prepare(text, variables) {
+            Ok(script) => script,
+            Err(Refusal::Memory) => return Err(Refusal::Memory),
+            Err(Refusal::Fault(fault)) => return Err(Refusal::Fault(NotPutBack::Faulty(fault))),
+        };
+        let patience = patience_of(stay, &script);
+        let rank = rank_of(&script);
+        self.prospects.announce(ticket.number())?;
+        match self
+            .admission
+            .restore(ticket, script, patience, batches, rank)
+        {
+            Ok(()) => Ok(()),
+            Err(refusal) => {
+                self.prospects.unannounce();
+                match refusal {
+                    Refusal::Memory => Err(Refusal::Memory),
+                    Refusal::Fault(fault) => Err(Refusal::Fault(NotPutBack::Refused(fault))),
+                }
+            }
+        }
+    }
+
+    /// A script waits no more, since its client takes it back, and will never commit. One that is in a batch can't be
+    /// taken back until that is over. At a refusal nothing changes.
+    pub fn withdraw(&mut self, ticket: Ticket) -> Result<(), Refusal<NotWithdrawn>>
+        ensures gone { OnOk result (waiter_of self.new.list ticket ≡ None) }
+        ensures idle { OnOk result (IsIdle self.old.list ticket) }
+        ensures epoch { self.new.epoch ≡ self.old.epoch }
+        ensures err { OnErr result (self.new ≡ self.old) }
+        ensures absent { IfErr result (λ refusal. refusal ≡ Fault Absent
+            → waiter_of self.old.list ticket ≡ None) }
+        ensures in_batch { IfErr result (λ refusal. refusal ≡ Fault InBatch
+            → IsInBatch self.old.list ticket ⊎ (contains nat_cmp self.old.coming ticket ≡ true)) }
+        ensures onward { Onward self.old.list self.new.list }
+    {
+        self.admission.withdraw(ticket)?;
+        self.prospects.forget(ticket.number());
+        Ok(())
+    }
+}
