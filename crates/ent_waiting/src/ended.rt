@@ -2,7 +2,7 @@
 ghost use Rattle.std.specs.Prelude.{◌≡◌, ◌≤◌, ◌<◌, ◌∷◌, ◌++◌, [], length};
 ghost use Rattle.std.specs.VecDeque.{deque_capacity, deque_len};
 ghost use Rattle.std.specs.Option.{option_copied};
-ghost use Rattle.ent_waiting.specs.Ended.{ended_of, last_of};
+ghost use Rattle.ent_waiting.specs.Ended.{ended_of, last_but, last_of};
 
 use crate::ticket::Ticket;
 use crate::waiter::Submission;
@@ -41,6 +41,15 @@ pub(crate) fn ended_of(ended: &VecDeque<Ended>, ticket: u64) -> Option<&Ended>
     ensures { option_copied result ≡ ended_of ticket ended.now.items }
 {
     ended.iter().find(|one| one.ticket.number() == ticket)
+}
+
+/// Who ended last but so many others, where that is kept.
+pub(crate) fn last_but(ended: &VecDeque<Ended>, back: usize) -> Option<&Ended>
+    ensures { option_copied result ≡ last_but back ended.now.items }
+{
+    let upto = ended.len().checked_sub(back)?;
+    let place = upto.checked_sub(1)?;
+    ended.get(place)
 }
 
 /// Keeps one more that ended, of which the last so many are kept.

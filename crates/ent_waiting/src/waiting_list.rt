@@ -7,7 +7,7 @@ ghost use Rattle.std.specs.BTreeMap.{insert_entry, is_at};
 ghost use Rattle.std.specs.Ordering.{nat_cmp};
 ghost use Rattle.std.specs.Option.{option_copied, option_map};
 ghost use Rattle.ent_value.specs.declared.refusal.Refusal.TheVariants.{Fault};
-ghost use Rattle.ent_waiting.specs.Ended.{ended_of as ended_in, last_of};
+ghost use Rattle.ent_waiting.specs.Ended.{ended_of as ended_in, last_but, last_of};
 ghost use Rattle.ent_waiting.specs.Queues.{SameQueues, stands_in};
 ghost use Rattle.ent_waiting.specs.WaitingList.{AreQueued, IsFull, IsIdle, IsInBatch, IsSubmitted, IsUsed};
 ghost use Rattle.ent_waiting.specs.WaitingList.{MayComeBack, Onward, StandsAt, UpdatesAt};
@@ -128,6 +128,22 @@ fn admit(
             Err(AllocError)
         }
     }
+}
+
+/// The first ticket from this one on under which a script waits.
+fn next_of(waiters: &BTreeMap<u64, Waiter>, from: u64) -> Option<u64>
+    ensures waits { IfSome result (λ ticket. IsSome (lookup (is_at (nat_cmp ticket)) waiters.now.entries)) }
+    ensures from { IfSome result (λ ticket. from ≤ ticket) }
+    ensures least { IfSome result (λ ticket. (other : ℕ)
+        → IsSome (lookup (is_at (nat_cmp other)) waiters.now.entries)
+        → from ≤ other
+        → ticket ≤ other) }
+    ensures none { IfNone result ((other : ℕ)
+        → from ≤ other
+        → lookup (is_at (nat_cmp other)) waiters.now.entries ≡ None) }
+{
+    let (ticket, _waiter) = waiters.range(from..).next()?;
+    Some(*ticket)
 }
 
 /// Where the script of a ticket waits.
@@ -650,6 +666,30 @@ impl WaitingList {
         ensures { option_copied result ≡ ended_in ticket self.now.ended }
     {
         ended::ended_of(&self.ended, ticket.number())
+    }
+
+    /// Who ended last but so many others, where that is kept. A ticket ends at most once; so who keeps the one that
+    /// ended last learns with it which ended since.
+    pub fn ended_back(&self, back: usize) -> Option<&Ended>
+        ensures { option_copied result ≡ last_but back self.now.ended }
+    {
+        ended::last_but(&self.ended, back)
+    }
+
+    /// The first ticket from this one on under which a script waits.
+    pub fn next_waiter(&self, from: Ticket) -> Option<Ticket>
+        ensures waits { IfSome result (λ ticket. IsSome (waiter_of self.now ticket)) }
+        ensures from { IfSome result (λ ticket. from ≤ ticket) }
+        ensures least { IfSome result (λ ticket. (other : ℕ)
+            → IsSome (waiter_of self.now other)
+            → from ≤ other
+            → ticket ≤ other) }
+        ensures none { IfNone result ((other : ℕ) → from ≤ other → waiter_of self.now other ≡ None) }
+    {
+        match next_of(&self.waiters, from.number()) {
+            Some(ticket) => Some(Ticket::new(ticket)),
+            None => None,
+        }
     }
 
     /// How many scripts wait.
