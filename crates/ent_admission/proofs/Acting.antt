@@ -53,7 +53,7 @@ goes_advances first last goes onward same =
 pub plans_advance : (first last : Admission) → Plans first last → Advances first last
 plans_advance first last plans =
     subst (λ (x : Admission). Advances first x) (sym plans.is)
-    (let x : Admission = record first { coming = last.coming } in
+    (let x : Admission = record first { coming = last.coming; again = last.again } in
     record {
       leads = leads_once first x (inl (record { at_rest = plans.at_rest; batch = plans.batch; is = refl }));
       onward = onward_nowhere first.list;
@@ -72,7 +72,14 @@ turns_advance first last turns =
 
 pub shifts_nowhere : (a : Admission) → OnlyShifts a a
 shifts_nowhere a =
-    record { leads = leads_nowhere a; epoch = refl; coming = refl; onward = onward_nowhere a.list; at_rest = λ h. h }
+    record {
+      leads = leads_nowhere a;
+      epoch = refl;
+      coming = refl;
+      again = refl;
+      onward = onward_nowhere a.list;
+      at_rest = λ h. h;
+    }
 
 pub shifts_on : (first between last : Admission) → OnlyShifts first between → OnlyShifts between last
     → OnlyShifts first last
@@ -81,6 +88,7 @@ shifts_on first between last one two =
       leads = leads_on first between last one.leads two.leads;
       epoch = two.epoch ∙ one.epoch;
       coming = two.coming ∙ one.coming;
+      again = two.again ∙ one.again;
       onward = onward_on first.list between.list last.list one.onward two.onward;
       at_rest = λ h. two.at_rest (one.at_rest h);
     }
@@ -135,6 +143,7 @@ module _ (a : Admission) (list : WaitingList) (ticket : ℕ) (place : Place) (fr
         })));
         epoch = refl;
         coming = refl;
+        again = refl;
         onward = onward;
         at_rest = λ rest. record { coming = rest.coming; closes = rest.closes; idle = still_idle rest };
       }

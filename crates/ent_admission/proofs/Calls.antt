@@ -28,6 +28,7 @@ use Rattle.ent_admission.specs.Admission.{is_chosen, waits_before}
 use Rattle.ent_admission.proofs.Keeping.{Changed, at, here, indexed_at, indexed_same, kept_changed, party_in}
 use Rattle.ent_admission.specs.Admission.{IsAtRest, IsBatch, waits_chosen}
 use Rattle.ent_admission.specs.Moves.{WaitsAgain, submission_at, submission_in}
+use Rattle.ent_admission.specs.declared.batch.Again.{Again}
 use Rattle.ent_admission.proofs.Numbers.{all_keys, numbered_kept, numbered_last}
 use Rattle.ent_form.specs.Catalogue.{schemas_of}
 use Rattle.ent_form.specs.Form.{script_in}
@@ -384,18 +385,19 @@ back_by : (over : Bool) (rank : Rank) (counts alone : Bool) (waiter : Waiter)
 back_by true rank counts alone waiter = refl
 back_by false rank counts alone waiter = refl
 
-pub back_settled : (old new : WaitingList) (ticket : ℕ) (waiter : Waiter) → WaitsAgain ticket waiter old new
-    → is_stationed Batch (waiter_of new ticket) ≡ false
-back_settled old new ticket waiter again =
+pub back_settled : (again : Again) (old new : WaitingList) (ticket : ℕ) (waiter : Waiter)
+    → WaitsAgain again ticket waiter old new → is_stationed Batch (waiter_of new ticket) ≡ false
+back_settled again old new ticket waiter waits =
     ap (is_stationed Batch)
-    (again.updates ticket
+    (waits.updates ticket
     ∙ ap (λ (b : Bool). cond b (back_or_gone again.rank again.counts again.alone waiter) (waiter_of old ticket)) (here ticket))
     ∙ back_by (is_over waiter.patience (with_batch again.counts waiter.batches)) again.rank again.counts again.alone waiter
 
-pub back_others : (old new : WaitingList) (ticket : ℕ) (waiter : Waiter) → WaitsAgain ticket waiter old new → (other : ℕ)
-    → is_at (nat_cmp ticket) other ≡ false → waiter_of new other ≡ waiter_of old other
-back_others old new ticket waiter again other apart =
-    again.updates other
+pub back_others : (again : Again) (old new : WaitingList) (ticket : ℕ) (waiter : Waiter)
+    → WaitsAgain again ticket waiter old new → (other : ℕ) → is_at (nat_cmp ticket) other ≡ false
+    → waiter_of new other ≡ waiter_of old other
+back_others again old new ticket waiter waits other apart =
+    waits.updates other
     ∙ ap (λ (b : Bool). cond b (back_or_gone again.rank again.counts again.alone waiter) (waiter_of old other)) apart
 
 -- ---- a batch is made up
@@ -421,8 +423,9 @@ chosen_busy (Some waiter) e = by waiter.place e
     by (Submitted s) e = absurd cc
 
 pub kept_planned : (a : Admission) (index : Waiting) (set : BTreeSet ℕ) → IsKept a index → IsAtRest a → IsBatch a set.keys
-    → length a.epoch.core.submitted + length set.keys ≤ MOST_SCRIPTS → IsKept (record a { coming = set }) index
-kept_planned a index set kept rest batch room =
+    → length a.epoch.core.submitted + length set.keys ≤ MOST_SCRIPTS → (again : Again)
+    → IsKept (record a { coming = set; again = again }) index
+kept_planned a index set kept rest batch room again =
     record {
       formed = kept.formed;
       indexed = kept.indexed;

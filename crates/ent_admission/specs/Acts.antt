@@ -13,7 +13,7 @@ use Rattle.ent_admission.specs.Moves.{Chain, Moves}
 pub record Plans (old new : Admission) : Type 0 where
   pub at_rest : IsAtRest old
   pub batch : IsBatch old new.coming.keys
-  pub is : new ≡ record old { coming = new.coming }
+  pub is : new ≡ record old { coming = new.coming; again = new.again }
 
 -- who is in no batch comes into a queue, or leaves all
 pub record Shifts (old new : Admission) : Type 0 where
@@ -31,6 +31,7 @@ pub record Turns (old new : Admission) : Type 0 where
   pub renewed : IsRenewed old.epoch.core.opening.tables (carried_over drained old.epoch.core) new.epoch.core.opening
   pub list : new.list ≡ old.list
   pub coming : new.coming ≡ old.coming
+  pub again : new.again ≡ old.again
 
 abbrev pub Acts : Admission → Admission → Type 0
 Acts old new = Plans old new ⊎ Shifts old new ⊎ Turns old new ⊎ Moves old new
@@ -44,6 +45,7 @@ pub record OnlyShifts (old new : Admission) : Type 0 where
   pub leads : LeadsOn old new
   pub epoch : new.epoch ≡ old.epoch
   pub coming : new.coming ≡ old.coming
+  pub again : new.again ≡ old.again
   pub onward : Onward old.list new.list
   pub at_rest : IsAtRest old → IsAtRest new
 

@@ -1,5 +1,6 @@
 -- Who waits, and who of them is in the core.
-use Rattle.std.specs.Prelude.{◌≡◌, ◌≤◌, ◌+◌, ℕ, Bool, true, false, [], All, List, length, Option, Some, None, Ok, option_map}
+use Rattle.std.specs.Prelude.{◌≡◌, ◌≤◌, ◌+◌, ◌||◌, ℕ, Bool, true, false, [], All, List, length, Option, Some, None, Ok}
+use Rattle.std.specs.Prelude.{option_map}
 use Rattle.std.specs.BTreeSet.{BTreeSet, contains}
 use Rattle.std.specs.List.{filter_map}
 use Rattle.std.specs.Ordering.{nat_cmp}
@@ -18,11 +19,13 @@ use Rattle.ent_tree.specs.declared.limits.TheConstants.{MOST_SCRIPTS}
 use Rattle.ent_tree.specs.declared.script.Script.{Script}
 use Rattle.ent_epoch.specs.Epoch.{Epoch, begun, for_one_run}
 use Rattle.ent_waiting.specs.WaitingList.{WaitingList, is_stationed, nobody, waiter_of, waits_idle}
+use Rattle.ent_waiting.specs.declared.queues.Rank.TheVariants.{Woken}
 use Rattle.ent_waiting.specs.declared.queues.Station.TheVariants.{Batch}
 use Rattle.ent_waiting.specs.declared.waiter.Place.{Place}
 use Rattle.ent_waiting.specs.declared.waiter.Place.TheVariants.{Chosen, Submitted}
 use Rattle.ent_waiting.specs.declared.waiter.Submission.{Submission}
 use Rattle.ent_waiting.specs.declared.waiter.Waiter.{Waiter}
+use Rattle.ent_admission.specs.declared.batch.Again.{Again}
 
 pub record Admission : Type 0 where
   -- the present epoch
@@ -30,6 +33,8 @@ pub record Admission : Type 0 where
   pub list : WaitingList
   -- those of the present batch who weren't submitted yet
   pub coming : BTreeSet ℕ
+  -- how those of it wait again who have no fate of their own after it
+  pub again : Again
 
 -- an epoch of this number over an opening, before which nobody waits
 abbrev pub fresh : ℕ → Opening → ℕ → ℕ → ℕ → Admission
@@ -38,6 +43,7 @@ fresh number opening next most_waiters most_ended =
       epoch = begun number opening;
       list = nobody next most_waiters most_ended;
       coming = record { keys = [] };
+      again = record { rank = Woken; counts = true; alone = false };
     }
 
 -- a script that a core over these declarations takes
@@ -58,6 +64,10 @@ pub record IsBatch (a : Admission) (tickets : List ℕ) : Type 0 where
   pub waits : All (λ ticket. waits_idle (waiter_of a.list ticket) ≡ true) tickets
   pub closed : IsClosed (parties_of a.list tickets)
   pub few : length tickets ≤ MOST_MEMBERS
+
+-- the script of a ticket is of the batch that is on, be it submitted or not
+abbrev pub is_in_batch : Admission → ℕ → Bool
+is_in_batch a ticket = contains nat_cmp a.coming ticket || is_stationed Batch (waiter_of a.list ticket)
 
 -- no batch is on: nobody is to come, nobody is submitted, no run is on, and nobody waits in the core
 pub record IsAtRest (a : Admission) : Type 0 where

@@ -14,12 +14,12 @@ use Rattle.ent_epoch.specs.OneRun.{MakesRun}
 use Rattle.ent_waiting.specs.WaitingList.{WaitingList, StandsAt, UpdatesAt, back, back_or_gone, changed, ending_as, moved}
 use Rattle.ent_waiting.specs.declared.ended.Ending.{Ending}
 use Rattle.ent_waiting.specs.declared.ended.Ending.TheVariants.{Committed, Failed, RolledBack}
-use Rattle.ent_waiting.specs.declared.queues.Rank.{Rank}
 use Rattle.ent_waiting.specs.declared.waiter.Place.{Place}
 use Rattle.ent_waiting.specs.declared.waiter.Place.TheVariants.{Chosen, Submitted}
 use Rattle.ent_waiting.specs.declared.waiter.Submission.{Submission}
 use Rattle.ent_waiting.specs.declared.waiter.Waiter.{Waiter}
 use Rattle.ent_admission.specs.Admission.{Admission}
+use Rattle.ent_admission.specs.declared.batch.Again.{Again}
 
 -- who is to come stands ready
 pub record Chooses (old new : Admission) : Type 0 where
@@ -28,6 +28,7 @@ pub record Chooses (old new : Admission) : Type 0 where
   pub epoch : new.epoch ≡ old.epoch
   pub list : new.list ≡ moved ticket Chosen old.list
   pub coming : new.coming ≡ old.coming
+  pub again : new.again ≡ old.again
 
 -- who stands ready is submitted as it was put, but for one run
 pub record Enters (old new : Admission) : Type 0 where
@@ -42,6 +43,7 @@ pub record Enters (old new : Admission) : Type 0 where
   pub gone : contains nat_cmp new.coming ticket ≡ false
   pub others : (other : ℕ) → is_at (nat_cmp ticket) other ≡ false
       → contains nat_cmp new.coming other ≡ contains nat_cmp old.coming other
+  pub again : new.again ≡ old.again
 
 -- once all of the batch are submitted their run is made, or as much of it as there was memory for
 pub record Runs (old new : Admission) : Type 0 where
@@ -50,6 +52,7 @@ pub record Runs (old new : Admission) : Type 0 where
   pub epoch : new.epoch ≡ record old.epoch { core = new.epoch.core }
   pub list : new.list ≡ old.list
   pub coming : new.coming ≡ old.coming
+  pub again : new.again ≡ old.again
 
 -- how a script ends with the fate of its transaction; who only gave up the one run waits again
 abbrev pub ending_with : ℕ → Option Fate → Option Ending
@@ -58,13 +61,10 @@ ending_with epoch (Some (fates.RolledBack runs)) = Some RolledBack
 ending_with epoch (Some (fates.Failed failure runs)) = Some (Failed failure)
 ending_with epoch other = None
 
--- it waits again, or gives up where its patience is used up
-pub record WaitsAgain (ticket : ℕ) (waiter : Waiter) (old new : WaitingList) : Type 0 where
-  pub rank : Rank
-  pub counts : Bool
-  pub alone : Bool
-  pub list : new ≡ back ticket rank counts alone waiter old
-  pub updates : UpdatesAt ticket (back_or_gone rank counts alone waiter) old.waiters new.waiters
+-- it waits again as it was planned, or gives up where its patience is used up
+pub record WaitsAgain (again : Again) (ticket : ℕ) (waiter : Waiter) (old new : WaitingList) : Type 0 where
+  pub list : new ≡ back ticket again.rank again.counts again.alone waiter old
+  pub updates : UpdatesAt ticket (back_or_gone again.rank again.counts again.alone waiter) old.waiters new.waiters
 
 -- the transaction that a script is at its place
 abbrev pub submission_in : Place → Option Submission
@@ -76,9 +76,9 @@ submission_at None = None
 submission_at (Some waiter) = submission_in waiter.place
 
 -- it ends so, or it waits again
-abbrev pub SettlesAs : Option Ending → ℕ → Waiter → WaitingList → WaitingList → Type 0
-SettlesAs (Some ending) ticket waiter old new = new ≡ ending_as ticket ending true waiter old
-SettlesAs None ticket waiter old new = WaitsAgain ticket waiter old new
+abbrev pub SettlesAs : Option Ending → Again → ℕ → Waiter → WaitingList → WaitingList → Type 0
+SettlesAs (Some ending) again ticket waiter old new = new ≡ ending_as ticket ending true waiter old
+SettlesAs None again ticket waiter old new = WaitsAgain again ticket waiter old new
 
 -- who was submitted ends, or waits again, as the core says of its transaction
 pub record Settles (old new : Admission) : Type 0 where
@@ -86,10 +86,11 @@ pub record Settles (old new : Admission) : Type 0 where
   pub submission : Submission
   pub stands : StandsAt old.list ticket (Submitted submission)
   pub over : CanClose old.epoch.core
-  pub list : SettlesAs (ending_with submission.epoch (fate_at (standing old.epoch.core submission.tx))) ticket
+  pub list : SettlesAs (ending_with submission.epoch (fate_at (standing old.epoch.core submission.tx))) old.again ticket
       stands.waiter old.list new.list
   pub epoch : new.epoch ≡ old.epoch
   pub coming : new.coming ≡ old.coming
+  pub again : new.again ≡ old.again
 
 abbrev pub Moves : Admission → Admission → Type 0
 Moves old new = Chooses old new ⊎ Enters old new ⊎ Runs old new ⊎ Settles old new

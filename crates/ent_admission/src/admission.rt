@@ -2,7 +2,7 @@
 ghost use Rattle.std.specs.Prelude.{◌≡◌, false, true};
 ghost use Rattle.ent_value.specs.Refusal.{Gives};
 ghost use Rattle.ent_form.specs.OpeningFault.{opening_fault, unless};
-ghost use Rattle.ent_admission.specs.Admission.{IsAtRest, IsIndexed, fresh};
+ghost use Rattle.ent_admission.specs.Admission.{IsAtRest, IsIndexed, fresh, is_in_batch};
 
 use crate::batch::Again;
 use ent_epoch::Epoch;
@@ -10,13 +10,13 @@ use ent_form::FormFault;
 use ent_meetings::Index;
 use ent_tree::Opening;
 use ent_value::Refusal;
-use ent_waiting::{Limits, Rank, Station, Ticket, WaitingList};
+use ent_waiting::{Limits, Place, Rank, Station, Ticket, WaitingList};
 use std::alloc::Global;
 use std::collections::BTreeSet;
 use std::marker::Model;
 
-/// Who waits, the present epoch, and the batch that is on. Contracts see the list, the epoch, and who
-/// of the batch wasn't submitted yet.
+/// Who waits, the present epoch, and the batch that is on. Contracts see the list, the epoch, who of
+/// the batch wasn't submitted yet, and how those of it wait again who have no fate.
 #[derive(Drop)]
 pub struct Admission {
     pub(crate) alloc: Global,
@@ -36,12 +36,18 @@ impl Model for Admission {
 
     ghost coded = { Prim.hlevel (codes, coded_rows) };
 
-    ghost view = { λ a. record { epoch = a.epoch; list = a.list; coming = a.coming } };
+    ghost view = { λ a. record {
+      epoch = a.epoch;
+      list = a.list;
+      coming = a.coming;
+      again = a.again;
+    } };
 
     ghost invariant = { λ a. IsKept (record {
       epoch = a.epoch;
       list = a.list;
       coming = a.coming;
+      again = a.again;
     }) a.index };
 }
 
@@ -107,5 +113,18 @@ impl Admission {
             return false;
         }
         self.epoch.is_over()
+    }
+
+    /// Whether the script of a ticket is of the batch that is on, be it submitted or not.
+    pub fn is_in_batch(&self, ticket: Ticket) -> bool
+        ensures { result ≡ is_in_batch self.now ticket }
+    {
+        if self.coming.contains(&ticket.number()) {
+            return true;
+        }
+        match self.list.waiter(ticket) {
+            Some(waiter) => matches!(waiter.place, Place::Chosen | Place::Submitted(_)),
+            None => false,
+        }
     }
 }

@@ -43,6 +43,7 @@ impl Admission {
         ensures ok { OnOk result (Chooses self.old self.new) }
         ensures stands { OnOk result (StandsAt self.new.list ticket Chosen) }
         ensures coming { self.new.coming ≡ self.old.coming }
+        ensures again { self.new.again ≡ self.old.again }
         ensures err { OnErr result (self.new ≡ self.old) }
         ensures opening { self.new.epoch.core.opening ≡ self.old.epoch.core.opening }
         ensures onward { Onward self.old.list self.new.list }

@@ -97,7 +97,7 @@ impl Admission {
     pub fn plan(&mut self, tickets: BTreeSet<u64>, again: Again) -> Result<(), Refusal<NotPlanned>>
         ensures batch { OnOk result (IsBatch self.old tickets.keys) }
         ensures at_rest { OnOk result (IsAtRest self.old) }
-        ensures ok { OnOk result (self.new ≡ record self.old { coming = tickets }) }
+        ensures ok { OnOk result (self.new ≡ record self.old { coming = tickets; again = again }) }
         ensures advances { Advances self.old self.new }
         ensures err { OnErr result (self.new ≡ self.old) }
         ensures busy { IfErr result (λ refusal. refusal ≡ Fault Busy → ¬ IsAtRest self.old) }

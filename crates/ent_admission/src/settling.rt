@@ -53,6 +53,7 @@ impl Admission {
         ensures list { self.new.list ≡ self.old.list }
         ensures opening { self.new.epoch.core.opening ≡ self.old.epoch.core.opening }
         ensures coming { self.new.coming ≡ self.old.coming }
+        ensures again { self.new.again ≡ self.old.again }
     {
         self.epoch.run(self.alloc)?;
         Ok(())
@@ -78,6 +79,7 @@ impl Admission {
         ensures updates { OnOk result (UpdatesAt ticket None self.old.list.waiters self.new.list.waiters) }
         ensures epoch { self.new.epoch ≡ self.old.epoch }
         ensures coming { self.new.coming ≡ self.old.coming }
+        ensures again { self.new.again ≡ self.old.again }
         ensures err { OnErr result (self.new ≡ self.old) }
         ensures onward { Onward self.old.list self.new.list }
     {
@@ -93,9 +95,10 @@ impl Admission {
         requires submitted { IsSubmitted self.old.list ticket }
         ensures ok { OnOk result ((waiter : WaiterSeen)
             → waiter_of self.old.list ticket ≡ Some waiter
-            → WaitsAgain ticket waiter self.old.list self.new.list) }
+            → WaitsAgain self.old.again ticket waiter self.old.list self.new.list) }
         ensures epoch { self.new.epoch ≡ self.old.epoch }
         ensures coming { self.new.coming ≡ self.old.coming }
+        ensures again { self.new.again ≡ self.old.again }
         ensures err { OnErr result (self.new ≡ self.old) }
         ensures onward { Onward self.old.list self.new.list }
     {
@@ -122,6 +125,7 @@ impl Admission {
             → waiter_of self.new.list other ≡ waiter_of self.old.list other) }
         ensures epoch { self.new.epoch ≡ self.old.epoch }
         ensures coming { self.new.coming ≡ self.old.coming }
+        ensures again { self.new.again ≡ self.old.again }
         ensures err { OnErr result (self.new ≡ self.old) }
         ensures opening { self.new.epoch.core.opening ≡ self.old.epoch.core.opening }
         ensures onward { Onward self.old.list self.new.list }

@@ -29,6 +29,7 @@ impl Admission {
             (carried_over drained.now self.old.epoch.core) self.new.epoch.core.opening) }
         ensures list { self.new.list ≡ self.old.list }
         ensures coming { self.new.coming ≡ self.old.coming }
+        ensures again { self.new.again ≡ self.old.again }
         ensures advances { Advances self.old self.new }
         ensures err { OnErr result (self.new ≡ self.old) }
         ensures busy { IfErr result (λ refusal. refusal ≡ Fault Busy → ¬ IsAtRest self.old) }

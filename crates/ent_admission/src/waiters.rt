@@ -36,6 +36,7 @@ impl Admission {
             self.new.list ≡ record list { next = self.old.list.next + 1 }) }
         ensures epoch { self.new.epoch ≡ self.old.epoch }
         ensures coming { self.new.coming ≡ self.old.coming }
+        ensures again { self.new.again ≡ self.old.again }
         ensures err { OnErr result (self.new ≡ self.old) }
         ensures full { IfErr result (λ refusal. (fault : FullSeen) → refusal ≡ Fault fault → IsFull self.old.list) }
         ensures onward { Onward self.old.list self.new.list }
@@ -68,6 +69,7 @@ impl Admission {
         ensures unused { OnOk result (¬ IsUsed self.old.list ticket) }
         ensures epoch { self.new.epoch ≡ self.old.epoch }
         ensures coming { self.new.coming ≡ self.old.coming }
+        ensures again { self.new.again ≡ self.old.again }
         ensures err { OnErr result (self.new ≡ self.old) }
         ensures full { IfErr result (λ refusal. refusal ≡ Fault NoRoom → IsFull self.old.list) }
         ensures used { IfErr result (λ refusal. refusal ≡ Fault Used → ¬ MayComeBack self.old.list ticket) }
@@ -97,6 +99,7 @@ impl Admission {
         ensures idle { OnOk result (IsIdle self.old.list ticket) }
         ensures epoch { self.new.epoch ≡ self.old.epoch }
         ensures coming { self.new.coming ≡ self.old.coming }
+        ensures again { self.new.again ≡ self.old.again }
         ensures err { OnErr result (self.new ≡ self.old) }
         ensures absent { IfErr result (λ refusal. refusal ≡ Fault Absent → waiter_of self.old.list ticket ≡ None) }
         ensures in_batch { IfErr result (λ refusal. refusal ≡ Fault InBatch

@@ -16,3 +16,4 @@ invariant_of-self c =
     (subst (λ (x : Admission). IsBatch x keys) (sym c.self.view_is) (c.in_ok-fault.ensures.ok none))
     (subst (λ (x : Admission). length x.epoch.core.submitted + length keys ≤ MOST_SCRIPTS) (sym c.self.view_is)
     (c.in_ok-fault.ensures.room none))
+    c.args.again

@@ -57,11 +57,12 @@ returns-in_ok-end-in-Some-ending_of-clause-ok c =
       stands = there;
       over = c.requires.over;
       list = subst
-          (λ (o : Option Ending). SettlesAs o c.args.ticket there.waiter c.args.self.now.list c.end.new.self.list)
+          (λ (o : Option Ending). SettlesAs o c.args.self.now.again c.args.ticket there.waiter c.args.self.now.list c.end.new.self.list)
           (sym (told ∙ c.in-Some-ending_of.is))
           (c.in_ok-end-in-Some-ending_of.ensures.ok there.waiter there.waits);
       epoch = c.in_ok-end-in-Some-ending_of.ensures.epoch;
       coming = c.in_ok-end-in-Some-ending_of.ensures.coming;
+      again = c.in_ok-end-in-Some-ending_of.ensures.again;
     }
 
 pub returns-in_ok-wait_again-in-None-clause-ok : goal.returns-in_ok-wait_again-in-None-clause-ok
@@ -90,11 +91,12 @@ returns-in_ok-wait_again-in-None-clause-ok c =
       stands = there;
       over = c.requires.over;
       list = subst
-          (λ (o : Option Ending). SettlesAs o c.args.ticket there.waiter c.args.self.now.list c.wait_again.new.self.list)
+          (λ (o : Option Ending). SettlesAs o c.args.self.now.again c.args.ticket there.waiter c.args.self.now.list c.wait_again.new.self.list)
           (sym (told ∙ c.in-None.is))
           (c.in_ok-wait_again-in-None.ensures.ok there.waiter there.waits);
       epoch = c.in_ok-wait_again-in-None.ensures.epoch;
       coming = c.in_ok-wait_again-in-None.ensures.coming;
+      again = c.in_ok-wait_again-in-None.ensures.again;
     }
 
 pub returns-in_ok-wait_again-in-None-clause-settled : goal.returns-in_ok-wait_again-in-None-clause-settled
@@ -106,7 +108,7 @@ returns-in_ok-wait_again-in-None-clause-settled c =
     ap (λ (x : Admission). is_stationed Batch (waiter_of x.list c.args.ticket)) c.self.view_is ∙ c.requires.batch in
     let own = batch_submitted a c.self.inside.index c.self.invariant none c.args.ticket batch in
     let waits = ap (λ (x : Admission). waiter_of x.list c.args.ticket) (sym c.self.view_is) ∙ own.1.waits in
-    back_settled c.args.self.now.list c.wait_again.new.self.list c.args.ticket own.1.waiter
+    back_settled c.args.self.now.again c.args.self.now.list c.wait_again.new.self.list c.args.ticket own.1.waiter
     (c.in_ok-wait_again-in-None.ensures.ok own.1.waiter waits)
 
 pub returns-in_ok-wait_again-in-None-clause-others : goal.returns-in_ok-wait_again-in-None-clause-others
@@ -118,5 +120,5 @@ returns-in_ok-wait_again-in-None-clause-others c =
     ap (λ (x : Admission). is_stationed Batch (waiter_of x.list c.args.ticket)) c.self.view_is ∙ c.requires.batch in
     let own = batch_submitted a c.self.inside.index c.self.invariant none c.args.ticket batch in
     let waits = ap (λ (x : Admission). waiter_of x.list c.args.ticket) (sym c.self.view_is) ∙ own.1.waits in
-    back_others c.args.self.now.list c.wait_again.new.self.list c.args.ticket own.1.waiter
+    back_others c.args.self.now.again c.args.self.now.list c.wait_again.new.self.list c.args.ticket own.1.waiter
     (c.in_ok-wait_again-in-None.ensures.ok own.1.waiter waits)

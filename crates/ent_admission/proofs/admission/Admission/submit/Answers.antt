@@ -20,7 +20,11 @@ invariant_of-self-2 c =
     let a = the_view c.self.inside in
     let ticket = c.args.ticket in
     let submission = c.in_ok-submission.submission in
-    let new : Admission = record { epoch = c.submit_to.new.epoch; list = c.submitted.new.self; coming = c.remove.new.self } in
+    let new : Admission = record a {
+      epoch = c.submit_to.new.epoch;
+      list = c.submitted.new.self;
+      coming = c.remove.new.self;
+    } in
     let waiter = c.requires.stands.waiter in
     let waits : waiter_of a.list ticket ≡ Some waiter =
     ap (λ (x : Admission). waiter_of x.list ticket) c.self.view_is ∙ c.requires.stands.waits in
@@ -46,7 +50,11 @@ returns-clause-ok c =
     let a = the_view c.self.inside in
     let ticket = c.args.ticket in
     let submission = c.in_ok-submission.submission in
-    let new : Admission = record { epoch = c.submit_to.new.epoch; list = c.submitted.new.self; coming = c.remove.new.self } in
+    let new : Admission = record a {
+      epoch = c.submit_to.new.epoch;
+      list = c.submitted.new.self;
+      coming = c.remove.new.self;
+    } in
     let stands = subst (λ (x : Admission). StandsAt x.list ticket Chosen) (sym c.self.view_is) c.requires.stands in
     let waiter = stands.waiter in
     let waits_own : waiter_of a.list c.new-own.result ≡ Some waiter =
@@ -68,4 +76,5 @@ returns-clause-ok c =
           c.new-own.ensures (c.submitted.ensures.ok waiter waits_own);
       gone = c.remove.ensures.updates.1;
       others = c.remove.ensures.updates.2;
+      again = refl;
     })

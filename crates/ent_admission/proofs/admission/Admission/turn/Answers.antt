@@ -39,4 +39,5 @@ returns-clause-advances c =
       renewed = c.in_ok-book.ensures.renewed;
       list = refl;
       coming = refl;
+      again = refl;
     }))

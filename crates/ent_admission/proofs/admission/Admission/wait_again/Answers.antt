@@ -39,12 +39,9 @@ returns-clause-ok c = λ waiter waits.
     let waits_own : waiter_of a.list c.new-own.result ≡ Some waiter =
     ap (λ (k : ℕ). waiter_of a.list k) c.new-own.ensures
     ∙ ap (λ (x : Admission). waiter_of x.list c.args.ticket) c.self.view_is ∙ waits in
-    subst (λ (x : Admission). WaitsAgain c.args.ticket waiter x.list c.wait_again.new.self) c.self.view_is
-    (subst (λ (k : ℕ). WaitsAgain k waiter a.list c.wait_again.new.self) c.new-own.ensures
+    subst (λ (x : Admission). WaitsAgain x.again c.args.ticket waiter x.list c.wait_again.new.self) c.self.view_is
+    (subst (λ (k : ℕ). WaitsAgain again k waiter a.list c.wait_again.new.self) c.new-own.ensures
     (record {
-      rank = again.rank;
-      counts = again.counts;
-      alone = again.alone;
       list = c.in_ok-wait_again.ensures.ok waiter waits_own;
       updates = c.in_ok-wait_again.ensures.updates waiter waits_own;
     }))
