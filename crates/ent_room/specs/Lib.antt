@@ -1,0 +1,5 @@
+pub mod Room
+pub mod Acts
+pub mod Putting
+pub mod Reading
+pub mod State

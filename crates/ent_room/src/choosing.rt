@@ -1,12 +1,12 @@
 //! Who comes into the next batch.
 ghost use Rattle.std.specs.Prelude.{◌≤◌};
-ghost use Rattle.ent_admission.specs.Acts.{OnlyShifts};
+ghost use Rattle.ent_room.specs.Acts.{OnlyShifts};
 
 use crate::batch::Batch;
+use crate::law::acts_go_on;
 use crate::prospects::is_among;
 use crate::room::Room;
 use crate::tables::add_changed;
-use ent_admission::acts_go_on;
 use ent_group::MOST_MEMBERS;
 use ent_meetings::{Bound, Found, Index, MOST_CHOICES, MOST_LOOKS, Search, widen};
 use ent_parties::Party;
@@ -221,8 +221,8 @@ impl Room {
         )?;
         match sought {
             Sought::Found(meeting) => self.add(root, meeting.as_slice(), batch)?,
-            Sought::Nobody => self.admission.rest(root)?,
-            Sought::Stopped if before > MOST_LOOKS / 2 => self.admission.rest(root)?,
+            Sought::Nobody => self.rest(root)?,
+            Sought::Stopped if before > MOST_LOOKS / 2 => self.rest(root)?,
             Sought::Later | Sought::Stopped => {}
         }
         Ok(())

@@ -8,15 +8,20 @@
 
 mod batch;
 mod choosing;
+mod epoch_book;
+mod law;
 mod prospects;
 mod putting;
+mod reading;
 mod room;
 mod state;
 mod step;
 mod tables;
 mod waking;
 
+pub use epoch_book::EpochBook;
 pub use putting::{NotPut, NotPutBack, Stay};
+pub use reading::NotOpened;
 pub use room::{NotTurned, Room};
 pub use state::State;
 pub use step::{NotStepped, Stepped};

@@ -1,11 +1,19 @@
 //! Scripts come to wait, and are taken back.
-ghost use Rattle.std.specs.Prelude.{◌≡◌, ◌⊎◌, ◌+◌, IfErr, IfOk, None, OnErr, OnOk, true};
+ghost use Rattle.std.specs.Prelude.{◌≡◌, ◌⊎◌, ◌+◌, IfErr, IfOk, None, OnErr, OnOk, Some, false, true};
 ghost use Rattle.std.specs.BTreeSet.{contains};
 ghost use Rattle.std.specs.Ordering.{nat_cmp};
-ghost use Rattle.ent_waiting.specs.WaitingList.{IsFull, IsIdle, IsInBatch, IsUsed, MayComeBack, Onward, waiter_of};
+ghost use Rattle.ent_admission.specs.Admission.{IsFormed};
+ghost use Rattle.ent_prepare.specs.Prepared.{IsFirstFault};
+ghost use Rattle.ent_prepare.specs.declared.fault.PrepareFault.{PrepareFault as PrepareFaultSeen};
+ghost use Rattle.ent_value.specs.declared.refusal.Refusal.TheVariants.{Fault};
+ghost use Rattle.ent_waiting.specs.WaitingList.{IsFull, IsIdle, IsInBatch, IsUsed, MayComeBack, Onward, ending_as};
+ghost use Rattle.ent_waiting.specs.WaitingList.{waiter_of};
+ghost use Rattle.ent_waiting.specs.declared.ended.Ending.TheVariants.{Withdrawn};
+ghost use Rattle.ent_waiting.specs.declared.waiter.Waiter.{Waiter as WaiterSeen};
+ghost use Rattle.ent_waiting.specs.declared.waiting_list.Full.{Full as FullSeen};
 ghost use Rattle.ent_waiting.specs.declared.waiting_list.NotRestored.TheVariants.{NoRoom, Used};
 ghost use Rattle.ent_waiting.specs.declared.waiting_list.NotWithdrawn.TheVariants.{Absent, InBatch};
-ghost use Rattle.ent_value.specs.declared.refusal.Refusal.TheVariants.{Fault};
+ghost use Rattle.ent_room.specs.Putting.{Puts, Restores, patience_of, rank_of, tables_of, with_put};
 ghost use Rattle.ent_room.specs.declared.putting.NotPut.TheVariants as not_put;
 ghost use Rattle.ent_room.specs.declared.putting.NotPutBack.TheVariants as not_back;
 
@@ -46,7 +54,10 @@ pub enum NotPutBack {
     Faulty(PrepareFault),
 }
 
-fn patience_of(stay: Stay, script: &Script) -> Patience {
+/// In how many batches a script takes part before it gives up.
+fn patience_of(stay: Stay, script: &Script) -> Patience
+    ensures { result ≡ patience_of stay script.now }
+{
     match stay {
         Stay::AsWritten => Patience::Batches(script.within),
         Stay::Batches(most) => Patience::Batches(most),
@@ -54,7 +65,10 @@ fn patience_of(stay: Stay, script: &Script) -> Patience {
     }
 }
 
-fn rank_of(script: &Script) -> Rank {
+/// In which queue a script stands at first.
+fn rank_of(script: &Script) -> Rank
+    ensures { result ≡ rank_of script.now }
+{
     if is_ordinary(script) {
         Rank::Ordinary
     } else {
@@ -63,6 +77,33 @@ fn rank_of(script: &Script) -> Rank {
 }
 
 impl Room {
+    /// Takes a script in that has no fault of form, and gives it the next ticket. At a refusal nothing changes.
+    pub(crate) fn take_in(&mut self, script: Script, stay: Stay) -> Result<Ticket, Refusal<Full>>
+        requires formed { IsFormed self.old.admission.epoch.core.opening script }
+        ensures ticket { IfOk result (λ ticket. ticket ≡ self.old.admission.list.next) }
+        ensures list { OnOk result (self.new.admission.list ≡ with_put script stay self.old.admission.list) }
+        ensures epoch { self.new.admission.epoch ≡ self.old.admission.epoch }
+        ensures coming { self.new.admission.coming ≡ self.old.admission.coming }
+        ensures last { self.new.last ≡ self.old.last }
+        ensures err { OnErr result (self.new ≡ self.old) }
+        ensures full { IfErr result (λ refusal. (fault : FullSeen)
+            → refusal ≡ Fault fault
+            → IsFull self.old.admission.list) }
+        ensures onward { Onward self.old.admission.list self.new.admission.list }
+    {
+        let patience = patience_of(stay, &script);
+        let rank = rank_of(&script);
+        self.prospects
+            .announce(self.admission.list().next().number())?;
+        match self.admission.put(script, patience, rank) {
+            Ok(ticket) => Ok(ticket),
+            Err(refusal) => {
+                self.prospects.unannounce();
+                Err(refusal)
+            }
+        }
+    }
+
     /// Takes a script in by its text, with these values bound in it, and gives it the next ticket. It waits from then
     /// on. At a refusal nothing changes: it tells the first fault of the text, the values or the form, or that as many
     /// wait as there may be.
@@ -72,31 +113,28 @@ impl Room {
         variables: &[BoundVariable],
         stay: Stay,
     ) -> Result<Ticket, Refusal<NotPut>>
-        ensures ticket { IfOk result (λ ticket. ticket ≡ self.old.list.next) }
-        ensures next { OnOk result (self.new.list.next ≡ self.old.list.next + 1) }
-        ensures epoch { self.new.epoch ≡ self.old.epoch }
+        ensures ticket { IfOk result (λ ticket. ticket ≡ self.old.admission.list.next) }
+        ensures puts { OnOk result
+            (Puts self.old.admission text.now variables.now stay self.new.admission.list) }
+        ensures epoch { self.new.admission.epoch ≡ self.old.admission.epoch }
+        ensures coming { self.new.admission.coming ≡ self.old.admission.coming }
+        ensures last { self.new.last ≡ self.old.last }
         ensures err { OnErr result (self.new ≡ self.old) }
-        ensures full { IfErr result (λ refusal. refusal ≡ Fault not_put.Full → IsFull self.old.list) }
-        ensures onward { Onward self.old.list self.new.list }
+        ensures faulty { IfErr result (λ refusal. (fault : PrepareFaultSeen)
+            → refusal ≡ Fault (not_put.Faulty fault)
+            → IsFirstFault (tables_of self.old.admission) text.now variables.now fault) }
+        ensures full { IfErr result (λ refusal. refusal ≡ Fault not_put.Full → IsFull self.old.admission.list) }
+        ensures onward { Onward self.old.admission.list self.new.admission.list }
     {
         let script = match self.preparing.prepare(text, variables) {
             Ok(script) => script,
             Err(Refusal::Memory) => return Err(Refusal::Memory),
             Err(Refusal::Fault(fault)) => return Err(Refusal::Fault(NotPut::Faulty(fault))),
         };
-        let patience = patience_of(stay, &script);
-        let rank = rank_of(&script);
-        self.prospects
-            .announce(self.admission.list().next().number())?;
-        match self.admission.put(script, patience, rank) {
+        match self.take_in(script, stay) {
             Ok(ticket) => Ok(ticket),
-            Err(refusal) => {
-                self.prospects.unannounce();
-                match refusal {
-                    Refusal::Memory => Err(Refusal::Memory),
-                    Refusal::Fault(Full) => Err(Refusal::Fault(NotPut::Full)),
-                }
-            }
+            Err(Refusal::Memory) => Err(Refusal::Memory),
+            Err(Refusal::Fault(Full)) => Err(Refusal::Fault(NotPut::Full)),
         }
     }
 
@@ -110,14 +148,21 @@ impl Room {
         stay: Stay,
         batches: u64,
     ) -> Result<(), Refusal<NotPutBack>>
-        ensures unused { OnOk result (¬ IsUsed self.old.list ticket) }
-        ensures earlier { OnOk result (self.new.list.earlier ≡ ticket + 1) }
-        ensures epoch { self.new.epoch ≡ self.old.epoch }
+        ensures unused { OnOk result (¬ IsUsed self.old.admission.list ticket) }
+        ensures restores { OnOk result
+            (Restores self.old.admission ticket text.now variables.now stay batches self.new.admission.list) }
+        ensures epoch { self.new.admission.epoch ≡ self.old.admission.epoch }
+        ensures coming { self.new.admission.coming ≡ self.old.admission.coming }
+        ensures last { self.new.last ≡ self.old.last }
         ensures err { OnErr result (self.new ≡ self.old) }
-        ensures full { IfErr result (λ refusal. refusal ≡ Fault (not_back.Refused NoRoom) → IsFull self.old.list) }
+        ensures faulty { IfErr result (λ refusal. (fault : PrepareFaultSeen)
+            → refusal ≡ Fault (not_back.Faulty fault)
+            → IsFirstFault (tables_of self.old.admission) text.now variables.now fault) }
+        ensures full { IfErr result (λ refusal. refusal ≡ Fault (not_back.Refused NoRoom)
+            → IsFull self.old.admission.list) }
         ensures used { IfErr result (λ refusal. refusal ≡ Fault (not_back.Refused Used)
-            → ¬ MayComeBack self.old.list ticket) }
-        ensures onward { Onward self.old.list self.new.list }
+            → ¬ MayComeBack self.old.admission.list ticket) }
+        ensures onward { Onward self.old.admission.list self.new.admission.list }
     {
         let script = match self.preparing.prepare(text, variables) {
             Ok(script) => script,
@@ -145,15 +190,20 @@ impl Room {
     /// A script waits no more, since its client takes it back, and will never commit. One that is in a batch can't be
     /// taken back until that is over. At a refusal nothing changes.
     pub fn withdraw(&mut self, ticket: Ticket) -> Result<(), Refusal<NotWithdrawn>>
-        ensures gone { OnOk result (waiter_of self.new.list ticket ≡ None) }
-        ensures idle { OnOk result (IsIdle self.old.list ticket) }
-        ensures epoch { self.new.epoch ≡ self.old.epoch }
+        ensures ended { OnOk result ((waiter : WaiterSeen)
+            → waiter_of self.old.admission.list ticket ≡ Some waiter
+            → self.new.admission.list ≡ ending_as ticket Withdrawn false waiter self.old.admission.list) }
+        ensures gone { OnOk result (waiter_of self.new.admission.list ticket ≡ None) }
+        ensures idle { OnOk result (IsIdle self.old.admission.list ticket) }
+        ensures epoch { self.new.admission.epoch ≡ self.old.admission.epoch }
+        ensures coming { self.new.admission.coming ≡ self.old.admission.coming }
+        ensures last { self.new.last ≡ self.old.last }
         ensures err { OnErr result (self.new ≡ self.old) }
         ensures absent { IfErr result (λ refusal. refusal ≡ Fault Absent
-            → waiter_of self.old.list ticket ≡ None) }
+            → waiter_of self.old.admission.list ticket ≡ None) }
         ensures in_batch { IfErr result (λ refusal. refusal ≡ Fault InBatch
-            → IsInBatch self.old.list ticket ⊎ (contains nat_cmp self.old.coming ticket ≡ true)) }
-        ensures onward { Onward self.old.list self.new.list }
+            → IsInBatch self.old.admission.list ticket ⊎ (contains nat_cmp self.old.admission.coming ticket ≡ true)) }
+        ensures onward { Onward self.old.admission.list self.new.admission.list }
     {
         self.admission.withdraw(ticket)?;
         self.prospects.forget(ticket.number());

@@ -1,13 +1,9 @@
 //! How a ticket stands.
-ghost use Rattle.std.specs.Prelude.{◌≡◌, ℕ, None, Some};
-ghost use Rattle.ent_admission.specs.Admission.{IsIndexed};
-ghost use Rattle.ent_meetings.specs.Meeting.{IsLonely};
-ghost use Rattle.ent_meetings.specs.Waiting.{Waiting};
-ghost use Rattle.ent_waiting.specs.Ended.{ended_of};
+ghost use Rattle.std.specs.Prelude.{◌≡◌, Some, false};
+ghost use Rattle.ent_admission.specs.Admission.{is_in_batch};
+ghost use Rattle.ent_room.specs.State.{StandsAs, submissions_of};
 ghost use Rattle.ent_waiting.specs.WaitingList.{waiter_of};
-ghost use Rattle.ent_waiting.specs.declared.ended.Ended.{Ended as EndedSeen};
-ghost use Rattle.ent_waiting.specs.declared.ended.Ending.{Ending as EndingSeen};
-ghost use Rattle.ent_room.specs.declared.state.State.TheVariants as states;
+ghost use Rattle.ent_waiting.specs.declared.waiter.Place.TheVariants.{Resting};
 
 use crate::room::Room;
 use ent_meetings::{Lack, MOST_LOOKS, unoffered};
@@ -32,7 +28,12 @@ pub enum State {
 
 impl Room {
     /// How one stands that rests.
-    fn resting(&self, ticket: Ticket, batches: u64) -> State {
+    fn resting(&self, ticket: Ticket, waiter: &Waiter) -> State
+        requires waits { waiter_of self.now.admission.list ticket ≡ Some waiter.now }
+        requires rests { waiter.now.place ≡ Resting }
+        requires no_batch { is_in_batch self.now.admission ticket ≡ false }
+        ensures { StandsAs self.now.admission ticket result }
+    {
         let index = self.admission.index();
         let Some(party) = index.party(ticket.number()) else {
             return State::NoMeeting;
@@ -41,23 +42,32 @@ impl Room {
         match unoffered(index, party, &mut looks) {
             Lack::Unoffered(demand) => State::Lonely { demand },
             _ if self.prospects.tried(ticket.number()).is_empty() => State::NoMeeting,
-            _ => State::Waits { batches },
+            _ => State::Waits {
+                batches: waiter.batches,
+            },
         }
     }
 
     /// How one stands that waits.
-    fn waiting(&self, ticket: Ticket, waiter: &Waiter) -> State {
+    fn waiting(&self, ticket: Ticket, waiter: &Waiter) -> State
+        requires waits { waiter_of self.now.admission.list ticket ≡ Some waiter.now }
+        ensures { StandsAs self.now.admission ticket result }
+    {
+        if self.admission.is_in_batch(ticket) {
+            return State::InBatch;
+        }
         match waiter.place {
-            Place::Queued(_) => State::Waits {
+            Place::Resting => self.resting(ticket, waiter),
+            _ => State::Waits {
                 batches: waiter.batches,
             },
-            Place::Resting => self.resting(ticket, waiter.batches),
-            Place::Chosen | Place::Submitted(_) => State::InBatch,
         }
     }
 
     /// How a ticket stands.
-    pub fn state(&self, ticket: Ticket) -> State {
+    pub fn state(&self, ticket: Ticket) -> State
+        ensures { StandsAs self.now.admission ticket result }
+    {
         if let Some(waiter) = self.admission.list().waiter(ticket) {
             return self.waiting(ticket, waiter);
         }
@@ -69,7 +79,9 @@ impl Room {
 
     /// The transactions that the script of a ticket became, in order: the epoch of each, and its number there. The
     /// present one comes in when it is over.
-    pub fn submissions(&self, ticket: Ticket) -> &[Submission] {
+    pub fn submissions(&self, ticket: Ticket) -> &[Submission]
+        ensures { result.now ≡ submissions_of self.now.admission.list ticket }
+    {
         if let Some(waiter) = self.admission.list().waiter(ticket) {
             return waiter.submissions.as_slice();
         }

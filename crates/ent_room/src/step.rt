@@ -1,15 +1,18 @@
 //! Steps.
-ghost use Rattle.std.specs.Prelude.{◌≡◌, IfOk, OnOk, false};
-ghost use Rattle.ent_admission.specs.Acts.{Advances, OnlyShifts};
+ghost use Rattle.std.specs.Prelude.{◌≡◌, IfOk, OnErr, OnOk, false, true};
+ghost use Rattle.ent_room.specs.Acts.{Advances, OnlyShifts};
 ghost use Rattle.ent_admission.specs.Admission.{IsAtRest};
+ghost use Rattle.ent_room.specs.State.{AreResting, HasNobodyIn};
+ghost use Rattle.ent_room.specs.declared.step.Stepped.TheVariants.{Idle};
 
 use crate::batch::Batch;
+use crate::law::acts_go_on;
 use crate::room::Room;
-use ent_admission::{Again, NotPlanned, acts_go_on};
+use ent_admission::{Again, NotPlanned};
 use ent_epoch::NotTurned;
 use ent_meetings::MOST_LOOKS;
 use ent_value::Refusal;
-use ent_waiting::{Rank, Ticket};
+use ent_waiting::{Rank, Station, Ticket};
 use std::alloc::AllocError;
 
 /// What a step did.
@@ -36,15 +39,12 @@ pub enum NotStepped {
 impl Room {
     /// Ends the epoch, and keeps its book.
     fn turn_by_itself(&mut self) -> Result<(), Refusal<NotStepped>>
-        requires at_rest { IsAtRest self.old }
+        requires at_rest { IsAtRest self.old.admission }
         ensures advances { Advances self.old self.new }
-        ensures at_rest { IsAtRest self.new }
+        ensures at_rest { IsAtRest self.new.admission }
     {
-        match self.admission.turn(&[]) {
-            Ok(book) => {
-                self.book = Some(book);
-                Ok(())
-            }
+        match self.turn(&[]) {
+            Ok(()) => Ok(()),
             Err(Refusal::Memory) => Err(Refusal::Memory),
             Err(Refusal::Fault(NotTurned::TooManyRows)) => {
                 Err(Refusal::Fault(NotStepped::TooManyRows))
@@ -54,16 +54,25 @@ impl Room {
         }
     }
 
+    /// Makes these the next batch. At a refusal nothing changes.
+    fn plan_once(&mut self, batch: &Batch, again: Again) -> Result<(), Refusal<NotPlanned>>
+        ensures advances { Advances self.old self.new }
+        ensures err { OnErr result (self.new ≡ self.old) }
+    {
+        let set = batch.set(self.alloc)?;
+        self.admission.plan(set, again)?;
+        Ok(())
+    }
+
     /// Whether these become the next batch. Where the core takes fewer scripts more, the epoch ends first.
     fn plan(&mut self, batch: &Batch, again: Again) -> Result<bool, Refusal<NotStepped>>
-        requires at_rest { IsAtRest self.old }
+        requires at_rest { IsAtRest self.old.admission }
         ensures advances { Advances self.old self.new }
-        ensures at_rest { IfOk result (λ planned. planned ≡ false → IsAtRest self.new) }
+        ensures at_rest { IfOk result (λ planned. planned ≡ false → IsAtRest self.new.admission) }
     {
         acts_go_on();
         'tries: for _ in 0..2 {
-            let set = batch.set(self.alloc)?;
-            match self.admission.plan(set, again) {
+            match self.plan_once(batch, again) {
                 Ok(()) => return Ok(true),
                 Err(Refusal::Memory) => return Err(Refusal::Memory),
                 Err(Refusal::Fault(NotPlanned::MustTurn)) => self.turn_by_itself()?,
@@ -85,7 +94,7 @@ impl Room {
     }
 
     /// Who waits and is in no batch leaves its queue.
-    fn rest(&mut self, ticket: Ticket) -> Result<(), AllocError>
+    pub(crate) fn rest(&mut self, ticket: Ticket) -> Result<(), AllocError>
         ensures shifts { OnlyShifts self.old self.new }
     {
         self.admission.rest(ticket)?;
@@ -158,7 +167,7 @@ impl Room {
     /// The batch that is on comes to its end.
     fn end(&mut self) -> Result<(), AllocError>
         ensures advances { Advances self.old self.new }
-        ensures at_rest { OnOk result (IsAtRest self.new) }
+        ensures at_rest { OnOk result (IsAtRest self.new.admission) }
     {
         self.admission.go_on()?;
         Ok(())
@@ -184,7 +193,7 @@ impl Room {
     /// Goes on with the batch that is on, where one is, to its end.
     fn finish(&mut self) -> Result<bool, AllocError>
         ensures advances { Advances self.old self.new }
-        ensures at_rest { OnOk result (IsAtRest self.new) }
+        ensures at_rest { OnOk result (IsAtRest self.new.admission) }
     {
         acts_go_on();
         self.end()?;
@@ -203,9 +212,9 @@ impl Room {
 
     /// Makes the run of a batch, where anybody is in it.
     fn make(&mut self, batch: Batch, again: Again) -> Result<bool, Refusal<NotStepped>>
-        requires at_rest { IsAtRest self.old }
+        requires at_rest { IsAtRest self.old.admission }
         ensures advances { Advances self.old self.new }
-        ensures at_rest { OnOk result (IsAtRest self.new) }
+        ensures at_rest { OnOk result (IsAtRest self.new.admission) }
     {
         acts_go_on();
         if batch.tickets.is_empty() {
@@ -222,9 +231,9 @@ impl Room {
 
     /// Makes a run of the ordinary scripts that have waited longest.
     fn make_ordinary(&mut self) -> Result<bool, Refusal<NotStepped>>
-        requires at_rest { IsAtRest self.old }
+        requires at_rest { IsAtRest self.old.admission }
         ensures advances { Advances self.old self.new }
-        ensures at_rest { OnOk result (IsAtRest self.new) }
+        ensures at_rest { OnOk result (IsAtRest self.new.admission) }
     {
         acts_go_on();
         let ordinary = self.choose_ordinary()?;
@@ -234,9 +243,9 @@ impl Room {
 
     /// Wakes those whom newcomers may complete, and makes a run of meetings.
     fn make_meetings(&mut self) -> Result<Stepped, Refusal<NotStepped>>
-        requires at_rest { IsAtRest self.old }
+        requires at_rest { IsAtRest self.old.admission }
         ensures advances { Advances self.old self.new }
-        ensures at_rest { OnOk result (IsAtRest self.new) }
+        ensures at_rest { OnOk result (IsAtRest self.new.admission) }
     {
         acts_go_on();
         let mut telling = MOST_LOOKS;
@@ -248,12 +257,43 @@ impl Room {
         Ok(told_of(ran, telling > 0 && choosing > 0))
     }
 
+    /// Whether nobody stands in the queue of this rank.
+    fn is_empty(&self, rank: Rank) -> bool
+        ensures { result ≡ true → HasNobodyIn self.now.admission.list rank }
+    {
+        let station = Station::Queue(rank);
+        self.admission
+            .list()
+            .first_from(station, Ticket::new(0))
+            .is_none()
+    }
+
+    /// Whether nobody stands in a queue.
+    #[tactic(auto, using(crate::proofs::Quiet::in_no_queue))]
+    fn is_quiet(&self) -> bool
+        ensures { result ≡ true → AreResting self.now.admission.list }
+    {
+        self.is_empty(Rank::Ordinary) && self.is_empty(Rank::Newcomer) && self.is_empty(Rank::Woken)
+    }
+
+    /// What a step did: as long as somebody stands in a queue there is more to look at.
+    fn told(&self, stepped: Stepped) -> Stepped
+        ensures { result ≡ Idle → AreResting self.now.admission.list }
+    {
+        if stepped == Stepped::Idle && !self.is_quiet() {
+            Stepped::Searched
+        } else {
+            stepped
+        }
+    }
+
     /// Makes at most two runs: first of the ordinary scripts that wait, then of meetings. Each script is submitted for
     /// one run, and each run is made to its end; who has no fate of its own then waits again, or gives up. Where
-    /// memory runs out what was done stands, and the next step goes on there.
+    /// memory runs out what was done stands, and the next step goes on there. After an idle step all who wait rest.
     pub fn step(&mut self) -> Result<Stepped, Refusal<NotStepped>>
         ensures advances { Advances self.old self.new }
-        ensures at_rest { OnOk result (IsAtRest self.new) }
+        ensures at_rest { OnOk result (IsAtRest self.new.admission) }
+        ensures idle { IfOk result (λ stepped. stepped ≡ Idle → AreResting self.new.admission.list) }
     {
         acts_go_on();
         if self.finish()? {
@@ -261,7 +301,7 @@ impl Room {
         }
         let first = self.make_ordinary()?;
         let second = self.make_meetings()?;
-        Ok(both(first, second))
+        Ok(self.told(both(first, second)))
     }
 }
 

@@ -1,4 +1,7 @@
 //! Which tables a script reads in its entangled statements, and which it may change.
+ghost use Rattle.std.specs.Prelude.{◌≡◌};
+ghost use Rattle.ent_room.specs.Putting.{is_ordinary};
+
 use ent_tree::{Condition, Create, Entangled, Script, Select, Statement};
 use ent_value::Name;
 use std::alloc::{AllocError, Global};
@@ -79,7 +82,9 @@ pub(crate) fn add_changed(
 }
 
 /// Whether a script has no entangled statement.
-pub(crate) fn is_ordinary(script: &Script) -> bool {
+pub(crate) fn is_ordinary(script: &Script) -> bool
+    ensures { result ≡ is_ordinary script.now }
+{
     script
         .statements
         .as_slice()

@@ -1,11 +1,11 @@
 //! Who rests, and who is woken.
 ghost use Rattle.std.specs.Prelude.{◌≤◌};
-ghost use Rattle.ent_admission.specs.Acts.{OnlyShifts};
+ghost use Rattle.ent_room.specs.Acts.{OnlyShifts};
 
+use crate::law::acts_go_on;
 use crate::prospects::Announced;
 use crate::room::Room;
 use crate::tables::tables_read;
-use ent_admission::acts_go_on;
 use ent_meetings::{Index, Next};
 use ent_waiting::{Place, Rank, Ticket};
 use std::alloc::AllocError;
@@ -39,6 +39,14 @@ impl Room {
         }
     }
 
+    /// Who waits and is in no batch comes into the queue of this rank.
+    fn queue(&mut self, ticket: Ticket, rank: Rank) -> Result<(), AllocError>
+        ensures shifts { OnlyShifts self.old self.new }
+    {
+        self.admission.queue(ticket, rank)?;
+        Ok(())
+    }
+
     /// Somebody who rests comes into a queue.
     fn wake(&mut self, ticket: u64, rank: Rank) -> Result<(), AllocError>
         ensures shifts { OnlyShifts self.old self.new }
@@ -50,7 +58,7 @@ impl Room {
             None => false,
         };
         if rests {
-            self.admission.queue(own, rank)?;
+            self.queue(own, rank)?;
         }
         Ok(())
     }

@@ -1,5 +1,5 @@
 use Rattle.std.proofs.Common.{◌-◌, ◌^◌}
-use Rattle.ent_admission.specs.Acts.{OnlyShifts}
+use Rattle.ent_room.specs.Acts.{OnlyShifts}
 use Rattle.ent_room.proofs.room.Room.choose_from.Given as goal
 
 abbrev pub decreases-roots : goal.decreases-roots

@@ -1,4 +1,4 @@
-use Rattle.ent_admission.specs.Acts.{OnlyShifts}
+use Rattle.ent_room.specs.Acts.{OnlyShifts}
 use Rattle.ent_room.proofs.room.Room.rest_all.Given as goal
 
 abbrev pub invariant-loop-ticket : goal.invariant-loop-ticket

@@ -1,4 +1,4 @@
-use Rattle.ent_admission.specs.Acts.{OnlyShifts}
+use Rattle.ent_room.specs.Acts.{OnlyShifts}
 use Rattle.ent_room.proofs.room.Room.spread.Given as goal
 
 abbrev pub decreases-loop-looks : goal.decreases-loop-looks
