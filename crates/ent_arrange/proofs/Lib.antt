@@ -1,6 +1,5 @@
 pub mod Chosen
 pub mod Formed
-pub mod Free
 pub mod Numbers
 pub mod Picked
 pub mod Reread

@@ -1,3 +1,4 @@
 pub mod Arranged
 pub mod Cut
+pub mod Doubts
 pub mod Written

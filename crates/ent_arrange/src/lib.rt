@@ -9,6 +9,7 @@ mod again;
 mod arranging;
 mod blocks;
 mod cut;
+mod doubts;
 mod meeting;
 mod order;
 mod sizes;

@@ -79,7 +79,7 @@ impl fmt::Display for Told<'_> {
 enum Lack {
     /// Nobody may offer it who is in no meeting.
     Unoffered(usize),
-    /// Who may offer it is lonely too.
+    /// Another one who may offer it is lonely too.
     InVain(usize),
 }
 
@@ -95,7 +95,7 @@ impl Lack {
             Some(place) => Some(Lack::Unoffered(place)),
             None => demands
                 .iter()
-                .position(|demand| !may_offer(unmet, demand))
+                .position(|demand| !may_offer(unmet, demand) && !member.party.offers(demand))
                 .map(Lack::InVain),
         }
     }

@@ -1,218 +1,220 @@
 //! Meetings of those who wait.
+ghost use Rattle.std.specs.Prelude.{◌≤◌, OnOk};
+ghost use Rattle.ent_meetings.specs.Waiting.{Waits};
+ghost use Rattle.ent_arrange.specs.Doubts.{work_of};
+
+use crate::doubts::Doubts;
 use crate::meeting::{Meeting, Member};
 use ent_group::MOST_MEMBERS;
-use ent_meetings::{Index, Next};
-use ent_parties::{Party, Pattern};
+use ent_meetings::{Found, Index, Search, widen};
+use ent_parties::Party;
 use ent_tree::Script;
 use std::alloc::{AllocError, Global};
 
-/// How many of those who wait are looked at for one meeting, beside the first who may meet a demand.
+/// How many of those who wait are looked at for one script: fewer than one call may look at, since there are thousands
+/// of scripts.
 const MOST_LOOKS: usize = 256;
+
+/// How much a search weighs that stops before it knows. One that ends, and finds no meeting, weighs 1: its script is
+/// left out, and isn't come across again.
+const WEIGHT_OF_A_STOP: usize = 16;
+
+/// Once searches in vain weigh so much, as many are looked at for one script as a meeting has members: enough where each
+/// demand is met by the first who may.
+const MANY_IN_VAIN: usize = 16 * WEIGHT_OF_A_STOP;
+
+/// Once they weigh so much, [`FEWEST_LOOKS`] are.
+const TOO_MANY_IN_VAIN: usize = 512 * WEIGHT_OF_A_STOP;
+
+/// How many are looked at for one script at least.
+const FEWEST_LOOKS: usize = 16;
 
 /// The scripts that aren't in a meeting yet.
 #[derive(Drop)]
 pub(crate) struct Waiting {
     /// Those who may get into one. A ticket is the script's place in the input.
     index: Index,
-    /// Those who demand something that nobody may offer who may get into one.
-    lonely: Vec<Member>,
-}
-
-/// What comes of it when the demands of a script are met one after the other.
-#[derive(Drop)]
-enum Closure {
-    /// These meet each other's demands.
-    Closed(Vec<u64>),
-    /// This one demands what nobody may offer who waits.
-    Lacks(u64),
-    /// More scripts would be needed than a run has, or more looks than there are.
-    Stopped,
+    /// Those who get into none.
+    left: Vec<Member>,
+    /// Those who may get into one, and may demand what nobody may offer of these.
+    doubts: Doubts,
+    /// How much the searches weigh that found no meeting.
+    vain: usize,
 }
 
 impl Waiting {
-    /// All scripts of an input.
-    pub(crate) fn of(alloc: Global, scripts: &[Script]) -> Result<Self, AllocError> {
-        let mut index = Index::new(alloc);
-        for (place, script) in scripts.iter().enumerate() {
-            index.insert(place as u64, Party::of(alloc, script)?)?;
+    /// Nobody waits.
+    fn new(alloc: Global) -> Self {
+        Waiting {
+            index: Index::new(alloc),
+            left: Vec::new(alloc),
+            doubts: Doubts::new(alloc),
+            vain: 0,
         }
-        Ok(Waiting {
-            index,
-            lonely: Vec::new(alloc),
-        })
     }
 
-    /// The meeting of a script, if it has one with those who wait: it and those in it wait no more.
+    /// All scripts of an input.
+    pub(crate) fn of(alloc: Global, scripts: &[Script]) -> Result<Self, AllocError> {
+        let mut waiting = Waiting::new(alloc);
+        for (place, script) in scripts.iter().enumerate() {
+            let party = Party::of(alloc, script)?;
+            waiting.add(Member {
+                script: place,
+                party,
+            })?;
+        }
+        Ok(waiting)
+    }
+
+    /// One more waits, unless it does already.
+    fn add(&mut self, member: Member) -> Result<(), AllocError> {
+        let ticket = member.script as u64;
+        if self.index.contains(ticket) {
+            return Ok(());
+        }
+        self.index.insert(ticket, member.party)?;
+        self.doubts.add(ticket)
+    }
+
+    /// The meeting of a script, if one is found with those who wait: it and those in it wait no more.
     ///
-    /// Each demand is met by who is in the meeting already, else by the first who may offer it. Then those come in
-    /// whose demands are met so. Whoever demands what nobody may offer is lonely, and nobody waits for it any more.
+    /// It is the first that a search finds: one in which each demand is met by one offer alone, if there is one. Then
+    /// those come to it whose demands it meets. A script that stands in no meeting waits no more, since nobody has one
+    /// with it.
     pub(crate) fn meet(
         &mut self,
         alloc: Global,
         script: usize,
     ) -> Result<Option<Meeting>, AllocError> {
-        for _ in 0..=self.index.len() {
-            if !self.index.contains(script as u64) {
-                return Ok(None);
-            }
-            match self.closure(alloc, script as u64)? {
-                Closure::Closed(mut tickets) => {
-                    self.widen(&mut tickets)?;
-                    tickets.sort_unstable();
-                    return Ok(Some(self.take(alloc, tickets.as_slice())?));
-                }
-                Closure::Lacks(ticket) => self.leave(ticket)?,
-                Closure::Stopped => return Ok(None),
-            }
+        self.part()?;
+        let root = script as u64;
+        if !self.index.contains(root) {
+            return Ok(None);
         }
+        let vain = match self.search(alloc, root)? {
+            Found::Meeting(tickets) => return Ok(Some(self.take(alloc, tickets.as_slice())?)),
+            Found::Stopped(_) => WEIGHT_OF_A_STOP,
+            Found::Lonely | Found::Nobody => {
+                self.leave(root)?;
+                1
+            }
+        };
+        self.vain = self.vain.saturating_add(vain);
         Ok(None)
     }
 
-    /// Those who are in no meeting: the lonely ones, and those who still wait, each in order.
+    /// How many may be looked at for one script: the fewer, the more searches were in vain.
+    fn most_looks(&self) -> usize {
+        if self.vain < MANY_IN_VAIN {
+            MOST_LOOKS
+        } else if self.vain < TOO_MANY_IN_VAIN {
+            MOST_MEMBERS
+        } else {
+            FEWEST_LOOKS
+        }
+    }
+
+    /// The first meeting of a script that a search finds, with those whose demands it meets.
+    fn search(&self, alloc: Global, root: u64) -> Result<Found, AllocError>
+        requires waits { Waits self.now.index root }
+    {
+        let mut looks = self.most_looks();
+        let mut search = Search::new(alloc, &self.index, root)?;
+        match search.next(alloc, &self.index, &mut looks)? {
+            Found::Meeting(tickets) => {
+                let wider = widen(alloc, &self.index, tickets, &mut looks)?;
+                Ok(Found::Meeting(wider))
+            }
+            other => Ok(other),
+        }
+    }
+
+    /// Those who are in no meeting: the lonely ones, and the others, each in order. Whoever stands in no set of these in
+    /// which each demand may be met is lonely, as far as that was looked at.
     pub(crate) fn left(
         self,
         alloc: Global,
         scripts: usize,
     ) -> Result<(Vec<Member>, Vec<Member>), AllocError> {
-        let Waiting {
-            mut index,
-            mut lonely,
-        } = self;
-        lonely.sort_by_key(|member| member.script)?;
-        let mut unmet = Vec::new(alloc);
-        for script in 0..scripts {
-            if let Some(party) = index.remove(script as u64) {
-                unmet.push(Member { script, party })?;
-            }
+        let Waiting { index, left, .. } = self;
+        let mut rest = Waiting::new(alloc);
+        for member in left {
+            rest.add(member)?;
         }
-        Ok((lonely, unmet))
+        for member in members(alloc, index, scripts)? {
+            rest.add(member)?;
+        }
+        rest.part()?;
+        let Waiting {
+            index,
+            left: mut lonely,
+            ..
+        } = rest;
+        lonely.sort_by_key(|member| member.script)?;
+        Ok((lonely, members(alloc, index, scripts)?))
+    }
+
+    /// Whoever demands what nobody may offer who waits gets into no meeting, and so on.
+    fn part(&mut self) -> Result<(), AllocError> {
+        while let Some(ticket) = self.doubts.pop() {
+            self.part_from(ticket)?;
+        }
+        Ok(())
+    }
+
+    /// Who waits under a ticket gets into no meeting if it demands what nobody may offer who waits.
+    fn part_from(&mut self, ticket: u64) -> Result<(), AllocError>
+        ensures work { OnOk result (work_of self.new.doubts ≤ work_of self.old.doubts) }
+    {
+        if self.doubts.has_no_hope(&self.index, ticket) {
+            self.leave(ticket)?;
+        }
+        Ok(())
     }
 
     /// These wait no more.
     fn take(&mut self, alloc: Global, tickets: &[u64]) -> Result<Meeting, AllocError> {
         let mut members = Vec::with_capacity(alloc, tickets.len())?;
         for ticket in tickets {
-            if let Some(party) = self.index.remove(*ticket) {
-                let script = *ticket as usize;
-                members.push(Member { script, party })?;
+            if let Some(member) = self.remove(*ticket)? {
+                members.push(member)?;
             }
         }
         Ok(Meeting { members })
     }
 
-    /// This one is lonely.
-    fn leave(&mut self, ticket: u64) -> Result<(), AllocError> {
-        if let Some(party) = self.index.remove(ticket) {
-            let script = ticket as usize;
-            self.lonely.push(Member { script, party })?;
+    /// This one gets into no meeting.
+    fn leave(&mut self, ticket: u64) -> Result<(), AllocError>
+        ensures work { OnOk result (work_of self.new.doubts ≤ work_of self.old.doubts) }
+    {
+        if let Some(member) = self.remove(ticket)? {
+            self.left.push(member)?;
         }
         Ok(())
     }
 
-    fn offers_of(&self, ticket: u64) -> &[Pattern] {
-        match self.index.party(ticket) {
-            Some(party) => party.offers.as_slice(),
-            None => &[],
+    /// This one waits no more, and those get doubtful who demand what it offers.
+    fn remove(&mut self, ticket: u64) -> Result<Option<Member>, AllocError>
+        ensures work { OnOk result (work_of self.new.doubts ≤ work_of self.old.doubts) }
+    {
+        let Some(party) = self.index.remove(ticket) else {
+            return Ok(None);
+        };
+        for offer in party.offers.as_slice() {
+            self.doubts.add_demanders(&self.index, offer)?;
+        }
+        let script = ticket as usize;
+        Ok(Some(Member { script, party }))
+    }
+}
+
+/// Those of an index, of so many scripts, in order.
+fn members(alloc: Global, mut index: Index, scripts: usize) -> Result<Vec<Member>, AllocError> {
+    let mut members = Vec::new(alloc);
+    for script in 0..scripts {
+        if let Some(party) = index.remove(script as u64) {
+            members.push(Member { script, party })?;
         }
     }
-
-    fn demands_of(&self, ticket: u64) -> &[Pattern] {
-        match self.index.party(ticket) {
-            Some(party) => party.demands.as_slice(),
-            None => &[],
-        }
-    }
-
-    /// In how many ways who waits under a ticket may meet a demand.
-    fn ways(&self, ticket: u64, demand: &Pattern) -> usize {
-        self.offers_of(ticket)
-            .iter()
-            .filter(|offer| demand.may_meet(offer))
-            .count()
-    }
-
-    /// The script with those who meet its demands, and their demands, and so on.
-    fn closure(&self, alloc: Global, root: u64) -> Result<Closure, AllocError> {
-        let mut looks = MOST_LOOKS;
-        let mut tickets = vec![in alloc; root]?;
-        for at in 0..MOST_MEMBERS {
-            let Some(ticket) = tickets.get(at).copied() else {
-                break;
-            };
-            for demand in self.demands_of(ticket) {
-                if tickets.iter().any(|own| self.ways(*own, demand) > 0) {
-                    continue;
-                }
-                match self.index.next_offerer(demand, None, &mut looks) {
-                    Next::Nobody => return Ok(Closure::Lacks(ticket)),
-                    Next::Found(other) if tickets.len() < MOST_MEMBERS => tickets.push(other)?,
-                    Next::Found(_) | Next::Stopped(_) => return Ok(Closure::Stopped),
-                }
-            }
-        }
-        Ok(Closure::Closed(tickets))
-    }
-
-    /// Those come in who wait and whose demands are met then, as long as a run has room for them.
-    fn widen(&self, tickets: &mut Vec<u64>) -> Result<(), AllocError> {
-        let mut looks = MOST_LOOKS;
-        for at in 0..MOST_MEMBERS {
-            let Some(ticket) = tickets.get(at).copied() else {
-                break;
-            };
-            for offer in self.offers_of(ticket) {
-                self.let_in(tickets, offer, &mut looks)?;
-            }
-        }
-        Ok(())
-    }
-
-    /// Those come in who may, of those who demand what an offer may meet.
-    fn let_in(
-        &self,
-        tickets: &mut Vec<u64>,
-        offer: &Pattern,
-        looks: &mut usize,
-    ) -> Result<(), AllocError> {
-        let mut last = None;
-        for _ in 0..MOST_LOOKS {
-            match self.index.next_demander(offer, last, looks) {
-                Next::Found(fan) => {
-                    if tickets.len() < MOST_MEMBERS && self.may_come(tickets.as_slice(), fan) {
-                        tickets.push(fan)?;
-                    }
-                    last = Some(fan);
-                }
-                Next::Nobody | Next::Stopped(_) => break,
-            }
-        }
-        Ok(())
-    }
-
-    /// Whether who waits under a ticket isn't among these, each of its demands is met by one offer of them and itself,
-    /// and it offers nothing that a demand of them gets from another.
-    fn may_come(&self, tickets: &[u64], fan: u64) -> bool {
-        !tickets.contains(&fan)
-            && self
-                .demands_of(fan)
-                .iter()
-                .all(|demand| self.is_met_once(tickets, fan, demand))
-            && !tickets.iter().any(|own| self.may_serve(fan, *own))
-    }
-
-    /// Whether one offer alone of these and of who comes may meet a demand.
-    fn is_met_once(&self, tickets: &[u64], fan: u64, demand: &Pattern) -> bool {
-        let own = self.ways(fan, demand);
-        let ways = tickets.iter().fold(own, |ways, ticket| {
-            ways.saturating_add(self.ways(*ticket, demand))
-        });
-        ways == 1
-    }
-
-    /// Whether who waits under a ticket may meet a demand of another one.
-    fn may_serve(&self, ticket: u64, other: u64) -> bool {
-        self.demands_of(other)
-            .iter()
-            .any(|demand| self.ways(ticket, demand) > 0)
-    }
+    Ok(members)
 }
