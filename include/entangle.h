@@ -1,5 +1,5 @@
-/* Entangle, for C: the report of an input, the explanation of its fault, the check of a report, and managers, which
- * keep tables between calls.
+/* Entangle, for C: the report of an input, the explanation of its fault, the check of a report; rooms, in which scripts
+ * wait until those come whom they need; and managers, which keep tables between calls and make single runs.
  *
  * These are the calls of the static library libent_c.a, of the crate ent_c; docs/EMBEDDING.md says how to build and
  * link it. docs/LANGUAGE.md has the language of inputs, docs/REPORTS.md the reports, docs/ERRORS.md faults and
@@ -17,29 +17,32 @@
  * The library can't test these conditions, which hold for every call:
  *
  *   - `input`, `script`, `name` and `report` point to `length` bytes that can be read, and `buffer` to `capacity` bytes
- *     that can be written; `told`, `number`, `reply` and `position` each point to one object of its type, aligned as C
- *     requires. During the call nothing else reads or writes what the call writes, nothing writes what it reads, and
- *     none of these overlap. Length and capacity are below 2 to the power of 63.
+ *     that can be written; `told`, `number` and the others that are no text each point to one object of their type,
+ *     aligned as C requires. During the call nothing else reads or writes what the call writes, nothing writes what it
+ *     reads, and none of these overlap. Length and capacity are below 2 to the power of 63.
  *   - malloc, realloc and free come from one allocator, and malloc aligns as C requires.
  *   - The call isn't made from a signal handler, nor from a forked child of a process that has threads.
  *   - The thread that makes the call has enough stack for it: ENTANGLE_STACK_BYTES are enough.
  *   - The library is the one of this header: a program that loads it as a shared object asks
  *     entangle_is_of_this_header() first.
  *
- * Calls without a manager keep nothing and free what they allocate. Any number of threads may make them concurrently.
+ * Calls without a room or a manager keep nothing and free what they allocate. Any number of threads may make them
+ * concurrently.
  *
- * The caller keeps a manager as an `entangle_manager *` in one place, null at first. Each call of a manager takes the
- * address of that place. These conditions are added:
+ * The caller keeps a room as an `entangle_room *` in one place, null at first, and so it keeps values as an
+ * `entangle_values *`, and a manager as an `entangle_manager *`. Each of their calls takes the address of that place.
+ * These conditions are added:
  *
  *   - The pointer is null, or a call of this header wrote it there. The caller neither copies nor dereferences it, and
  *     its place doesn't overlap what a call writes.
- *   - One manager takes one call at a time, from any thread; if threads share it, order their calls with a lock.
- *     Managers are independent of each other.
- *   - Give what entangle_open opened to entangle_free in the end, or its memory is lost. If a call says that memory ran
- *     out, the manager is still there.
+ *   - One room takes one call at a time, from any thread, and so do values and a manager; if threads share them, order
+ *     their calls with a lock. They are independent of each other.
+ *   - Give what a call opened to entangle_room_free, entangle_values_free or entangle_free in the end, or its memory is
+ *     lost. If a call says that memory ran out, the room, the values or the manager is still there.
  *
- * A manager is open (by entangle_open or entangle_renew), closed (by entangle_close) or null. A call that requires
- * another one of these states answers ENTANGLE_MISUSED, and changes nothing.
+ * A room is open (by entangle_room_open) or null. A manager is open (by entangle_open or entangle_renew), closed (by
+ * entangle_close) or null. A call that requires another one of these states answers ENTANGLE_MISUSED, and changes
+ * nothing.
  */
 #ifndef ENTANGLE_H
 #define ENTANGLE_H
@@ -65,8 +68,8 @@ enum entangle_status {
                                    says yes */
     ENTANGLE_REFUSED = 1,       /* the input, the script or the call is refused; the check says no, or the report is too
                                    long */
-    ENTANGLE_MISUSED = 2,       /* a pointer is null, the version of a report is neither 1 nor 2, there is no such move,
-                                   or the manager isn't in the state that the call requires */
+    ENTANGLE_MISUSED = 2,       /* a pointer is null, the version of a report is neither 1 nor 2, there is no such move
+                                   or stay, or the room or the manager isn't in the state that the call requires */
     ENTANGLE_OUT_OF_MEMORY = 3, /* E900 */
     ENTANGLE_UNREADABLE = 4     /* no call answers this, since bytes in memory can always be read */
 };
@@ -81,6 +84,82 @@ struct entangle_told {
     bool has_place; /* whether the fault has a place */
 };
 typedef struct entangle_told entangle_told;
+
+/* ---- what the calls of rooms take and tell */
+
+/* A room, and values for host variables. C code doesn't see what they have. */
+typedef struct entangle_room entangle_room;
+typedef struct entangle_values entangle_values;
+
+struct entangle_limits {
+    uint64_t most_waiters; /* how many scripts may wait */
+    uint64_t most_ended;   /* of how many tickets that ended it is kept how they ended: the last so many */
+};
+typedef struct entangle_limits entangle_limits;
+
+/* For how long a script waits, where it is neither of these: in how many batches that count, 1 to 1,000,000. */
+#define ENTANGLE_AS_WRITTEN (-1)    /* in as many as its WITHIN says */
+#define ENTANGLE_UNTIL_WITHDRAWN 0
+
+/* Why a call of a room, or of values, is refused. */
+enum entangle_room_refusal {
+    ENTANGLE_ROOM_FAULTY = 1,          /* the text has a fault, which is told */
+    ENTANGLE_ROOM_FULL,                /* as many wait as there may be, or no ticket is left */
+    ENTANGLE_ROOM_BOUND_LEAST,         /* the number is -9223372036854775808, which no script can spell */
+    ENTANGLE_ROOM_BOUND_TOO_LONG,      /* the text has more than 255 bytes */
+    ENTANGLE_ROOM_BOUND_NOT_UTF8,      /* the text isn't UTF-8 */
+    ENTANGLE_ROOM_BOUND_CONTROL,       /* the text has a control character */
+    ENTANGLE_ROOM_BOUND_TWICE,         /* the name of an earlier value is the same; this and the two below tell in
+                                          `told->offset` which value it is, from 0, and no place */
+    ENTANGLE_ROOM_BOUND_SET_BY_SCRIPT, /* the script itself gives the host variable a value */
+    ENTANGLE_ROOM_BOUND_UNUSED,        /* the script doesn't use the host variable */
+    ENTANGLE_ROOM_BOUND_NO_NAME,       /* the name is no word of the language */
+    ENTANGLE_ROOM_USED,                /* the ticket can't come in again */
+    ENTANGLE_ROOM_ABSENT,              /* nobody waits under the ticket; no table has the name (E401) */
+    ENTANGLE_ROOM_BUSY,                /* the ticket is in a batch that isn't over; a batch is on */
+    ENTANGLE_ROOM_TOO_MANY_ROWS,       /* E407: the tables that aren't drained have more than 65,536 rows together */
+    ENTANGLE_ROOM_NO_NUMBER            /* the epoch has the greatest number that there is */
+};
+
+/* What a step did. */
+enum entangle_step {
+    ENTANGLE_IDLE = 1, /* there was nothing to do */
+    ENTANGLE_SEARCHED, /* those who wait were looked through, and no run was made; there is more to look at */
+    ENTANGLE_RAN       /* at least one run was made */
+};
+
+/* How a ticket stands. */
+enum entangle_ticket_kind {
+    ENTANGLE_TICKET_UNKNOWN = 0, /* never given out, or how it ended isn't kept any more */
+    ENTANGLE_TICKET_WAITS,
+    ENTANGLE_TICKET_LONELY,      /* it waits, and nobody who waits may offer what it demands */
+    ENTANGLE_TICKET_NO_MEETING,  /* it waits, and no meeting of it was found among those who wait */
+    ENTANGLE_TICKET_IN_BATCH,
+    ENTANGLE_TICKET_COMMITTED,   /* this one and those below are how it ended */
+    ENTANGLE_TICKET_ROLLED_BACK,
+    ENTANGLE_TICKET_FAILED,
+    ENTANGLE_TICKET_GAVE_UP,
+    ENTANGLE_TICKET_WITHDRAWN
+};
+
+struct entangle_ticket_state {
+    uint64_t batches; /* in how many batches that count it was, if it WAITS; else 0 */
+    uint64_t demand;  /* which of its demands nobody who waits may offer, from 0, if it is LONELY; else 0 */
+    uint64_t epoch;   /* in which epoch it COMMITTED; else 0 */
+    uint64_t number;  /* its commit number in that epoch, from 1, if it COMMITTED; else 0 */
+    uint32_t kind;    /* an enum entangle_ticket_kind */
+    uint32_t failure; /* why it FAILED: 1 or 2, for F1 or F2 of docs/REPORTS.md; else 0 */
+};
+typedef struct entangle_ticket_state entangle_ticket_state;
+
+/* The transaction that a script became once. */
+struct entangle_submission {
+    uint64_t epoch;
+    uint64_t tx; /* its number in the report of that epoch */
+};
+typedef struct entangle_submission entangle_submission;
+
+/* ---- what the calls of managers take and tell */
 
 /* The state of a transaction. */
 enum entangle_kind {
@@ -151,6 +230,11 @@ ENTANGLE_ASSERT(offsetof(entangle_told, code) == 32 && offsetof(entangle_told, h
 ENTANGLE_ASSERT(sizeof(entangle_position) == 24, "entangle_position is laid out otherwise than in the library");
 ENTANGLE_ASSERT(offsetof(entangle_position, kind) == 16 && offsetof(entangle_position, failure) == 20,
                 "entangle_position is laid out otherwise than in the library");
+ENTANGLE_ASSERT(sizeof(entangle_limits) == 16 && sizeof(entangle_submission) == 16,
+                "entangle_limits or entangle_submission is laid out otherwise than in the library");
+ENTANGLE_ASSERT(sizeof(entangle_ticket_state) == 40 && offsetof(entangle_ticket_state, kind) == 32 &&
+                    offsetof(entangle_ticket_state, failure) == 36,
+                "entangle_ticket_state is laid out otherwise than in the library");
 #undef ENTANGLE_ASSERT
 #endif
 
@@ -159,6 +243,9 @@ ENTANGLE_ASSERT(offsetof(entangle_position, kind) == 16 && offsetof(entangle_pos
 int32_t ent_c_version(uint8_t *buffer, size_t capacity, entangle_told *told);
 size_t ent_c_size_of_told(void);
 size_t ent_c_size_of_position(void);
+size_t ent_c_size_of_limits(void);
+size_t ent_c_size_of_ticket_state(void);
+size_t ent_c_size_of_submission(void);
 int32_t ent_c_report(const uint8_t *input, size_t length, uint32_t version, uint8_t *buffer, size_t capacity,
                      entangle_told *told);
 int32_t ent_c_explain(const uint8_t *input, size_t length, uint8_t *buffer, size_t capacity, entangle_told *told);
@@ -181,6 +268,35 @@ int32_t ent_c_renew(entangle_manager **manager);
 int32_t ent_c_closed_report(entangle_manager **manager, uint32_t version, uint8_t *buffer, size_t capacity,
                             entangle_told *told);
 void ent_c_free(entangle_manager **manager);
+int32_t ent_c_values_int(entangle_values **values, const uint8_t *name, size_t name_length, int64_t number,
+                         uint32_t *refusal);
+int32_t ent_c_values_text(entangle_values **values, const uint8_t *name, size_t name_length, const uint8_t *text,
+                          size_t length, uint32_t *refusal);
+void ent_c_values_free(entangle_values **values);
+int32_t ent_c_room_open(entangle_room **room, const uint8_t *input, size_t length, uint64_t epoch, uint64_t next,
+                        const entangle_limits *limits, uint32_t *refusal, entangle_told *told);
+int32_t ent_c_room_put(entangle_room **room, const uint8_t *script, size_t length, entangle_values **values,
+                       int64_t stay, uint64_t *ticket, uint32_t *refusal, entangle_told *told);
+int32_t ent_c_room_explain(entangle_room **room, const uint8_t *script, size_t length, uint8_t *buffer, size_t capacity,
+                           entangle_told *told);
+int32_t ent_c_room_restore(entangle_room **room, uint64_t ticket, const uint8_t *script, size_t length,
+                           entangle_values **values, int64_t stay, uint64_t batches, uint32_t *refusal,
+                           entangle_told *told);
+int32_t ent_c_room_withdraw(entangle_room **room, uint64_t ticket, uint32_t *refusal);
+int32_t ent_c_room_step(entangle_room **room, uint32_t *step, uint32_t *refusal);
+int32_t ent_c_room_state(entangle_room **room, uint64_t ticket, entangle_ticket_state *state);
+int32_t ent_c_room_why(entangle_room **room, uint64_t ticket, uint8_t *buffer, size_t capacity, entangle_told *told);
+int32_t ent_c_room_waiting(entangle_room **room, uint64_t from, uint64_t *ticket);
+int32_t ent_c_room_ended(entangle_room **room, uint64_t back, uint64_t *ticket);
+int32_t ent_c_room_submission(entangle_room **room, uint64_t ticket, uint64_t place, entangle_submission *submission);
+int32_t ent_c_room_table(entangle_room **room, const uint8_t *name, size_t length, uint8_t *buffer, size_t capacity,
+                         entangle_told *told);
+int32_t ent_c_room_epoch(entangle_room **room, uint64_t *epoch);
+int32_t ent_c_room_turn(entangle_room **room, const uint8_t *drained, size_t length, uint32_t *refusal,
+                        entangle_told *told);
+int32_t ent_c_room_report(entangle_room **room, uint32_t version, uint8_t *buffer, size_t capacity, uint64_t *epoch,
+                          entangle_told *told);
+void ent_c_room_free(entangle_room **room);
 
 /* Whether a pointer is null that must not be. */
 static inline bool entangle_is_misused(const void *text, size_t length, const void *buffer, size_t capacity,
@@ -204,6 +320,9 @@ static inline bool entangle_is_of_this_header(void) {
     char text[sizeof ENTANGLE_VERSION];
     entangle_told told;
     if (ent_c_size_of_told() != sizeof told || ent_c_size_of_position() != sizeof(entangle_position)) return false;
+    if (ent_c_size_of_limits() != sizeof(entangle_limits)) return false;
+    if (ent_c_size_of_ticket_state() != sizeof(entangle_ticket_state)) return false;
+    if (ent_c_size_of_submission() != sizeof(entangle_submission)) return false;
     if (entangle_version(text, sizeof text, &told) != ENTANGLE_DONE || told.needed < sizeof text - 1) return false;
     return !memcmp(text, ENTANGLE_VERSION, sizeof text - 1) &&
            (told.needed == sizeof text - 1 || text[sizeof text - 1] == ',');
@@ -247,6 +366,214 @@ static inline int32_t entangle_check(const void *report, size_t length, void *bu
     if (entangle_is_misused(report, length, buffer, capacity, told)) return ENTANGLE_MISUSED;
     return ent_c_check(report ? (const uint8_t *)report : &none, length, buffer ? (uint8_t *)buffer : &none, capacity,
                        told);
+}
+
+/* ---- rooms
+ *
+ * docs/ROOM.md says what a room is, and in which order those who wait are served. Each call that has a `refusal` writes
+ * it, unless it answers ENTANGLE_MISUSED: an enum entangle_room_refusal if it answers ENTANGLE_REFUSED, else 0. A
+ * refused call has changed nothing, nor has one for which memory ran out, but for a step. */
+
+/* Adds a number to values, for the host variable of this name, which goes without the `@`. If the pointer is null, the
+ * values begin with it.
+ *
+ * ENTANGLE_DONE: it is added. ENTANGLE_REFUSED: the number is the least, or the name is no word (of both: the first).
+ * ENTANGLE_OUT_OF_MEMORY. In both cases the values are as they were, and a null pointer is null. */
+static inline int32_t entangle_values_int(entangle_values **values, const void *name, size_t name_length,
+                                          int64_t number, uint32_t *refusal) {
+    uint8_t none = 0;
+    if (!values || entangle_is_misused(name, name_length, &none, 0, refusal)) return ENTANGLE_MISUSED;
+    return ent_c_values_int(values, name ? (const uint8_t *)name : &none, name_length, number, refusal);
+}
+
+/* The same for a text of UTF-8, of at most 255 bytes and without control characters. */
+static inline int32_t entangle_values_text(entangle_values **values, const void *name, size_t name_length,
+                                           const void *text, size_t length, uint32_t *refusal) {
+    uint8_t none = 0;
+    if (!values || entangle_is_misused(name, name_length, text, length, refusal)) return ENTANGLE_MISUSED;
+    return ent_c_values_text(values, name ? (const uint8_t *)name : &none, name_length,
+                             text ? (const uint8_t *)text : &none, length, refusal);
+}
+
+/* Frees values, and sets the pointer to null; if the pointer is null, it does nothing. */
+static inline void entangle_values_free(entangle_values **values) {
+    if (values) ent_c_values_free(values);
+}
+
+/* Opens a room over an input: makes its tables, loads their rows, and puts its scripts, if it has any, in order; each
+ * waits for as many batches as its WITHIN says. The first epoch has the number `epoch`, and the first script the ticket
+ * `next`: tickets below it are of an earlier process, and may come back by entangle_room_restore. The pointer has to be
+ * null.
+ *
+ * ENTANGLE_DONE: the room is open. ENTANGLE_REFUSED, ENTANGLE_OUT_OF_MEMORY: the pointer is still null, and the fault
+ * is told; or more scripts stand there than may wait (FULL). ENTANGLE_MISUSED: the pointer wasn't null, and stays as
+ * it was. */
+static inline int32_t entangle_room_open(entangle_room **room, const void *input, size_t length, uint64_t epoch,
+                                         uint64_t next, const entangle_limits *limits, uint32_t *refusal,
+                                         entangle_told *told) {
+    uint8_t none = 0;
+    if (!room || !limits || !refusal || entangle_is_misused(input, length, &none, 0, told)) return ENTANGLE_MISUSED;
+    return ent_c_room_open(room, input ? (const uint8_t *)input : &none, length, epoch, next, limits, refusal, told);
+}
+
+/* Puts a script into a room: the text of one script, from its BEGIN TRANSACTION on, and nothing else. It waits from
+ * then on. In the places of host variables stand the values that are bound to their names; `values` is the address of
+ * a null pointer if there are none, and the values stay as they are. `stay` is ENTANGLE_AS_WRITTEN,
+ * ENTANGLE_UNTIL_WITHDRAWN, or in how many batches that count the script takes part before it gives up, 1 to 1,000,000.
+ *
+ * ENTANGLE_DONE: `*ticket` is the script's ticket; none is given out twice. ENTANGLE_REFUSED: the first fault is told:
+ * of the text, whose place counts from its start, else of the values, else of the form; or it is FULL.
+ * ENTANGLE_OUT_OF_MEMORY: E900 is told. ENTANGLE_MISUSED: there is no such stay. After a refusal nothing has changed,
+ * not even `*ticket`. */
+static inline int32_t entangle_room_put(entangle_room **room, const void *script, size_t length,
+                                        entangle_values **values, int64_t stay, uint64_t *ticket, uint32_t *refusal,
+                                        entangle_told *told) {
+    uint8_t none = 0;
+    if (!room || !values || !ticket || !refusal) return ENTANGLE_MISUSED;
+    if (entangle_is_misused(script, length, &none, 0, told)) return ENTANGLE_MISUSED;
+    return ent_c_room_put(room, script ? (const uint8_t *)script : &none, length, values, stay, ticket, refusal, told);
+}
+
+/* Gives the explanation of a script's fault, as entangle_explain does for an input: for a script that entangle_room_put
+ * refused as FAULTY. The lines are those of this text, and hints name the room's tables. Nothing is bound in the
+ * script: a host variable to which it gives no value itself is a fault here.
+ *
+ * ENTANGLE_REFUSED: the text is the explanation, and the fault is told, whose place counts from the start of this text.
+ * ENTANGLE_DONE: the script has no fault, and there is no text. ENTANGLE_OUT_OF_MEMORY: E900 is told, and the text is
+ * `E900` with an LF, or there is none. */
+static inline int32_t entangle_room_explain(entangle_room **room, const void *script, size_t length, void *buffer,
+                                            size_t capacity, entangle_told *told) {
+    uint8_t none = 0;
+    if (!room || entangle_is_misused(script, length, buffer, capacity, told)) return ENTANGLE_MISUSED;
+    return ent_c_room_explain(room, script ? (const uint8_t *)script : &none, length,
+                              buffer ? (uint8_t *)buffer : &none, capacity, told);
+}
+
+/* Puts a script back that waited in a room of an earlier process, under its ticket, after it was in so many batches
+ * that count. Tickets of an earlier process are those below the one with which the room was opened; they come back in
+ * ascending order, before or behind other calls.
+ *
+ * ENTANGLE_DONE: it waits. ENTANGLE_REFUSED: as entangle_room_put; or the ticket is USED: it isn't of an earlier
+ * process, or one that is no less came back before. */
+static inline int32_t entangle_room_restore(entangle_room **room, uint64_t ticket, const void *script, size_t length,
+                                            entangle_values **values, int64_t stay, uint64_t batches,
+                                            uint32_t *refusal, entangle_told *told) {
+    uint8_t none = 0;
+    if (!room || !values || !refusal) return ENTANGLE_MISUSED;
+    if (entangle_is_misused(script, length, &none, 0, told)) return ENTANGLE_MISUSED;
+    return ent_c_room_restore(room, ticket, script ? (const uint8_t *)script : &none, length, values, stay, batches,
+                              refusal, told);
+}
+
+/* Takes a script back: it waits no more, and will never commit.
+ *
+ * ENTANGLE_DONE: it is withdrawn. ENTANGLE_REFUSED: nobody waits under this ticket (ABSENT), or it is in a batch that
+ * isn't over (BUSY). */
+static inline int32_t entangle_room_withdraw(entangle_room **room, uint64_t ticket, uint32_t *refusal) {
+    if (!room || !refusal) return ENTANGLE_MISUSED;
+    return ent_c_room_withdraw(room, ticket, refusal);
+}
+
+/* Makes a step: at most two runs, first of ordinary scripts that wait, then of meetings, each to its end. Who has no
+ * fate then waits again, or gives up. If memory ran out in the step before, it goes on there, and does no more.
+ *
+ * ENTANGLE_DONE: `*step` says what it did, an enum entangle_step. ENTANGLE_REFUSED: the epoch has to end first, and
+ * can't: TOO_MANY_ROWS, or NO_NUMBER. ENTANGLE_OUT_OF_MEMORY: what was done stays done, and another call goes on from
+ * there. */
+static inline int32_t entangle_room_step(entangle_room **room, uint32_t *step, uint32_t *refusal) {
+    if (!room || !step || !refusal) return ENTANGLE_MISUSED;
+    return ent_c_room_step(room, step, refusal);
+}
+
+/* Tells how a ticket stands. ENTANGLE_DONE: `*state` has it. */
+static inline int32_t entangle_room_state(entangle_room **room, uint64_t ticket, entangle_ticket_state *state) {
+    if (!room || !state) return ENTANGLE_MISUSED;
+    return ent_c_room_state(room, ticket, state);
+}
+
+/* Gives a line, with its LF, that says how a ticket stands. ENTANGLE_DONE: the text is the line.
+ * ENTANGLE_OUT_OF_MEMORY: E900 is told. */
+static inline int32_t entangle_room_why(entangle_room **room, uint64_t ticket, void *buffer, size_t capacity,
+                                        entangle_told *told) {
+    uint8_t none = 0;
+    if (!room || entangle_is_misused(&none, 0, buffer, capacity, told)) return ENTANGLE_MISUSED;
+    return ent_c_room_why(room, ticket, buffer ? (uint8_t *)buffer : &none, capacity, told);
+}
+
+/* Tells the first ticket from this one on under which a script waits.
+ *
+ * ENTANGLE_DONE: `*ticket` is it. ENTANGLE_REFUSED: nobody waits there, and `*ticket` is as it was. */
+static inline int32_t entangle_room_waiting(entangle_room **room, uint64_t from, uint64_t *ticket) {
+    if (!room || !ticket) return ENTANGLE_MISUSED;
+    return ent_c_room_waiting(room, from, ticket);
+}
+
+/* Tells the ticket that ended last but `back` others: 0 is the last. A ticket ends at most once; so who keeps the one
+ * that ended last learns with this call which ended since.
+ *
+ * ENTANGLE_DONE: `*ticket` is it. ENTANGLE_REFUSED: it isn't kept, and `*ticket` is as it was. */
+static inline int32_t entangle_room_ended(entangle_room **room, uint64_t back, uint64_t *ticket) {
+    if (!room || !ticket) return ENTANGLE_MISUSED;
+    return ent_c_room_ended(room, back, ticket);
+}
+
+/* Tells the transaction at this place, from 0, of those that the script of a ticket became, in order.
+ *
+ * ENTANGLE_DONE: `*submission` is it. ENTANGLE_REFUSED: there is none, or it isn't kept any more, and `*submission` is
+ * as it was. */
+static inline int32_t entangle_room_submission(entangle_room **room, uint64_t ticket, uint64_t place,
+                                               entangle_submission *submission) {
+    if (!room || !submission) return ENTANGLE_MISUSED;
+    return ent_c_room_submission(room, ticket, place, submission);
+}
+
+/* Gives the rows of a table, in the lines of a report: a line with its name and how many rows it has, and a line for
+ * each row, ascending. After a step for which memory ran out, some changes of the table may still be rolled back.
+ *
+ * ENTANGLE_DONE: the text is these lines. ENTANGLE_REFUSED: no table has this name, and E401 is told.
+ * ENTANGLE_OUT_OF_MEMORY: E900 is told. */
+static inline int32_t entangle_room_table(entangle_room **room, const void *name, size_t length, void *buffer,
+                                          size_t capacity, entangle_told *told) {
+    uint8_t none = 0;
+    if (!room || entangle_is_misused(name, length, buffer, capacity, told)) return ENTANGLE_MISUSED;
+    return ent_c_room_table(room, name ? (const uint8_t *)name : &none, length, buffer ? (uint8_t *)buffer : &none,
+                            capacity, told);
+}
+
+/* Tells the number of the present epoch. ENTANGLE_DONE: `*epoch` is it. */
+static inline int32_t entangle_room_epoch(entangle_room **room, uint64_t *epoch) {
+    if (!room || !epoch) return ENTANGLE_MISUSED;
+    return ent_c_room_epoch(room, epoch);
+}
+
+/* Ends the epoch, and begins the next one over its tables, of which the drained ones are empty. `drained` is a text:
+ * names of tables, separated by spaces. Who waits goes on waiting.
+ *
+ * ENTANGLE_DONE: the next epoch has begun. ENTANGLE_REFUSED: no table has one of the names (ABSENT, E401), a batch is
+ * on (BUSY), the tables that aren't drained have too many rows (TOO_MANY_ROWS, E407), or NO_NUMBER.
+ * ENTANGLE_OUT_OF_MEMORY: E900 is told. */
+static inline int32_t entangle_room_turn(entangle_room **room, const void *drained, size_t length, uint32_t *refusal,
+                                         entangle_told *told) {
+    uint8_t none = 0;
+    if (!room || !refusal || entangle_is_misused(drained, length, &none, 0, told)) return ENTANGLE_MISUSED;
+    return ent_c_room_turn(room, drained ? (const uint8_t *)drained : &none, length, refusal, told);
+}
+
+/* Gives the report of the epoch that ended last, by entangle_room_turn or by a step, in this version (1 or 2). It is
+ * kept until another epoch ends.
+ *
+ * ENTANGLE_DONE: the text is the report, and `*epoch` the number of that epoch. ENTANGLE_REFUSED: none ended yet, and
+ * `*epoch` is as it was. ENTANGLE_OUT_OF_MEMORY: E900 is told. */
+static inline int32_t entangle_room_report(entangle_room **room, uint32_t version, void *buffer, size_t capacity,
+                                           uint64_t *epoch, entangle_told *told) {
+    uint8_t none = 0;
+    if (!room || !epoch || entangle_is_misused(&none, 0, buffer, capacity, told)) return ENTANGLE_MISUSED;
+    return ent_c_room_report(room, version, buffer ? (uint8_t *)buffer : &none, capacity, epoch, told);
+}
+
+/* Frees a room, and sets the pointer to null; if the pointer is null, it does nothing. */
+static inline void entangle_room_free(entangle_room **room) {
+    if (room) ent_c_room_free(room);
 }
 
 /* ---- managers */

@@ -26,6 +26,9 @@ int32_t ent_c_version(uint8_t *buffer, size_t capacity, struct told *told) {
 
 size_t ent_c_size_of_told(void) { return STUB_TOLD; }
 size_t ent_c_size_of_position(void) { return 24; }
+size_t ent_c_size_of_limits(void) { return 16; }
+size_t ent_c_size_of_ticket_state(void) { return 40; }
+size_t ent_c_size_of_submission(void) { return 16; }
 
 /* The other calls do nothing: nobody comes to them. */
 #define CALL(name)                                                                                                     \
@@ -48,3 +51,22 @@ CALL(ent_c_close)
 CALL(ent_c_renew)
 CALL(ent_c_closed_report)
 CALL(ent_c_free)
+CALL(ent_c_values_int)
+CALL(ent_c_values_text)
+CALL(ent_c_values_free)
+CALL(ent_c_room_open)
+CALL(ent_c_room_put)
+CALL(ent_c_room_explain)
+CALL(ent_c_room_restore)
+CALL(ent_c_room_withdraw)
+CALL(ent_c_room_step)
+CALL(ent_c_room_state)
+CALL(ent_c_room_why)
+CALL(ent_c_room_waiting)
+CALL(ent_c_room_ended)
+CALL(ent_c_room_submission)
+CALL(ent_c_room_table)
+CALL(ent_c_room_epoch)
+CALL(ent_c_room_turn)
+CALL(ent_c_room_report)
+CALL(ent_c_room_free)

@@ -6,3 +6,6 @@ pub mod Position
 pub mod Managers
 pub mod Explaining
 pub mod Moving
+pub mod Rooms
+pub mod Looks
+pub mod Bound

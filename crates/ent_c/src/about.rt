@@ -5,6 +5,8 @@ ghost use Rattle.ent_c.specs.Calls.{HandsOut};
 use crate::DONE;
 use crate::buffer::lay_over;
 use crate::position::Position;
+use crate::room::Limits;
+use crate::ticket_state::{Submission, TicketState};
 use crate::told::Told;
 use ent_engine::VERSION;
 
@@ -13,6 +15,15 @@ const TOLD_BYTES: usize = size_of::<Told>();
 
 /// How many bytes a `struct entangle_position` has.
 const POSITION_BYTES: usize = size_of::<Position>();
+
+/// How many bytes a `struct entangle_limits` has.
+const LIMITS_BYTES: usize = size_of::<Limits>();
+
+/// How many bytes a `struct entangle_ticket_state` has.
+const TICKET_STATE_BYTES: usize = size_of::<TicketState>();
+
+/// How many bytes a `struct entangle_submission` has.
+const SUBMISSION_BYTES: usize = size_of::<Submission>();
 
 /// Hands out the version, as `entangle --version` prints it behind the program's name, without the end of its line.
 #[unsafe(no_mangle)]
@@ -39,4 +50,28 @@ pub extern "C" fn ent_c_size_of_position() -> usize
     ensures { result ≡ POSITION_BYTES }
 {
     POSITION_BYTES
+}
+
+/// The same of the limits of a room.
+#[unsafe(no_mangle)]
+pub extern "C" fn ent_c_size_of_limits() -> usize
+    ensures { result ≡ LIMITS_BYTES }
+{
+    LIMITS_BYTES
+}
+
+/// The same of how a ticket stands.
+#[unsafe(no_mangle)]
+pub extern "C" fn ent_c_size_of_ticket_state() -> usize
+    ensures { result ≡ TICKET_STATE_BYTES }
+{
+    TICKET_STATE_BYTES
+}
+
+/// The same of the transaction that a script became.
+#[unsafe(no_mangle)]
+pub extern "C" fn ent_c_size_of_submission() -> usize
+    ensures { result ≡ SUBMISSION_BYTES }
+{
+    SUBMISSION_BYTES
 }

@@ -1,9 +1,10 @@
 //! Entangle for C, as a static library: the report of an input, the explanation of its fault, the check of a report,
-//! and managers, which keep tables between calls.
+//! rooms, in which scripts wait, and managers, which keep tables between calls and make single runs.
 //!
 //! `include/entangle.h` declares the calls, with the conditions of each. A text goes into the caller's buffer, as far
-//! as the buffer reaches; its length, and a fault, go into a [`Told`]. Only a manager keeps anything between calls,
-//! behind a [`Handle`]; everything else that a call allocates it frees.
+//! as the buffer reaches; its length, and a fault, go into a [`Told`]. Only rooms, values and managers keep anything
+//! between calls, behind a [`RoomHandle`], a [`ValuesHandle`] or a [`Handle`]; everything else that a call allocates it
+//! frees.
 #![tactic(auto)]
 
 ghost use Rattle.std.specs.Prelude.{MatchOption};
@@ -18,8 +19,16 @@ mod manager;
 mod moving;
 mod position;
 mod report;
+mod room;
+mod room_handle;
+mod room_look;
+mod room_text;
+mod room_told;
 mod script;
+mod ticket_state;
 mod told;
+mod values;
+mod values_handle;
 mod verdict;
 mod version;
 
@@ -28,7 +37,10 @@ use crate::explanation::explanation_of;
 use crate::report::report_of;
 use crate::verdict::{Judged, judge, status_after};
 use crate::version::version_numbered;
-pub use about::{ent_c_size_of_position, ent_c_size_of_told, ent_c_version};
+pub use about::{
+    ent_c_size_of_limits, ent_c_size_of_position, ent_c_size_of_submission,
+    ent_c_size_of_ticket_state, ent_c_size_of_told, ent_c_version,
+};
 use ent_engine::{ReportVersion, RunFault, status_of};
 pub use handle::Handle;
 pub use manager::{
@@ -37,12 +49,27 @@ pub use manager::{
 };
 pub use moving::{ent_c_make, ent_c_why};
 pub use position::Position;
+pub use room::{
+    Limits, ent_c_room_free, ent_c_room_open, ent_c_room_put, ent_c_room_restore, ent_c_room_step,
+    ent_c_room_turn, ent_c_room_withdraw,
+};
+pub use room_handle::RoomHandle;
+pub use room_look::{
+    ent_c_room_ended, ent_c_room_epoch, ent_c_room_state, ent_c_room_submission, ent_c_room_waiting,
+};
+pub use room_text::{ent_c_room_explain, ent_c_room_report, ent_c_room_table, ent_c_room_why};
 pub use script::ent_c_explain_script;
 use std::alloc::Global;
+pub use ticket_state::{Submission, TicketState};
 pub use told::Told;
+pub use values::{ent_c_values_free, ent_c_values_int, ent_c_values_text};
+pub use values_handle::ValuesHandle;
 
 /// The report was handed out, or the input has no fault to explain.
 pub(crate) const DONE: i32 = 0;
+
+/// The call is refused.
+pub(crate) const REFUSED: i32 = 1;
 
 /// An argument isn't in its range.
 pub(crate) const MISUSED: i32 = 2;

@@ -1,9 +1,11 @@
 //! What is said of a script that a manager refuses.
-ghost use Rattle.std.specs.Prelude.{◌≡◌, IfErr, IfOk, IfSome, MatchOption};
+ghost use Rattle.std.specs.Prelude.{◌≡◌, IfErr, IfOk, IfSome, MatchOption, None};
 ghost use Rattle.std.specs.String.{string_bytes};
 ghost use Rattle.ent_driver.specs.Drives.{OfOpen};
+ghost use Rattle.ent_driver.specs.Scripts.{HasForm, IsFaultOver};
 ghost use Rattle.ent_driver.specs.declared.fault.DriverFault.TheVariants.{Text};
 ghost use Rattle.ent_engine.specs.declared.fault.RunFault.TheVariants.{Memory};
+ghost use Rattle.ent_form.specs.OpeningFault.{opening_fault};
 ghost use Rattle.ent_c.specs.Calls.{Declines};
 ghost use Rattle.ent_c.specs.Explaining.{ExplainsScript, HandsNothing, HandsSaid, IsFaultOf, IsScriptOf};
 ghost use Rattle.ent_c.specs.Managers.{behind};
@@ -16,6 +18,7 @@ use crate::handle::Handle;
 use crate::told::Told;
 use ent_driver::{Driver, DriverFault, examine};
 use ent_engine::{RunFault, status_of};
+use ent_tree::Opening;
 use std::alloc::Global;
 
 /// A fault, and what is said of it.
@@ -23,6 +26,27 @@ use std::alloc::Global;
 pub(crate) struct Said {
     pub(crate) fault: RunFault,
     pub(crate) text: String,
+}
+
+/// What is said of the first fault of a script over the tables of an opening; nothing where it has no fault.
+pub(crate) fn said_over(
+    alloc: Global,
+    opening: &Opening,
+    script: &[u8],
+) -> Result<Option<Said>, DriverFault>
+    requires { opening_fault opening.now ≡ None }
+    ensures said { IfOk result (λ said. MatchOption said (HasForm opening.now script.now)
+        (λ said. IsFaultOver opening.now script.now said.fault)) }
+    ensures text { IfOk result (λ said. IfSome said (λ said. IsSaidOf said.fault (string_bytes said.text))) }
+    ensures refused { IfErr result (λ fault. fault ≡ Text Memory) }
+{
+    match examine(alloc, opening, script) {
+        Ok(()) => Ok(None),
+        Err(fault) => {
+            let text = script_explanation_of(alloc, opening, script, fault)?;
+            Ok(Some(Said { fault, text }))
+        }
+    }
 }
 
 /// What is said of the first fault of a script over the tables of a driver's core; nothing where it has no fault.
@@ -36,20 +60,14 @@ fn said_of_script(
     ensures text { IfOk result (λ said. IfSome said (λ said. IsSaidOf said.fault (string_bytes said.text))) }
     ensures refused { IfErr result (λ fault. OfOpen driver.now fault (λ s. fault ≡ Text Memory)) }
 {
-    let Some(opening) = driver.opening() else {
-        return Err(DriverFault::Vacant);
-    };
-    match examine(alloc, opening, script) {
-        Ok(()) => Ok(None),
-        Err(fault) => {
-            let text = script_explanation_of(alloc, opening, script, fault)?;
-            Ok(Some(Said { fault, text }))
-        }
+    match driver.opening() {
+        Some(opening) => said_over(alloc, opening, script),
+        None => Err(DriverFault::Vacant),
     }
 }
 
 /// Hands out what is said of a fault of a script, if it has one, or tells why nothing is.
-fn hand_out_said(
+pub(crate) fn hand_out_said(
     said: Result<Option<Said>, DriverFault>,
     script: &[u8],
     buffer: &mut [u8],

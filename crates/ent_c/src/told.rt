@@ -55,7 +55,7 @@ impl Told {
     }
 
     /// What is told of a fault of this number that stands there, beside a text of so many bytes.
-    fn coded(given: &[u8], code: u16, place: Option<usize>, needed: usize) -> Self
+    pub(crate) fn coded(given: &[u8], code: u16, place: Option<usize>, needed: usize) -> Self
         ensures { TellsCode code place given.now needed result }
     {
         let nowhere = Told {

@@ -23,3 +23,4 @@ pub use ent_renewal::FinishedBook;
 pub use fault::DriverFault;
 pub use moves::{Move, reply_text};
 pub use script::{examine, read_script};
+pub use text::{lines_under, report_text};

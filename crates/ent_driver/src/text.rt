@@ -52,7 +52,7 @@ fn lines_of(alloc: Global, name: &Name, table: &Table) -> Result<Vec<u8>, AllocE
 }
 
 /// The lines of the table of a name as it stands, where one is declared.
-fn lines_under(alloc: Global, core: &Core, name: &Name) -> Result<Option<Vec<u8>>, AllocError>
+pub fn lines_under(alloc: Global, core: &Core, name: &Name) -> Result<Option<Vec<u8>>, AllocError>
     ensures { IfOk result (λ text. option_map (λ text. text.items) text ≡ lines_under core.now name.now) }
 {
     match core.table(name) {
@@ -77,7 +77,7 @@ pub(crate) fn table_text(alloc: Global, core: &Core, name: &[u8]) -> Result<Vec<
 }
 
 /// The report of a book, of this version.
-pub(crate) fn report_text(
+pub fn report_text(
     alloc: Global,
     book: &Book<Sequence<NamedTable>>,
     version: ReportVersion,

@@ -1,0 +1,430 @@
+/* A room from its opening to its end: two friends come, wait, meet and are booked; who waits, who ended and what the
+ * tables hold is told; epochs turn; and calls are refused, or misused. It ends with status 0, or at the first check
+ * that fails. With -DREFUSING -Wl,--wrap=malloc,--wrap=realloc it also lets each allocation of a room's life fail in
+ * turn. */
+#include "entangle.h"
+
+#include <stdio.h>
+#include <stdlib.h>
+#include <string.h>
+
+#define CHECK(holds)                                                                                                   \
+    do {                                                                                                               \
+        if (!(holds)) {                                                                                                \
+            fprintf(stderr, "line %d: %s\n", __LINE__, #holds);                                                        \
+            exit(1);                                                                                                   \
+        }                                                                                                              \
+    } while (0)
+
+#define TEXT(text) (text), sizeof(text) - 1
+
+static const char TABLES[] = "CREATE TABLE Flights (fno INT, dest TEXT);\nCREATE TABLE Bookings (who TEXT, fno INT);\n"
+                             "INSERT INTO Flights VALUES (122, 'LA');\nINSERT INTO Flights VALUES (136, 'Paris');\n";
+static const char FRIEND[] = "BEGIN TRANSACTION;\nSELECT @me, fno AS @fno INTO ANSWER Trip\n"
+                             "  WHERE fno IN (SELECT fno FROM Flights WHERE dest = 'LA')\n"
+                             "    AND (@friend, fno) IN ANSWER Trip\n  CHOOSE 1;\n"
+                             "INSERT INTO Bookings VALUES (@me, @fno);\nCOMMIT;\n";
+static const char WRITER[] = "BEGIN TRANSACTION WITHIN 2 RUNS;\nINSERT INTO Flights VALUES (7, 'LA');\nCOMMIT;\n";
+static const char UNDONE[] = "BEGIN TRANSACTION;\nINSERT INTO Flights VALUES (8, 'LA');\nROLLBACK;\n";
+static const char WRONG[] = "BEGIN TRANSACTION;\nINSERT INTO Seats VALUES (1);\nCOMMIT;\n";
+static const entangle_limits LIMITS = {4, 3};
+
+/* Whether nothing but a text of so many bytes is told. */
+static bool tells_text(const entangle_told *told, size_t needed) {
+    return told->needed == needed && !told->offset && !told->line && !told->column && !told->code && !told->has_place;
+}
+
+/* How a ticket stands, but for what goes with it. */
+static uint32_t kind_of(entangle_room **room, uint64_t ticket, entangle_ticket_state *state) {
+    memset(state, 0xff, sizeof *state);
+    CHECK(entangle_room_state(room, ticket, state) == ENTANGLE_DONE);
+    return state->kind;
+}
+
+/* The values of one who wants to fly with a friend. */
+static void friends(entangle_values **values, const char *me, const char *other) {
+    uint32_t refusal = 77;
+    CHECK(entangle_values_text(values, TEXT("me"), me, strlen(me), &refusal) == ENTANGLE_DONE && !refusal);
+    CHECK(entangle_values_text(values, TEXT("friend"), other, strlen(other), &refusal) == ENTANGLE_DONE && !refusal);
+}
+
+/* Puts the script of one who wants to fly with a friend; its ticket. */
+static uint64_t put_friend(entangle_room **room, const char *me, const char *other) {
+    entangle_values *values = NULL;
+    entangle_told told;
+    uint64_t ticket = 0;
+    uint32_t refusal = 77;
+    friends(&values, me, other);
+    CHECK(entangle_room_put(room, TEXT(FRIEND), &values, ENTANGLE_UNTIL_WITHDRAWN, &ticket, &refusal, &told) ==
+          ENTANGLE_DONE);
+    CHECK(!refusal && tells_text(&told, 0) && values);
+    entangle_values_free(&values);
+    CHECK(!values);
+    return ticket;
+}
+
+/* Values that no script can spell, and names that are none, are refused, and change nothing. */
+static void bound(void) {
+    static const char control[] = "a\nb";
+    char longest[256];
+    entangle_values *values = NULL;
+    uint32_t refusal = 77;
+    memset(longest, 'x', sizeof longest);
+    CHECK(entangle_values_int(&values, TEXT("n"), INT64_MIN, &refusal) == ENTANGLE_REFUSED);
+    CHECK(refusal == ENTANGLE_ROOM_BOUND_LEAST && !values);
+    CHECK(entangle_values_int(&values, TEXT("@n"), 1, &refusal) == ENTANGLE_REFUSED);
+    CHECK(refusal == ENTANGLE_ROOM_BOUND_NO_NAME && !values);
+    CHECK(entangle_values_text(&values, TEXT("n"), longest, 256, &refusal) == ENTANGLE_REFUSED);
+    CHECK(refusal == ENTANGLE_ROOM_BOUND_TOO_LONG && !values);
+    CHECK(entangle_values_text(&values, TEXT("n"), TEXT("\xff"), &refusal) == ENTANGLE_REFUSED);
+    CHECK(refusal == ENTANGLE_ROOM_BOUND_NOT_UTF8 && !values);
+    CHECK(entangle_values_text(&values, TEXT("n"), TEXT(control), &refusal) == ENTANGLE_REFUSED);
+    CHECK(refusal == ENTANGLE_ROOM_BOUND_CONTROL && !values);
+    CHECK(entangle_values_text(&values, TEXT("n"), longest, 255, &refusal) == ENTANGLE_DONE && !refusal && values);
+    entangle_values *at = values;
+    CHECK(entangle_values_text(&values, TEXT(""), TEXT("x"), &refusal) == ENTANGLE_REFUSED);
+    CHECK(refusal == ENTANGLE_ROOM_BOUND_NO_NAME && values == at);
+    CHECK(entangle_values_int(&values, TEXT("n"), INT64_MIN + 1, &refusal) == ENTANGLE_DONE && values == at);
+    CHECK(entangle_values_int(NULL, TEXT("n"), 1, &refusal) == ENTANGLE_MISUSED);
+    CHECK(entangle_values_int(&values, NULL, 1, 1, &refusal) == ENTANGLE_MISUSED);
+    CHECK(entangle_values_int(&values, TEXT("n"), 1, NULL) == ENTANGLE_MISUSED);
+    CHECK(entangle_values_text(&values, TEXT("n"), NULL, 1, &refusal) == ENTANGLE_MISUSED);
+    entangle_values_free(&values);
+    entangle_values_free(&values);
+    entangle_values_free(NULL);
+    CHECK(!values);
+}
+
+/* A room that is null takes no call but open and free. */
+static void closed(void) {
+    char buffer[8] = "#";
+    entangle_room *room = NULL;
+    entangle_values *values = NULL;
+    entangle_told told;
+    entangle_ticket_state state = {7, 7, 7, 7, 7, 7};
+    entangle_submission submission = {7, 7};
+    uint64_t number = 7;
+    uint32_t refusal = 77, step = 77;
+    CHECK(entangle_room_put(&room, TEXT(WRITER), &values, -1, &number, &refusal, &told) == ENTANGLE_MISUSED);
+    CHECK(entangle_room_restore(&room, 1, TEXT(WRITER), &values, -1, 0, &refusal, &told) == ENTANGLE_MISUSED);
+    CHECK(entangle_room_explain(&room, TEXT(WRITER), buffer, 8, &told) == ENTANGLE_MISUSED);
+    CHECK(entangle_room_withdraw(&room, 1, &refusal) == ENTANGLE_MISUSED);
+    CHECK(entangle_room_step(&room, &step, &refusal) == ENTANGLE_MISUSED);
+    CHECK(entangle_room_state(&room, 1, &state) == ENTANGLE_MISUSED && state.kind == 7 && state.batches == 7);
+    CHECK(entangle_room_why(&room, 1, buffer, 8, &told) == ENTANGLE_MISUSED);
+    CHECK(entangle_room_waiting(&room, 0, &number) == ENTANGLE_MISUSED);
+    CHECK(entangle_room_ended(&room, 0, &number) == ENTANGLE_MISUSED);
+    CHECK(entangle_room_submission(&room, 1, 0, &submission) == ENTANGLE_MISUSED && submission.tx == 7);
+    CHECK(entangle_room_table(&room, TEXT("T"), buffer, 8, &told) == ENTANGLE_MISUSED);
+    CHECK(entangle_room_epoch(&room, &number) == ENTANGLE_MISUSED);
+    CHECK(entangle_room_turn(&room, TEXT(""), &refusal, &told) == ENTANGLE_MISUSED);
+    CHECK(entangle_room_report(&room, 1, buffer, 8, &number, &told) == ENTANGLE_MISUSED);
+    CHECK(number == 7 && refusal == 77 && step == 77 && buffer[0] == '#' && !room && !values);
+    entangle_room_free(&room);
+    entangle_room_free(NULL);
+}
+
+/* An input with a fault, or with more scripts than may wait, opens no room; scripts of an input wait in order. */
+static void opened(void) {
+    static const char faulty[] = "CREATE TABLE T (a INT);\nINSERT INTO T VALUES ('x');\n";
+    char input[sizeof TABLES + 2 * sizeof WRITER];
+    entangle_limits one = {1, 1};
+    entangle_room *room = NULL;
+    entangle_told told;
+    entangle_ticket_state state;
+    uint32_t refusal = 77;
+    CHECK(entangle_room_open(&room, TEXT(faulty), 1, 1, &LIMITS, &refusal, &told) == ENTANGLE_REFUSED && !room);
+    CHECK(refusal == ENTANGLE_ROOM_FAULTY && told.code == 304 && told.has_place && told.line == 2 && told.offset == 46);
+    snprintf(input, sizeof input, "%s%s%s", TABLES, WRITER, WRITER);
+    CHECK(entangle_room_open(&room, input, strlen(input), 1, 5, &one, &refusal, &told) == ENTANGLE_REFUSED && !room);
+    CHECK(refusal == ENTANGLE_ROOM_FULL && tells_text(&told, 0));
+    CHECK(entangle_room_open(&room, input, strlen(input), 1, 5, &LIMITS, &refusal, &told) == ENTANGLE_DONE && room);
+    CHECK(!refusal && tells_text(&told, 0));
+    CHECK(kind_of(&room, 4, &state) == ENTANGLE_TICKET_UNKNOWN && kind_of(&room, 5, &state) == ENTANGLE_TICKET_WAITS);
+    CHECK(kind_of(&room, 6, &state) == ENTANGLE_TICKET_WAITS && kind_of(&room, 7, &state) == ENTANGLE_TICKET_UNKNOWN);
+    entangle_room *at = room;
+    refusal = 77;
+    CHECK(entangle_room_open(&room, TEXT(TABLES), 1, 1, &LIMITS, &refusal, &told) == ENTANGLE_MISUSED && room == at);
+    CHECK(refusal == 77);
+    CHECK(entangle_room_open(NULL, TEXT(TABLES), 1, 1, &LIMITS, &refusal, &told) == ENTANGLE_MISUSED);
+    CHECK(entangle_room_open(&room, TEXT(TABLES), 1, 1, NULL, &refusal, &told) == ENTANGLE_MISUSED);
+    entangle_room_free(&room);
+    CHECK(!room);
+}
+
+/* What can't come in is refused with its first fault, and nothing changes. */
+static void put_refused(entangle_room **room) {
+    static const char said[] = "E301 at 31\nline 2, column 13: there is no table Seats\n";
+    static const char sets[] = "BEGIN TRANSACTION;\nSET @n = 1;\nINSERT INTO Flights VALUES (@n, 'LA');\nCOMMIT;\n";
+    static const char uses[] = "BEGIN TRANSACTION;\nINSERT INTO Flights VALUES (@n, 'LA');\nCOMMIT;\n";
+    char buffer[512];
+    entangle_values *values = NULL, *none = NULL;
+    entangle_told told;
+    uint64_t ticket = 7;
+    uint32_t refusal = 77;
+    CHECK(entangle_room_put(room, TEXT(WRONG), &none, -1, &ticket, &refusal, &told) == ENTANGLE_REFUSED);
+    CHECK(refusal == ENTANGLE_ROOM_FAULTY && ticket == 7 && told.code == 301 && told.has_place && told.offset == 31);
+    CHECK(told.line == 2 && told.column == 13 && !told.needed);
+    CHECK(entangle_room_explain(room, TEXT(WRONG), buffer, sizeof buffer, &told) == ENTANGLE_REFUSED);
+    CHECK(told.code == 301 && told.needed > sizeof said && !memcmp(buffer, said, sizeof said - 1));
+    CHECK(entangle_room_explain(room, TEXT(WRITER), buffer, sizeof buffer, &told) == ENTANGLE_DONE);
+    CHECK(tells_text(&told, 0));
+    CHECK(entangle_room_put(room, TEXT(uses), &none, -1, &ticket, &refusal, &told) == ENTANGLE_REFUSED);
+    CHECK(refusal == ENTANGLE_ROOM_FAULTY && told.code == 306 && !none);
+    CHECK(entangle_values_text(&values, TEXT("n"), TEXT("x"), &refusal) == ENTANGLE_DONE);
+    CHECK(entangle_room_put(room, TEXT(uses), &values, -1, &ticket, &refusal, &told) == ENTANGLE_REFUSED);
+    CHECK(refusal == ENTANGLE_ROOM_FAULTY && told.code == 304);
+    CHECK(entangle_room_put(room, TEXT(sets), &values, -1, &ticket, &refusal, &told) == ENTANGLE_REFUSED);
+    CHECK(refusal == ENTANGLE_ROOM_BOUND_SET_BY_SCRIPT && tells_text(&told, 0));
+    entangle_values_free(&values);
+    CHECK(entangle_values_int(&values, TEXT("n"), 1, &refusal) == ENTANGLE_DONE);
+    CHECK(entangle_values_int(&values, TEXT("m"), 2, &refusal) == ENTANGLE_DONE);
+    CHECK(entangle_room_put(room, TEXT(uses), &values, -1, &ticket, &refusal, &told) == ENTANGLE_REFUSED);
+    CHECK(refusal == ENTANGLE_ROOM_BOUND_UNUSED && told.offset == 1 && !told.has_place && !told.code);
+    CHECK(entangle_values_int(&values, TEXT("n"), 3, &refusal) == ENTANGLE_DONE);
+    CHECK(entangle_room_put(room, TEXT(sets), &values, -1, &ticket, &refusal, &told) == ENTANGLE_REFUSED);
+    CHECK(refusal == ENTANGLE_ROOM_BOUND_SET_BY_SCRIPT && told.offset == 0);
+    entangle_values_free(&values);
+    CHECK(entangle_values_int(&values, TEXT("n"), 1, &refusal) == ENTANGLE_DONE);
+    CHECK(entangle_values_int(&values, TEXT("n"), 1, &refusal) == ENTANGLE_DONE);
+    CHECK(entangle_room_put(room, TEXT(uses), &values, -1, &ticket, &refusal, &told) == ENTANGLE_REFUSED);
+    CHECK(refusal == ENTANGLE_ROOM_BOUND_TWICE && told.offset == 1);
+    entangle_values_free(&values);
+    refusal = 77;
+    CHECK(entangle_room_put(room, TEXT(WRITER), &none, -2, &ticket, &refusal, &told) == ENTANGLE_MISUSED);
+    CHECK(entangle_room_put(room, TEXT(WRITER), &none, 1000001, &ticket, &refusal, &told) == ENTANGLE_MISUSED);
+    CHECK(entangle_room_put(room, NULL, 1, &none, -1, &ticket, &refusal, &told) == ENTANGLE_MISUSED);
+    CHECK(entangle_room_put(room, TEXT(WRITER), NULL, -1, &ticket, &refusal, &told) == ENTANGLE_MISUSED);
+    CHECK(entangle_room_put(room, TEXT(WRITER), &none, -1, NULL, &refusal, &told) == ENTANGLE_MISUSED);
+    CHECK(entangle_room_put(room, TEXT(WRITER), &none, -1, &ticket, NULL, &told) == ENTANGLE_MISUSED);
+    CHECK(entangle_room_put(room, TEXT(WRITER), &none, -1, &ticket, &refusal, NULL) == ENTANGLE_MISUSED);
+    CHECK(ticket == 7 && refusal == 77 && entangle_room_waiting(room, 0, &ticket) == ENTANGLE_REFUSED && ticket == 7);
+}
+
+/* The report of the epoch that ended last is a right one, and of this epoch. */
+static void reported(entangle_room **room, uint64_t ended) {
+    char report[2048], verdict[32];
+    entangle_told told;
+    uint64_t epoch = 7;
+    CHECK(entangle_room_report(room, 3, report, sizeof report, &epoch, &told) == ENTANGLE_MISUSED && epoch == 7);
+    CHECK(entangle_room_report(room, 2, report, sizeof report, &epoch, &told) == ENTANGLE_DONE && epoch == ended);
+    CHECK(tells_text(&told, told.needed) && told.needed < sizeof report);
+    size_t length = told.needed;
+    CHECK(entangle_check(report, length, verdict, sizeof verdict, &told) == ENTANGLE_DONE);
+    CHECK(entangle_room_report(room, 1, report, 10, &epoch, &told) == ENTANGLE_DONE && told.needed > 10);
+    CHECK(!memcmp(report, "report 1\nt", 10));
+}
+
+/* Whether a table is told in these lines. */
+static bool shows(entangle_room **room, const char *name, const char *lines) {
+    char buffer[256];
+    entangle_told told;
+    memset(buffer, '#', sizeof buffer);
+    CHECK(entangle_room_table(room, name, strlen(name), buffer, sizeof buffer, &told) == ENTANGLE_DONE);
+    return tells_text(&told, strlen(lines)) && !memcmp(buffer, lines, strlen(lines)) && buffer[strlen(lines)] == '#';
+}
+
+/* Steps until there is nothing to do; whether a run was made. */
+static bool stepped(entangle_room **room) {
+    bool ran = false;
+    for (uint32_t step = 0, refusal = 77; step != ENTANGLE_IDLE; refusal = 77) {
+        CHECK(entangle_room_step(room, &step, &refusal) == ENTANGLE_DONE && !refusal);
+        CHECK(step == ENTANGLE_IDLE || step == ENTANGLE_SEARCHED || step == ENTANGLE_RAN);
+        ran = ran || step == ENTANGLE_RAN;
+    }
+    return ran;
+}
+
+/* Mickey is lonely until Minnie comes; then both are booked, with one flight. */
+static void meeting(entangle_room **room) {
+    entangle_ticket_state state;
+    entangle_submission submission;
+    entangle_told told;
+    char line[128];
+    uint64_t ticket = 0;
+    CHECK(put_friend(room, "Mickey", "Minnie") == 10 && !stepped(room));
+    CHECK(kind_of(room, 10, &state) == ENTANGLE_TICKET_LONELY && !state.demand && !state.batches && !state.failure);
+    CHECK(entangle_room_why(room, 10, line, sizeof line, &told) == ENTANGLE_DONE && !memcmp(line, "lonely", 6));
+    CHECK(line[told.needed - 1] == '\n' && entangle_room_waiting(room, 0, &ticket) == ENTANGLE_DONE && ticket == 10);
+    CHECK(put_friend(room, "Minnie", "Mickey") == 11 && kind_of(room, 11, &state) == ENTANGLE_TICKET_WAITS);
+    CHECK(entangle_room_ended(room, 0, &ticket) == ENTANGLE_REFUSED && ticket == 10);
+    CHECK(entangle_room_submission(room, 10, 0, &submission) == ENTANGLE_REFUSED);
+    CHECK(stepped(room) && kind_of(room, 10, &state) == ENTANGLE_TICKET_COMMITTED && state.epoch == 3);
+    uint64_t first = state.number;
+    CHECK(kind_of(room, 11, &state) == ENTANGLE_TICKET_COMMITTED && state.epoch == 3 && state.number + first == 3);
+    CHECK(entangle_room_submission(room, 10, 0, &submission) == ENTANGLE_DONE && submission.epoch == 3);
+    CHECK(submission.tx == 1 && entangle_room_submission(room, 10, 1, &submission) == ENTANGLE_REFUSED);
+    CHECK(shows(room, "Bookings", "table Bookings 2\n('Mickey', 122)\n('Minnie', 122)\n"));
+    CHECK(entangle_room_table(room, TEXT("Seats"), line, sizeof line, &told) == ENTANGLE_REFUSED && told.code == 401);
+    CHECK(entangle_room_ended(room, 0, &ticket) == ENTANGLE_DONE && (ticket == 10 || ticket == 11));
+    first = ticket;
+    CHECK(entangle_room_ended(room, 1, &ticket) == ENTANGLE_DONE && ticket + first == 21);
+    CHECK(entangle_room_ended(room, 2, &ticket) == ENTANGLE_REFUSED && ticket + first == 21);
+    CHECK(entangle_room_waiting(room, 0, &ticket) == ENTANGLE_REFUSED);
+}
+
+/* Those who wait go over the turn, and drained tables are empty then. */
+static void turning(entangle_room **room) {
+    entangle_ticket_state state;
+    entangle_told told;
+    char buffer[64];
+    uint64_t epoch = 7, ticket = 0;
+    uint32_t refusal = 77;
+    CHECK(entangle_room_report(room, 1, buffer, sizeof buffer, &epoch, &told) == ENTANGLE_REFUSED && epoch == 7);
+    CHECK(tells_text(&told, 0) && put_friend(room, "Eve", "Finn") == 12);
+    CHECK(entangle_room_turn(room, TEXT("Bookings Seats"), &refusal, &told) == ENTANGLE_REFUSED);
+    CHECK(refusal == ENTANGLE_ROOM_ABSENT && told.code == 401 && !told.has_place);
+    CHECK(entangle_room_epoch(room, &epoch) == ENTANGLE_DONE && epoch == 3);
+    CHECK(entangle_room_turn(room, TEXT(" Bookings  Flights "), &refusal, &told) == ENTANGLE_DONE && !refusal);
+    CHECK(tells_text(&told, 0) && entangle_room_epoch(room, &epoch) == ENTANGLE_DONE && epoch == 4);
+    CHECK(shows(room, "Bookings", "table Bookings 0\n") && shows(room, "Flights", "table Flights 0\n"));
+    reported(room, 3);
+    CHECK(kind_of(room, 10, &state) == ENTANGLE_TICKET_COMMITTED && state.epoch == 3);
+    CHECK(entangle_room_waiting(room, 11, &ticket) == ENTANGLE_DONE && ticket == 12);
+    CHECK(entangle_room_turn(room, NULL, 0, &refusal, &told) == ENTANGLE_DONE && !refusal);
+    reported(room, 4);
+}
+
+/* Tickets of an earlier process come back in their order, and each once; then they go, each in its way. */
+static void restored(entangle_room **room) {
+    entangle_values *values = NULL;
+    entangle_ticket_state state;
+    entangle_told told;
+    uint64_t ticket = 0;
+    uint32_t refusal = 77;
+    CHECK(entangle_room_restore(room, 4, TEXT(UNDONE), &values, 1, 0, &refusal, &told) == ENTANGLE_DONE && !refusal);
+    CHECK(entangle_room_restore(room, 4, TEXT(UNDONE), &values, 1, 0, &refusal, &told) == ENTANGLE_REFUSED);
+    CHECK(refusal == ENTANGLE_ROOM_USED && tells_text(&told, 0));
+    CHECK(entangle_room_restore(room, 10, TEXT(UNDONE), &values, 1, 0, &refusal, &told) == ENTANGLE_REFUSED);
+    CHECK(refusal == ENTANGLE_ROOM_USED);
+    CHECK(entangle_room_restore(room, 5, TEXT(WRONG), &values, 1, 0, &refusal, &told) == ENTANGLE_REFUSED);
+    CHECK(refusal == ENTANGLE_ROOM_FAULTY && told.code == 301);
+    CHECK(entangle_room_restore(room, 5, TEXT(WRITER), &values, -2, 0, &refusal, &told) == ENTANGLE_MISUSED);
+    friends(&values, "Finn", "Zoe");
+    CHECK(entangle_room_restore(room, 5, TEXT(FRIEND), &values, 9, 2, &refusal, &told) == ENTANGLE_DONE && !refusal);
+    entangle_values_free(&values);
+    CHECK(kind_of(room, 5, &state) == ENTANGLE_TICKET_WAITS && state.batches == 2);
+    CHECK(entangle_room_put(room, TEXT(WRITER), &values, -1, &ticket, &refusal, &told) == ENTANGLE_DONE);
+    CHECK(ticket == 13 && entangle_room_put(room, TEXT(WRITER), &values, -1, &ticket, &refusal, &told) ==
+                              ENTANGLE_REFUSED);
+    CHECK(refusal == ENTANGLE_ROOM_FULL && ticket == 13 && tells_text(&told, 0));
+    CHECK(entangle_room_restore(room, 6, TEXT(WRITER), &values, -1, 0, &refusal, &told) == ENTANGLE_REFUSED);
+    CHECK(refusal == ENTANGLE_ROOM_FULL && stepped(room) && shows(room, "Flights", "table Flights 1\n(7, 'LA')\n"));
+    CHECK(kind_of(room, 4, &state) == ENTANGLE_TICKET_ROLLED_BACK);
+    CHECK(kind_of(room, 13, &state) == ENTANGLE_TICKET_COMMITTED && state.epoch == 5 && state.number == 1);
+    CHECK(entangle_room_withdraw(room, 13, &refusal) == ENTANGLE_REFUSED && refusal == ENTANGLE_ROOM_ABSENT);
+    CHECK(entangle_room_withdraw(room, 5, &refusal) == ENTANGLE_DONE && !refusal);
+    CHECK(kind_of(room, 5, &state) == ENTANGLE_TICKET_WITHDRAWN);
+    CHECK(kind_of(room, 10, &state) == ENTANGLE_TICKET_UNKNOWN);
+    CHECK(entangle_room_withdraw(room, 12, &refusal) == ENTANGLE_DONE && !stepped(room));
+    CHECK(entangle_room_waiting(room, 0, &ticket) == ENTANGLE_REFUSED);
+}
+
+/* A room from its opening to its end. */
+static void whole(void) {
+    entangle_room *room = NULL;
+    entangle_told told;
+    uint32_t refusal = 77;
+    CHECK(entangle_room_open(&room, TEXT(TABLES), 3, 10, &LIMITS, &refusal, &told) == ENTANGLE_DONE && !refusal);
+    put_refused(&room);
+    meeting(&room);
+    turning(&room);
+    restored(&room);
+    entangle_room_free(&room);
+    CHECK(!room);
+}
+
+/* Rooms come and go, with those who wait in them. */
+static void many(void) {
+    for (int count = 0; count < 300; count++) {
+        entangle_room *room = NULL;
+        entangle_told told;
+        uint32_t refusal;
+        CHECK(entangle_room_open(&room, TEXT(TABLES), 1, 10, &LIMITS, &refusal, &told) == ENTANGLE_DONE);
+        CHECK(put_friend(&room, "Mickey", "Minnie") == 10);
+        CHECK(count % 2 || put_friend(&room, "Minnie", "Mickey") == 11);
+        CHECK(count % 3 == 0 || stepped(&room) == (count % 2 == 0));
+        CHECK(count % 3 != 2 || entangle_room_turn(&room, TEXT("Bookings"), &refusal, &told) == ENTANGLE_DONE);
+        entangle_room_free(&room);
+    }
+}
+
+#ifdef REFUSING
+/* The allocation with this number fails, where it isn't below 0. */
+static long until = -1;
+void *__real_malloc(size_t size);
+void *__real_realloc(void *block, size_t size);
+void *__wrap_malloc(size_t size) { return until >= 0 && until-- == 0 ? NULL : __real_malloc(size); }
+void *__wrap_realloc(void *block, size_t size) {
+    return until >= 0 && until-- == 0 ? NULL : __real_realloc(block, size);
+}
+
+/* How often a call told that memory ran out. */
+static long told_refusals = 0;
+
+/* Makes a call until it answers that it is done; each time before, it has told that memory ran out, and this holds. */
+#define REPEATED(call, holds)                                                                                          \
+    for (int32_t status; (status = (call)) != ENTANGLE_DONE; told_refusals++)                                          \
+    CHECK(status == ENTANGLE_OUT_OF_MEMORY && (holds))
+
+/* Puts a friend; each call again if memory ran out for it. */
+static void come(entangle_room **room, const char *me, const char *other, uint64_t expected) {
+    entangle_values *values = NULL;
+    entangle_told told;
+    uint64_t ticket = 0;
+    uint32_t refusal = 77;
+    REPEATED(entangle_values_text(&values, TEXT("me"), me, strlen(me), &refusal), !refusal && !values);
+    REPEATED(entangle_values_text(&values, TEXT("friend"), other, strlen(other), &refusal), !refusal && values);
+    REPEATED(entangle_room_put(room, TEXT(FRIEND), &values, 0, &ticket, &refusal, &told),
+             told.code == 900 && !refusal && !ticket);
+    CHECK(ticket == expected);
+    entangle_values_free(&values);
+}
+
+/* Two friends come and are booked, while one allocation fails. Whether there were so many allocations. */
+static bool lived(long number) {
+    char buffer[2048];
+    entangle_room *room = NULL;
+    entangle_told told;
+    entangle_ticket_state state;
+    uint64_t epoch = 0;
+    uint32_t refusal = 77, step = 0;
+    until = number;
+    REPEATED(entangle_room_open(&room, TEXT(TABLES), 3, 10, &LIMITS, &refusal, &told), told.code == 900 && !room);
+    come(&room, "Mickey", "Minnie", 10);
+    come(&room, "Minnie", "Mickey", 11);
+    do {
+        REPEATED(entangle_room_step(&room, &step, &refusal), !refusal);
+    } while (step != ENTANGLE_IDLE);
+    REPEATED(entangle_room_table(&room, TEXT("Bookings"), buffer, sizeof buffer, &told), told.code == 900);
+    CHECK(told.needed == 49 && !memcmp(buffer, "table Bookings 2\n('Mickey', 122)\n", 33));
+    REPEATED(entangle_room_turn(&room, TEXT("Bookings"), &refusal, &told), told.code == 900 && !refusal);
+    REPEATED(entangle_room_report(&room, 2, buffer, sizeof buffer, &epoch, &told), told.code == 900 && !epoch);
+    bool is_reached = until < 0;
+    until = -1;
+    CHECK(epoch == 3 && kind_of(&room, 10, &state) == ENTANGLE_TICKET_COMMITTED);
+    CHECK(shows(&room, "Bookings", "table Bookings 0\n"));
+    entangle_room_free(&room);
+    return is_reached;
+}
+
+/* Each allocation of a room's life fails in turn. The library may do with less memory, and tell nothing. */
+static void refusals(void) {
+    long count = 0;
+    while (lived(count)) count++;
+    CHECK(told_refusals > 100 && told_refusals <= count);
+    printf("%ld allocations of a room's calls refused, %ld of them told\n", count, told_refusals);
+}
+#endif
+
+int main(void) {
+    bound();
+    closed();
+    opened();
+    whole();
+    many();
+#ifdef REFUSING
+    refusals();
+#endif
+    return 0;
+}
