@@ -1,6 +1,29 @@
-"""Entangled SQL from Python: tables, rows and scripts go in as text, and their report comes out.
+"""Entangled SQL from Python: scripts wait in a room until those whom they need are there, and commit together.
+
+Two friends fly on one flight, whichever it is. Each puts the same script, with values of their own:
 
     import entangle
+
+    TABLES = "CREATE TABLE Flights (fno INT, dest TEXT); CREATE TABLE Bookings (who TEXT, fno INT);"
+    TRIP = (
+        "BEGIN TRANSACTION;"
+        " SELECT @me, fno AS @fno INTO ANSWER Trip"
+        " WHERE fno IN (SELECT fno FROM Flights WHERE dest = 'LA') AND (@friend, fno) IN ANSWER Trip CHOOSE 1;"
+        " INSERT INTO Bookings VALUES (@me, @fno);"
+        " COMMIT;"
+    )
+    with entangle.Room(TABLES, {"Flights": [(122, "LA"), (136, "Paris")]}) as room:
+        mickey = room.put(TRIP, {"me": "Mickey", "friend": "Minnie"})
+        while room.step() != "idle":
+            pass
+        room.state(mickey)                           # TicketLonely(demand=0): Minnie isn't there
+        minnie = room.put(TRIP, {"me": "Minnie", "friend": "Mickey"})
+        while room.step() != "idle":
+            pass
+        room.wait(mickey)                            # TicketCommitted(epoch=1, number=1)
+        room.table("Bookings")                       # [('Mickey', 122), ('Minnie', 122)]
+
+In an event loop, `await room.fate(mickey)` waits. Calls without a room take an input whole:
 
     report = entangle.report(input)                  # version 1
     history = entangle.report(input, version=2)      # tells all that a check needs
@@ -11,7 +34,7 @@
         print(fault.code, fault.line, fault.column)  # 201 1 19
         print(fault.explanation)
 
-A Manager keeps its tables between calls, and takes scripts one by one:
+A Manager has no waiting room: each script takes part in the next runs, whoever is there:
 
     with entangle.Manager("CREATE TABLE T (a INT);") as manager:
         tx = manager.submit("BEGIN TRANSACTION; INSERT INTO T VALUES (1); COMMIT;")
@@ -21,30 +44,42 @@ A Manager keeps its tables between calls, and takes scripts one by one:
         manager.table("T")                           # [(1,)]
 
 The work is done by a core that is proved, in the shared object that the environment's ENTANGLE_LIBRARY names; else in
-libentangle.so of this package, or, in a checkout, that of bindings/archive. A call runs the scripts of its input on the
-thread that makes it, and other threads of Python go on meanwhile. Calls without a manager stand alone: any number may
-be made at once. Threads may share a manager, which has a lock inside.
+libentangle.so of this package, or, in a checkout, that of bindings/archive. A call runs scripts on the thread that
+makes it, and other threads of Python go on meanwhile. Calls that need neither a room nor a manager stand alone: any
+number may be made at once. Threads may share a room or a manager, which has a lock inside.
 
-Every error of this package is an Error: Refused and OutOfMemory, which are Faults, StateError, and LibraryError, with
-which `import entangle` refuses a shared object that isn't the one of this package. A wrong type is a TypeError, and a
-version of a report or a step that doesn't exist a ValueError.
+Every error of this package is an Error: Refused and OutOfMemory, which are Faults; the refusals of a room, which are
+RoomErrors; StateError; and LibraryError, with which `import entangle` refuses a shared object that isn't the one of
+this package. A wrong type is a TypeError; a version of a report, a step or a patience that doesn't exist is a
+ValueError; and a wait that takes too long is a TimeoutError.
 """
 
 from ._calls import Verdict, check, explain, report
 from ._errors import Error, Fault, LibraryError, OutOfMemory, Refused, StateError
 from ._library import Text, __version__, library_version
 from ._manager import Manager, Reply, Step
+from ._opening import Rows
+from ._refusals import BatchIsOn, BindingFault, NoMoreEpochs, NobodyWaits, NotARow, NotBound, RoomError, RoomFull
+from ._refusals import TicketUsed, UnknownTicket
+from ._room import EpochReport, Patience, Room, Stepped, Values
 from ._standing import Committed, Failed, Failure, Fate, GaveUp, RolledBack, Running, Standing, Waiting
 from ._telling import Change, Commit
+from ._tickets import Ending, Submission, Ticket, TicketCommitted, TicketFailed, TicketGaveUp, TicketInBatch
+from ._tickets import TicketLonely, TicketNoMeeting, TicketRolledBack, TicketState, TicketUnknown, TicketWaits
+from ._tickets import TicketWithdrawn
 from ._values import Answer, CountAnswer, EntangledAnswer, Fact, Row, RowsAnswer, SetAnswer, Value
 
 __all__ = [
     "Answer",
+    "BatchIsOn",
+    "BindingFault",
     "Change",
     "Commit",
     "Committed",
     "CountAnswer",
+    "Ending",
     "EntangledAnswer",
+    "EpochReport",
     "Error",
     "Fact",
     "Failed",
@@ -54,19 +89,45 @@ __all__ = [
     "GaveUp",
     "LibraryError",
     "Manager",
+    "NoMoreEpochs",
+    "NobodyWaits",
+    "NotARow",
+    "NotBound",
     "OutOfMemory",
+    "Patience",
     "Refused",
     "Reply",
     "RolledBack",
+    "Room",
+    "RoomError",
+    "RoomFull",
     "Row",
+    "Rows",
     "RowsAnswer",
     "Running",
     "SetAnswer",
     "Standing",
     "StateError",
     "Step",
+    "Stepped",
+    "Submission",
     "Text",
+    "Ticket",
+    "TicketCommitted",
+    "TicketFailed",
+    "TicketGaveUp",
+    "TicketInBatch",
+    "TicketLonely",
+    "TicketNoMeeting",
+    "TicketRolledBack",
+    "TicketState",
+    "TicketUnknown",
+    "TicketUsed",
+    "TicketWaits",
+    "TicketWithdrawn",
+    "UnknownTicket",
     "Value",
+    "Values",
     "Verdict",
     "Waiting",
     "__version__",

@@ -52,11 +52,47 @@ class Position(ctypes.Structure):
     ]
 
 
+class Limits(ctypes.Structure):
+    """`struct entangle_limits` of include/entangle.h."""
+
+    _fields_ = [("most_waiters", ctypes.c_uint64), ("most_ended", ctypes.c_uint64)]
+
+
+class TicketPosition(ctypes.Structure):
+    """`struct entangle_ticket_state` of include/entangle.h."""
+
+    batches: int
+    demand: int
+    epoch: int
+    number: int
+    kind: int
+    failure: int
+    _fields_ = [
+        ("batches", ctypes.c_uint64),
+        ("demand", ctypes.c_uint64),
+        ("epoch", ctypes.c_uint64),
+        ("number", ctypes.c_uint64),
+        ("kind", ctypes.c_uint32),
+        ("failure", ctypes.c_uint32),
+    ]
+
+
+class SubmissionSeen(ctypes.Structure):
+    """`struct entangle_submission` of include/entangle.h."""
+
+    epoch: int
+    tx: int
+    _fields_ = [("epoch", ctypes.c_uint64), ("tx", ctypes.c_uint64)]
+
+
 _TEXT = (ctypes.c_char_p, ctypes.c_size_t)
 _TOLD = ctypes.POINTER(Told)
 _OUT = (ctypes.c_char_p, ctypes.c_size_t, _TOLD)
 _MANAGER = ctypes.POINTER(ctypes.c_void_p)
+_ROOM = _VALUES = _MANAGER
 _NUMBER = ctypes.c_uint64
+_TO_NUMBER = ctypes.POINTER(_NUMBER)
+_REFUSAL = ctypes.POINTER(ctypes.c_uint32)
 
 # The calls that answer a status, with what they take.
 _STATUSES = {
@@ -76,8 +112,32 @@ _STATUSES = {
     "close": (_MANAGER,),
     "renew": (_MANAGER,),
     "closed_report": (_MANAGER, ctypes.c_uint32, *_OUT),
+    "values_int": (_VALUES, *_TEXT, ctypes.c_int64, _REFUSAL),
+    "values_text": (_VALUES, *_TEXT, *_TEXT, _REFUSAL),
+    "room_open": (_ROOM, *_TEXT, _NUMBER, _NUMBER, ctypes.POINTER(Limits), _REFUSAL, _TOLD),
+    "room_put": (_ROOM, *_TEXT, _VALUES, ctypes.c_int64, _TO_NUMBER, _REFUSAL, _TOLD),
+    "room_explain": (_ROOM, *_TEXT, *_OUT),
+    "room_restore": (_ROOM, _NUMBER, *_TEXT, _VALUES, ctypes.c_int64, _NUMBER, _REFUSAL, _TOLD),
+    "room_withdraw": (_ROOM, _NUMBER, _REFUSAL),
+    "room_step": (_ROOM, ctypes.POINTER(ctypes.c_uint32), _REFUSAL),
+    "room_state": (_ROOM, _NUMBER, ctypes.POINTER(TicketPosition)),
+    "room_why": (_ROOM, _NUMBER, *_OUT),
+    "room_waiting": (_ROOM, _NUMBER, _TO_NUMBER),
+    "room_ended": (_ROOM, _NUMBER, _TO_NUMBER),
+    "room_submission": (_ROOM, _NUMBER, _NUMBER, ctypes.POINTER(SubmissionSeen)),
+    "room_table": (_ROOM, *_TEXT, *_OUT),
+    "room_epoch": (_ROOM, _TO_NUMBER),
+    "room_turn": (_ROOM, *_TEXT, _REFUSAL, _TOLD),
+    "room_report": (_ROOM, ctypes.c_uint32, ctypes.c_char_p, ctypes.c_size_t, _TO_NUMBER, _TOLD),
 }
-_SIZES = {"size_of_told": Told, "size_of_position": Position}
+_FREES = ("free", "values_free", "room_free")
+_SIZES = {
+    "size_of_told": Told,
+    "size_of_position": Position,
+    "size_of_limits": Limits,
+    "size_of_ticket_state": TicketPosition,
+    "size_of_submission": SubmissionSeen,
+}
 
 
 def _path() -> str:
@@ -111,8 +171,9 @@ def _loaded(path: str) -> ctypes.CDLL:
     for name, taken in _STATUSES.items():
         function = _function(library, path, name)
         function.argtypes, function.restype = taken, ctypes.c_int32
-    free = _function(library, path, "free")
-    free.argtypes, free.restype = (_MANAGER,), None
+    for name in _FREES:
+        function = _function(library, path, name)
+        function.argtypes, function.restype = (_MANAGER,), None
     return library
 
 
@@ -149,7 +210,7 @@ def fault_of(status: int, told: Told) -> Fault:
 
 
 def raise_for(status: int, told: Told) -> None:
-    """Raises what a status says."""
+    """Raises what the status of a manager's call says."""
     if status == MISUSED:
         raise StateError("the manager is closed or freed; or, for a report or a renewal, it isn't closed")
     if status != DONE:

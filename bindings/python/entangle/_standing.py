@@ -79,7 +79,8 @@ Fate = Union[Committed, GaveUp, RolledBack, Failed]
 # Where a transaction stands. Each has its `kind`, and tells by `is_finished` whether it is a fate.
 Standing = Union[Waiting, Running, Committed, GaveUp, RolledBack, Failed]
 
-_FAILURES = {1: Failure.OVERFLOW, 2: Failure.TABLE_FULL}
+# Why a statement failed, by the number that the library tells.
+FAILURES = {1: Failure.OVERFLOW, 2: Failure.TABLE_FULL}
 
 
 def standing_of(position: Position) -> Standing:
@@ -95,4 +96,4 @@ def standing_of(position: Position) -> Standing:
     if position.kind == 8:
         return RolledBack(position.runs)
     assert position.kind == 9, "a transaction stands in one of nine ways"
-    return Failed(_FAILURES[position.failure], position.runs)
+    return Failed(FAILURES[position.failure], position.runs)

@@ -3,6 +3,7 @@
 It is checked and run by `tools/check bindings`.
 """
 
+import asyncio
 from typing import NoReturn
 
 import entangle
@@ -47,13 +48,63 @@ def said_by_kind(standing: entangle.Standing) -> int:
     return standing.runs
 
 
+def said_of_ticket(state: entangle.TicketState) -> str:
+    if isinstance(state, entangle.TicketWaits):
+        return f"waits after {state.batches + 0}"
+    if isinstance(state, entangle.TicketLonely):
+        return f"lacks demand {state.demand + 0}"
+    if isinstance(state, (entangle.TicketNoMeeting, entangle.TicketInBatch, entangle.TicketUnknown)):
+        return state.kind
+    ending: entangle.Ending = state
+    if isinstance(ending, entangle.TicketCommitted):
+        return f"commit {ending.number + 0} of epoch {ending.epoch + 0}"
+    if isinstance(ending, entangle.TicketFailed):
+        return ending.failure.value
+    if isinstance(ending, (entangle.TicketRolledBack, entangle.TicketGaveUp, entangle.TicketWithdrawn)):
+        return ending.kind
+    never(ending)
+
+
+def said_by_kind_of_ticket(state: entangle.TicketState) -> int:
+    return state.number if state.kind == "committed" else 0
+
+
+async def awaited(room: entangle.Room, ticket: entangle.Ticket) -> entangle.Ending:
+    return await room.fate(ticket)
+
+
 def said_of_error(error: entangle.Error) -> str:
     if isinstance(error, entangle.Fault):
         return f"E{error.code + 0}" if error.offset is None else f"E{error.code + 0} at {error.offset + 0}"
+    if isinstance(error, entangle.NotBound):
+        return f"{error.variable}: {error.fault.name}"
     return str(error)
 
 
+def tell_of_room() -> None:
+    rows: dict[str, list[entangle.Row]] = {"T": [(1,), (2,)]}
+    with entangle.Room("CREATE TABLE T (a INT);", rows, most_waiters=10) as room:
+        script, values = "BEGIN TRANSACTION; INSERT INTO T VALUES (@a); COMMIT;", {"a": 3}
+        ticket: entangle.Ticket = room.put(script, values, entangle.Patience.UNTIL_WITHDRAWN)
+        other = room.put(script, {"a": 4}, patience=2)
+        assert said_of_ticket(room.state(ticket)) == "waits after 0"
+        stepped: entangle.Stepped = room.step()
+        assert stepped == "ran"
+        ending: entangle.Ending = room.wait(ticket, 1.0)
+        assert said_of_ticket(ending) == "commit 1 of epoch 1"
+        assert said_by_kind_of_ticket(room.state(other)) == 2
+        assert said_of_ticket(asyncio.run(awaited(room, other))) == "commit 2 of epoch 1"
+        epoch: int = room.turn("T")
+        report = room.report(2)
+        assert report is not None and report.epoch == epoch and room.table("T") == []
+        try:
+            room.put(script, {"b": "x"})
+        except entangle.Error as error:
+            assert said_of_error(error) == "b: UNUSED"
+
+
 def main() -> None:
+    tell_of_room()
     with entangle.Manager("CREATE TABLE T (a INT);") as manager:
         tx: int = manager.submit("BEGIN TRANSACTION; INSERT INTO T VALUES (1); SET @a = 'x'; SELECT * FROM T; COMMIT;")
         assert said_of_standing(manager.standing(tx)) == "waiting"

@@ -1,11 +1,12 @@
-//! What calls cost: the least time of several calls, over inputs of more and more pairs of friends; and of a manager's
-//! calls, over more and more scripts that wait.
+//! What calls cost: the least time of several calls, over inputs of more and more pairs of friends; of a room's calls,
+//! over more and more people who wait for somebody who doesn't come; and of a manager's calls, over more and more scripts
+//! that wait.
 //!
 //! ```sh
 //! cargo run --offline --release --example costs
 //! ```
 
-use entangle::{Manager, Version, check, report};
+use entangle::{Manager, Patience, Room, RoomOptions, Stepped, Ticket, Value, Version, check, report};
 use std::time::{Duration, Instant};
 
 const TABLES: &str = "CREATE TABLE Flights (fno INT, dest TEXT);
@@ -45,6 +46,55 @@ fn least(calls: usize, call: impl Fn()) -> Duration {
     (0..calls).map(time).min().unwrap_or_default()
 }
 
+/// The values of somebody who flies where a friend does.
+fn values(who: usize, friend: usize) -> [(&'static str, Value); 2] {
+    [("me", format!("p{who}").into()), ("friend", format!("p{friend}").into())]
+}
+
+/// The trip of somebody, which waits in a room.
+fn put(room: &Room, who: usize, friend: usize) -> Ticket {
+    const TRIP: &str = "BEGIN TRANSACTION;
+SELECT @me, fno AS @fno INTO ANSWER Trip
+  WHERE fno IN (SELECT fno FROM Flights WHERE dest = 'LA') AND (@friend, fno) IN ANSWER Trip CHOOSE 1;
+INSERT INTO Bookings VALUES (@me, @fno);
+COMMIT;
+";
+    room.put(TRIP, &values(who, friend), Patience::UntilWithdrawn).expect("the script is right")
+}
+
+fn settle(room: &Room) {
+    while room.step().expect("memory is there") != Stepped::Idle {}
+}
+
+/// The least times of a put, of the step that books two, and of a wait for one who has ended, behind so many who wait.
+fn least_of_room(count: usize, calls: usize) -> [Duration; 3] {
+    let options = RoomOptions::default().most_waiters(1_000_000);
+    let room = Room::open_with(TABLES, options).expect("the tables are right");
+    for who in 0..count {
+        put(&room, who, count + who);
+    }
+    settle(&room);
+    let mut least = [Duration::MAX; 3];
+    for call in 0..calls {
+        let (first, second) = (2 * (count + call), 2 * (count + call) + 1);
+        put(&room, first, second);
+        settle(&room);
+        let mut times = [Duration::ZERO; 3];
+        let mut time = |place: usize, begun: Instant| times[place] = begun.elapsed();
+        let begun = Instant::now();
+        let ticket = put(&room, second, first);
+        time(0, begun);
+        let begun = Instant::now();
+        assert_eq!(room.step(), Ok(Stepped::Ran));
+        time(1, begun);
+        let begun = Instant::now();
+        room.wait(ticket).expect("it committed");
+        time(2, begun);
+        least.iter_mut().zip(times).for_each(|(least, time)| *least = time.min(*least));
+    }
+    least
+}
+
 /// A manager over which so many scripts wait, each for a friend who doesn't come, behind one run of them.
 fn waiting(count: usize) -> Manager {
     let mut manager = Manager::open(TABLES).expect("the tables are right");
@@ -82,7 +132,12 @@ fn main() {
         let checked = least(calls, || assert!(check(&told).is_ok()));
         println!("{:>7}  {:>14}  {first:>9.1?}  {second:>9.1?}  {checked:>9.1?}", 2 * count, input.len());
     }
-    println!("waiting  submit     run");
+    println!("waiting  put        step       wait, in a room");
+    for count in [0, 1, 100, 10_000, 100_000] {
+        let [put, step, wait] = least_of_room(count, 50);
+        println!("{count:>7}  {put:>9.1?}  {step:>9.1?}  {wait:>9.1?}");
+    }
+    println!("waiting  submit     run, of a manager");
     for count in [0, 1, 10, 64, 100, 1000] {
         let (submit, run) = least_of_manager(count, 20);
         println!("{count:>7}  {submit:>9.1?}  {run:>9.1?}");

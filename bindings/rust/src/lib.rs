@@ -1,8 +1,15 @@
-//! Entangled SQL from Rust: tables, rows and scripts go in as text, and their report comes out.
+//! Entangled SQL from Rust: scripts wait in a room until those whom they need are there, and commit together.
 //!
-//! The work is done by a core that is proved; this crate links its static library and calls it safely. An input's
-//! scripts are run on the thread that calls, and each call stands alone, so that calls may be made from any number of
-//! threads. A [`Manager`] keeps its tables between calls, and takes scripts one by one.
+//! The work is done by a core that is proved; this crate links its static library and calls it safely.
+//!
+//! | Type or call | What it is for |
+//! |---|---|
+//! | [`Room`] | tables, and scripts that wait for those whom they need; threads and tasks are told how theirs end |
+//! | [`Manager`] | tables, and scripts that take part in the next runs, whoever is there |
+//! | [`report`], [`explain`], [`check`] | whole inputs and reports: each call stands alone, and keeps nothing |
+//!
+//! Scripts are run on the thread that calls. Calls that need neither a room nor a manager may be made from any number
+//! of threads.
 //!
 //! ```
 //! use entangle::{Version, report};
@@ -17,7 +24,8 @@
 //! # Ok::<(), entangle::Fault>(())
 //! ```
 //!
-//! A [`Fault`] says where an input is wrong, and is explained by [`explain`]; that of a script by [`Manager::explain`].
+//! A [`Fault`] says where an input is wrong, and is explained by [`explain`]; that of a script by [`Room::explain`] or
+//! [`Manager::explain`].
 //!
 //! ```
 //! use entangle::{Version, explain, report};
@@ -33,17 +41,27 @@
 
 mod answer;
 mod call;
+mod fate;
 mod fault;
 mod library;
 mod manager;
+mod opening;
+mod refusal;
+mod room;
 mod step;
+mod ticket;
 mod value;
+mod waits;
 
 pub use answer::{Answer, Fact};
+pub use fate::FutureFate;
 pub use fault::{Error, Fault, FaultKind, Place};
 pub use library::library_version;
 pub use manager::{Failure, Fate, Manager, Shared, Standing, Tx};
+pub use refusal::{BindingFault, RoomError, ValueFault};
+pub use room::{EpochReport, Patience, Room, RoomOptions, Stepped};
 pub use step::{Reply, Step};
+pub use ticket::{Ending, Submission, Ticket, TicketState};
 pub use value::{Row, Value, WrongKind};
 
 use call::{Call, Outcome};
@@ -198,3 +216,8 @@ fn verdict_in(text: &str) -> Option<Verdict> {
     let (line, rule) = text.strip_prefix("no ")?.split_once(' ')?;
     Some(Verdict::No { line: line.parse().ok()?, rule: Rule::named(rule)? })
 }
+
+/// The examples of the page are tried.
+#[cfg(doctest)]
+#[doc = include_str!("../README.md")]
+struct ReadMe;

@@ -52,7 +52,7 @@ pub enum Failure {
 }
 
 impl Failure {
-    fn numbered(number: u32) -> Self {
+    pub(crate) fn numbered(number: u32) -> Self {
         match number {
             1 => Failure::Overflow,
             2 => Failure::TableFull,
@@ -102,7 +102,7 @@ impl Standing {
 }
 
 /// What was read of lines of a report, which the library wrote.
-fn read<T>(read: Result<T, Unread>) -> Result<T, Error> {
+pub(crate) fn read<T, E: From<Fault>>(read: Result<T, Unread>) -> Result<T, E> {
     read.map_err(|unread| match unread {
         Unread::OutOfMemory => Fault::OUT_OF_MEMORY.into(),
         Unread::Strange => unreachable!("the library writes lines of a report"),

@@ -1,11 +1,17 @@
 //! Where a call promises E900, it gives E900: each allocation that this crate makes for a call fails in turn, and the
 //! process goes on. (The library's own allocations fail in turn in `bindings/c/calls.c`.)
 
-use entangle::{Answer, Error, Fault, FaultKind, Manager, Verdict, Version};
+use entangle::{
+    Answer, Ending, Error, Fault, FaultKind, Manager, Patience, Room, RoomError, RoomOptions, Row, Stepped,
+};
+use entangle::{Ticket, Value, Verdict, Version};
 use std::alloc::{GlobalAlloc, Layout, System};
 use std::cell::Cell;
 use std::fmt::Debug;
+use std::future::Future;
+use std::pin::pin;
 use std::ptr::null_mut;
+use std::task::{Context, Poll, Waker};
 
 thread_local! {
     /// How many allocations of this thread succeed before one fails, if one is to fail.
@@ -99,4 +105,67 @@ fn calls_of_a_manager_tell_that_memory_ran_out() {
     refused(|| manager.close());
     let (report, _) = refused(|| manager.report(Version::Two));
     assert!(matches!(entangle::check(&report), Ok(Verdict::Yes)));
+}
+
+/// As [`refused`], of a call of a room.
+fn refused_of_room<T: Debug>(mut call: impl FnMut() -> Result<T, RoomError>) -> (T, usize) {
+    refused(|| call().map_err(|error| error.fault().map_or(Error::State, Error::Fault)))
+}
+
+#[test]
+fn calls_of_a_room_tell_that_memory_ran_out() {
+    entangle::library_version();
+    let tables = "CREATE TABLE T (a INT, b TEXT);";
+    let rows: Vec<Row> = (0..200).map(|number| vec![Value::Int(number), "it's".into()]).collect();
+    // what the locks and the waits of a room are kept in is asked for before: Rust has no other way to make it
+    let room = Room::open_rows(tables, &[("T", &rows)], RoomOptions::default()).expect("the rows are right");
+    let values = |me: &str, friend: &str| [("me", me.into()), ("friend", friend.into())];
+    let script = "BEGIN TRANSACTION; SELECT @me, a INTO ANSWER R WHERE a IN (SELECT a FROM T)
+        AND (@friend, a) IN ANSWER R CHOOSE 1; COMMIT;";
+    let [ann, bob] = [values("Ann", "Bob"), values("Bob", "Ann")]
+        .map(|values| refused_of_room(|| room.put(script, &values, Patience::AsWritten)).0);
+    assert_eq!((ann, bob), (Ticket::new(1), Ticket::new(2)));
+    let newline = [("me", "\n".into())];
+    let error = refused(|| match room.put(script, &newline, Patience::AsWritten) {
+        Err(RoomError::OutOfMemory) => Err(Error::Fault(RoomError::OutOfMemory.fault().expect("it is E900"))),
+        other => Ok(other),
+    });
+    assert!(matches!(error, (Err(RoomError::NotBound { .. }), 1)));
+
+    let waker = Waker::noop();
+    let mut fate = pin!(room.fate(ann));
+    let (_, count) = refused_of_room(|| match fate.as_mut().poll(&mut Context::from_waker(waker)) {
+        Poll::Ready(told) => told.map(|_| ()),
+        Poll::Pending => Ok(()),
+    });
+    assert!(count > 0);
+    assert!(refused_of_room(|| room.waiting()).1 > 0);
+    let (stepped, count) = refused_of_room(|| room.step());
+    assert_eq!((stepped, count), (Stepped::Ran, 0)); // who waits is told without memory
+    let told = fate.as_mut().poll(&mut Context::from_waker(waker));
+    assert!(matches!(told, Poll::Ready(Ok(Ending::Committed { .. }))), "{told:?}");
+
+    assert!(refused_of_room(|| room.submissions(ann)).1 > 0);
+    assert!(refused_of_room(|| room.why(ann)).1 > 0);
+    assert!(refused_of_room(|| room.explain("BEGIN")).0.is_some());
+    let (table, count) = refused_of_room(|| room.table("T"));
+    assert!(table == rows && count > 200);
+    let (epoch, count) = refused_of_room(|| room.turn(&["T"]));
+    assert!(epoch == 1 && count > 0);
+    let (report, count) = refused_of_room(|| room.report(Version::Two));
+    assert!(count > 0 && report.is_some_and(|report| matches!(entangle::check(&report.text), Ok(Verdict::Yes))));
+    assert!(refused_of_room(|| room.state(bob)).0.ending().is_some());
+    let withdrawn = room.put(script, &values("Eve", "Finn"), Patience::AsWritten).expect("the script is right");
+    assert_eq!(refused_of_room(|| room.withdraw(withdrawn)).1, 0);
+}
+
+#[test]
+fn openings_over_rows_tell_that_memory_ran_out() {
+    let rows: Vec<Row> = vec![vec!["it's".into(), i64::MIN.into()]];
+    let tables = "CREATE TABLE T (a TEXT, b INT);";
+    let opened = refused(|| match Room::open_rows(tables, &[("T", &rows)], RoomOptions::default()) {
+        Err(RoomError::OutOfMemory) => Err(Error::Fault(RoomError::OutOfMemory.fault().expect("it is E900"))),
+        other => Ok(other.map(|_| ())),
+    });
+    assert!(matches!(opened, (Err(RoomError::NotARow { row: 0, column: 1, .. }), count) if count > 3), "{opened:?}");
 }

@@ -1,0 +1,600 @@
+"""What rooms promise."""
+
+import asyncio
+import copy
+import gc
+import pickle
+import queue
+import threading
+import time
+import unittest
+from unittest import mock
+
+import entangle
+
+TABLES = """CREATE TABLE Flights (fno INT, dest TEXT);
+CREATE TABLE Bookings (who TEXT, fno INT);
+INSERT INTO Flights VALUES (122, 'LA');
+INSERT INTO Flights VALUES (123, 'LA');
+INSERT INTO Flights VALUES (136, 'Paris');
+"""
+
+# Somebody flies where a friend does.
+TRIP = """BEGIN TRANSACTION WITHIN 3 RUNS;
+SELECT @me, fno AS @fno INTO ANSWER Trip
+  WHERE fno IN (SELECT fno FROM Flights WHERE dest = @dest) AND (@friend, fno) IN ANSWER Trip CHOOSE 1;
+INSERT INTO Bookings VALUES (@me, @fno);
+COMMIT;
+"""
+
+FLIGHT = "BEGIN TRANSACTION; INSERT INTO Flights VALUES (@fno, @dest); COMMIT;"
+UNTIL_WITHDRAWN = entangle.Patience.UNTIL_WITHDRAWN
+
+
+def trip(me, friend, dest="LA"):
+    return {"me": me, "friend": friend, "dest": dest}
+
+
+def put(room, me, friend):
+    """Puts the trip of somebody to LA, who waits until it is withdrawn."""
+    return room.put(TRIP, trip(me, friend), UNTIL_WITHDRAWN)
+
+
+def settle(room):
+    """Makes steps until there is nothing to do."""
+    while room.step() != "idle":
+        pass
+
+
+class Stepping:
+    """A thread that makes steps whenever it is told that something was put."""
+
+    def __init__(self, room):
+        self.told = queue.Queue()
+        self.thread = threading.Thread(target=self.run, args=(room,))
+
+    def run(self, room):
+        while self.told.get():
+            settle(room)
+
+    def __enter__(self):
+        self.thread.start()
+        return lambda: self.told.put(True)
+
+    def __exit__(self, *_):
+        self.told.put(False)
+        self.thread.join()
+
+
+class Rooms(unittest.TestCase):
+    def room(self, **options):
+        room = entangle.Room(TABLES, **options)
+        self.addCleanup(room.close)
+        return room
+
+    def refused(self, code, call, *given):
+        with self.assertRaises(entangle.Refused) as caught:
+            call(*given)
+        self.assertEqual(caught.exception.code, code)
+        return caught.exception
+
+    def test_friends_meet_whenever_they_come(self):
+        room = self.room()
+        mickey = put(room, "Mickey", "Minnie")
+        self.assertEqual(room.state(mickey), entangle.TicketWaits(batches=0))
+        settle(room)
+        self.assertEqual(room.state(mickey), entangle.TicketLonely(demand=0))
+        self.assertTrue(room.why(mickey).startswith("lonely"))
+        self.assertEqual((room.submissions(mickey), room.waiting()), ([], [mickey]))
+        minnie = put(room, "Minnie", "Mickey")
+        self.assertLess(mickey, minnie)
+        self.assertEqual(room.step(), "ran")
+        ends = {room.state(mickey), room.state(minnie)}
+        self.assertEqual(ends, {entangle.TicketCommitted(epoch=1, number=number) for number in (1, 2)})
+        self.assertEqual(room.table("Bookings"), [("Mickey", 122), ("Minnie", 122)])
+        self.assertEqual(room.submissions(mickey), [entangle.Submission(epoch=1, tx=1)])
+        self.assertEqual(room.submissions(minnie), [entangle.Submission(epoch=1, tx=2)])
+        self.assertEqual((room.waiting(), room.step()), ([], "idle"))
+
+    def test_bound_values_are_values_wherever_they_stand(self):
+        room = self.room()
+        first, second = "O'Hara '); DELETE FROM Flights; --", "東 @me ''"
+        tickets = [put(room, first, second), put(room, second, first)]
+        settle(room)
+        self.assertTrue(all(room.state(ticket).kind == "committed" for ticket in tickets))
+        self.assertEqual(room.table("Bookings"), [(first, 122), (second, 122)])
+        numbers = [2**63 - 1, -(2**63) + 1, 0]
+        for number in numbers:
+            room.put(FLIGHT, {"fno": number, "dest": ""})
+        settle(room)
+        self.assertEqual([fno for fno, dest in room.table("Flights") if dest == ""], sorted(numbers))
+
+    def test_values_that_cannot_be_bound_are_refused(self):
+        room, fault = self.room(), entangle.BindingFault
+        for name, value, why in [
+            ("me", -(2**63), fault.LEAST_NUMBER),
+            ("me", 2**63, fault.TOO_LARGE),
+            ("me", -(10**30), fault.TOO_LARGE),
+            ("me", 86 * "東", fault.TOO_LONG),
+            ("me", 256 * "a", fault.TOO_LONG),
+            ("me", "\ud800", fault.NOT_UTF8),
+            ("me", "a\nb", fault.CONTROL_CHARACTER),
+            ("me", "\0", fault.CONTROL_CHARACTER),
+            ("me", "\x7f", fault.CONTROL_CHARACTER),
+            ("fno", 1, fault.SET_BY_SCRIPT),
+            ("nobody", 1, fault.UNUSED),
+            ("@me", 1, fault.NO_NAME),
+            ("", 1, fault.NO_NAME),
+            ("a b", "x", fault.NO_NAME),
+        ]:
+            with self.subTest(name=name, value=value), self.assertRaises(entangle.NotBound) as caught:
+                room.put(TRIP, {**trip("Mickey", "Minnie"), name: value})
+            self.assertEqual((caught.exception.variable, caught.exception.fault), (name, why))
+            self.assertEqual(str(caught.exception), f"@{name} isn't bound: {why.value}")
+        self.refused(306, room.put, TRIP, {"me": 1, "friend": 2})
+        self.assertEqual(room.waiting(), [])
+        self.assertEqual(put(room, "Mickey", "Minnie"), entangle.Ticket(1))
+
+    def test_a_faulty_script_is_refused_and_explained(self):
+        room = self.room()
+        script = "BEGIN TRANSACTION;\n-- 東\nSELECT fno FROM Flights WHERE dst = 'LA';\nCOMMIT;"
+        fault = self.refused(302, room.put, script)
+        self.assertEqual((str(fault), fault.line, fault.column), ("E302 at 56", 3, 31))
+        said = room.explain(script)
+        self.assertTrue(said.startswith("E302 at 56\nline 3, column 31: Flights has no column dst\n"), said)
+        self.assertEqual(fault.explanation, said)
+        self.assertIsNone(room.explain("BEGIN TRANSACTION; COMMIT;"))
+        self.refused(201, room.put, "COMMIT;")
+        self.refused(201, room.put, 2 * "BEGIN TRANSACTION; COMMIT;")
+        self.refused(100, room.put, b"BEGIN \xff")
+        opening = self.refused(201, entangle.Room, "CREATE TABLE T (a INTEGER);")
+        self.assertTrue(opening.explanation.startswith("E201 at 18\nline 1, column 19: "))
+        self.assertEqual(room.waiting(), [])
+
+    def test_patience_ends(self):
+        room = self.room()
+
+        def pair(patience, me, friend):
+            # their meetings bring nothing: nothing flies to Rome
+            values = [trip(me, friend, "Rome"), trip(friend, me, "Rome")]
+            return [room.put(TRIP, *given) for given in zip(values, patience)]
+
+        eve, finn = pair([1, UNTIL_WITHDRAWN], "Eve", "Finn")
+        ann, bob = pair([entangle.Patience.AS_WRITTEN, 1_000], "Ann", "Bob")
+        settle(room)
+        self.assertEqual(room.state(eve), entangle.TicketGaveUp())
+        self.assertEqual(room.state(finn), entangle.TicketLonely(demand=0))
+        self.assertEqual([room.state(ann), room.state(bob)], 2 * [entangle.TicketWaits(batches=1)])
+        for batches in (2, 3):
+            # what they read changes, and so they are tried again
+            room.put(FLIGHT, {"fno": batches, "dest": "Oslo"})
+            settle(room)
+            self.assertEqual(room.state(ann).is_over, batches == 3)
+        self.assertEqual((room.state(ann).kind, room.state(bob).kind), ("gave up", "lonely"))
+        for batches in (0, -1, 1_001, 2**70):
+            self.assertRaises(ValueError, room.put, "BEGIN TRANSACTION; COMMIT;", None, batches)
+
+    def test_scripts_end_as_they_say(self):
+        room = self.room()
+        scripts = ["INSERT INTO Bookings VALUES ('x', 1); ROLLBACK", "SET @d = 9223372036854775807 + 1; COMMIT"]
+        scripts.append("INSERT INTO Bookings VALUES ('y', 2); COMMIT")
+        tickets = [room.put(f"BEGIN TRANSACTION; {script};") for script in scripts]
+        self.assertEqual(room.step(), "ran")
+        ends = [entangle.TicketRolledBack(), entangle.TicketFailed(entangle.Failure.OVERFLOW)]
+        ends.append(entangle.TicketCommitted(epoch=1, number=1))
+        self.assertEqual([room.wait(ticket) for ticket in tickets], ends)
+        self.assertEqual(room.table("Bookings"), [("y", 2)])
+
+    def test_who_is_withdrawn_waits_no_more(self):
+        room = self.room()
+        mickey = put(room, "Mickey", "Minnie")
+        room.withdraw(mickey)
+        self.assertEqual(room.state(mickey), entangle.TicketWithdrawn())
+        minnie = put(room, "Minnie", "Mickey")
+        settle(room)
+        self.assertEqual(room.state(minnie), entangle.TicketLonely(demand=0))
+        for ticket in (mickey, entangle.Ticket(3), entangle.Ticket(2**64 - 1)):
+            self.assertRaises(entangle.NobodyWaits, room.withdraw, ticket)
+        self.assertEqual(room.wait(mickey), entangle.TicketWithdrawn())
+
+    def test_who_is_lonely_is_told_which_demand_nobody_offers(self):
+        room = self.room()
+        mickey = room.put(
+            """BEGIN TRANSACTION;
+            SELECT 'Mickey', fno INTO ANSWER Trip WHERE fno IN (SELECT fno FROM Flights)
+              AND ('Minnie', fno) IN ANSWER Trip AND ('Goofy', fno) IN ANSWER Trip CHOOSE 1;
+            COMMIT;""",
+            patience=UNTIL_WITHDRAWN,
+        )
+        put(room, "Minnie", "Mickey")
+        settle(room)
+        self.assertEqual(room.state(mickey), entangle.TicketLonely(demand=1))
+        self.assertEqual(room.state(entangle.Ticket(99)), entangle.TicketUnknown())
+
+    def test_who_waited_in_an_earlier_process_comes_in_again(self):
+        room = self.room(epoch=7, next_ticket=entangle.Ticket(10))
+
+        def restore(number, values, batches=0):
+            room.restore(entangle.Ticket(number), TRIP, values, 2, batches)
+
+        restore(3, trip("Eve", "Finn", "Rome"), 1)
+        for used in (2, 3, 10):
+            self.assertRaises(entangle.TicketUsed, restore, used, trip("Ann", "Bob"))
+        self.assertRaises(entangle.NotBound, restore, 5, {"me": "\n"})
+        self.refused(306, restore, 5, {})
+        restore(7, trip("Finn", "Eve", "Rome"))
+        self.assertEqual(put(room, "Ann", "Bob"), entangle.Ticket(10))
+        self.assertEqual(room.waiting(), [entangle.Ticket(number) for number in (3, 7, 10)])
+        settle(room)
+        self.assertEqual(room.state(entangle.Ticket(3)), entangle.TicketGaveUp())
+        self.assertEqual(room.submissions(entangle.Ticket(3)), [entangle.Submission(epoch=7, tx=1)])
+        self.assertEqual((room.state(entangle.Ticket(5)), room.epoch()), (entangle.TicketUnknown(), 7))
+
+    def test_a_turn_gives_a_report_and_drains_tables(self):
+        room = self.room()
+        self.assertEqual((room.epoch(), room.report(2)), (1, None))
+        put(room, "Mickey", "Minnie")
+        put(room, "Minnie", "Mickey")
+        eve = put(room, "Eve", "Finn")
+        settle(room)
+        flights = room.table("Flights")
+        for names in (["Bookings", "Nobody"], ["Bookings Flights"], [""], ["Bookings;"]):
+            self.refused(401, room.turn, *names)
+        self.assertEqual((room.epoch(), len(room.table("Bookings"))), (1, 2))
+        self.assertEqual(room.turn("Bookings"), 1)
+        self.assertEqual((room.epoch(), room.table("Flights"), room.table("Bookings")), (2, flights, []))
+        told = room.report(2)
+        self.assertEqual((told.epoch, entangle.check(told.text)), (1, entangle.Verdict(is_legal=True)))
+        self.assertIn("\n('Mickey', 122)\n('Minnie', 122)\n", told.text)
+        self.assertIn("joint 1 1.1 2.1\n", room.report().text)
+        finn = put(room, "Finn", "Eve")
+        settle(room)
+        self.assertEqual((room.wait(eve).epoch, [one.epoch for one in room.submissions(finn)]), (2, [2]))
+        self.assertEqual((room.turn(), len(room.table("Bookings"))), (2, 2))
+        told = room.report(2)
+        self.assertEqual((told.epoch, entangle.check(told.text).is_legal), (2, True))
+        self.assertEqual(room.turn("Bookings", "Flights"), 3)
+        self.assertEqual((room.table("Bookings"), room.table("Flights")), ([], []))
+        self.assertRaises(ValueError, room.report, 3)
+
+    def test_a_step_ends_an_epoch_by_itself(self):
+        room = self.room()
+        mickey = put(room, "Mickey", "Minnie")
+        for _ in range(10_001):
+            room.put("BEGIN TRANSACTION; COMMIT;")
+        settle(room)
+        told = room.report(2)
+        self.assertEqual((told.epoch, entangle.check(told.text).is_legal, room.epoch()), (1, True, 2))
+        put(room, "Minnie", "Mickey")
+        settle(room)
+        self.assertEqual(room.wait(mickey).epoch, 2)
+
+    def test_there_is_a_last_epoch(self):
+        room = self.room(epoch=2**64 - 1)
+        self.assertRaises(entangle.NoMoreEpochs, room.turn)
+        self.assertEqual((room.epoch(), room.report()), (2**64 - 1, None))
+
+    def test_tables_with_too_many_rows_are_drained(self):
+        rows = {"T": [(row,) for row in range(65_536)]}
+        with entangle.Room("CREATE TABLE T (a INT); CREATE TABLE U (a INT);", rows) as room:
+            room.put("BEGIN TRANSACTION; INSERT INTO U VALUES (1); COMMIT;")
+            settle(room)
+            self.refused(407, room.turn)
+            self.assertEqual((room.epoch(), room.turn("T"), room.epoch()), (1, 1, 2))
+            self.assertEqual((room.table("T"), room.table("U")), ([], [(1,)]))
+
+    def test_rows_are_given_as_values(self):
+        rows = [("it's", 1), ("東", -(2**63) + 1), ("", 0), ("'); DELETE FROM U; --", 2), ("\x85\u2028", 2**63 - 1)]
+        rows += [(85 * "東", 3), (255 * "'", 4)]
+        tables = "CREATE TABLE T (a TEXT, b INT); CREATE TABLE U (a INT); -- and no more"
+        with entangle.Room(tables, {"T": rows, "U": iter([[5]])}) as room:
+            self.assertEqual((room.table("T"), room.table("U")), (sorted(rows), [(5,)]))
+            with entangle.Room(tables.encode(), {"T": room.table("T")}) as again:
+                self.assertEqual(again.table("T"), room.table("T"))
+        self.refused(304, entangle.Room, tables, {"T": [(1, 1)]})
+        self.refused(303, entangle.Room, tables, {"T": [("a",)]})
+        self.refused(301, entangle.Room, tables, {"V": [("a",)]})
+        for name in ("T U", "", "T VALUES ('x', 1); --", "T\n", "Tä", 64 * "T"):
+            self.refused(401, entangle.Room, tables, {name: [("a", 1)]})
+
+    def test_rows_that_no_script_can_spell_are_refused(self):
+        fault = entangle.BindingFault
+        for value, why in [
+            (-(2**63), fault.LEAST_NUMBER),
+            (2**63, fault.TOO_LARGE),
+            (86 * "東", fault.TOO_LONG),
+            (256 * "a", fault.TOO_LONG),
+            ("\udfff", fault.NOT_UTF8),
+            ("a\nb", fault.CONTROL_CHARACTER),
+            ("\r", fault.CONTROL_CHARACTER),
+            ("\x7f", fault.CONTROL_CHARACTER),
+        ]:
+            with self.subTest(value=value), self.assertRaises(entangle.NotARow) as caught:
+                entangle.Room("CREATE TABLE T (a INT, b TEXT);", {"T": [(1, "a"), (2, value)]})
+            found = caught.exception
+            self.assertEqual((found.table, found.row, found.column, found.fault), ("T", 1, 1, why))
+            self.assertEqual(str(found), f"value 1 of row 1 of T: {why.value}")
+        for wrong in (True, 1.5, None, b"a"):
+            self.assertRaisesRegex(TypeError, "a value is an int or a str", entangle.Room, TABLES, {"T": [(wrong,)]})
+        for wrong in ("ab", b"ab"):
+            self.assertRaisesRegex(TypeError, "a row is a sequence of values", entangle.Room, TABLES, {"T": [wrong]})
+        self.assertRaisesRegex(TypeError, "a table's name is a str", entangle.Room, TABLES, {1: [(1,)]})
+
+    def test_scripts_of_an_opening_are_put_in_order(self):
+        opening = "CREATE TABLE T (a INT); BEGIN TRANSACTION; COMMIT; BEGIN TRANSACTION; ROLLBACK;"
+        with entangle.Room(opening, next_ticket=entangle.Ticket(5), most_waiters=2) as room:
+            self.assertEqual(room.waiting(), [entangle.Ticket(5), entangle.Ticket(6)])
+            settle(room)
+            self.assertEqual(room.wait(entangle.Ticket(6)), entangle.TicketRolledBack())
+        with self.assertRaises(entangle.RoomFull):
+            entangle.Room(opening, most_waiters=1)
+
+    def test_a_full_room_takes_nobody(self):
+        room = self.room(most_waiters=1)
+        eve = put(room, "Eve", "Finn")
+        self.assertRaises(entangle.RoomFull, put, room, "Finn", "Eve")
+        room.withdraw(eve)
+        self.assertEqual(put(room, "Finn", "Eve"), entangle.Ticket(2))
+
+    def test_wrong_types_are_refused(self):
+        room = self.room()
+        for wrong in (5, None, ("a",)):
+            self.assertRaisesRegex(TypeError, " is a str or bytes, not ", room.put, wrong)
+            self.assertRaisesRegex(TypeError, " is a str or bytes, not ", room.explain, wrong)
+            self.assertRaisesRegex(TypeError, " is a str or bytes, not ", room.table, wrong)
+            self.assertRaises(TypeError, room.turn, wrong)
+        for wrong in (1, "1", None):
+            for call in (room.state, room.withdraw, room.wait, room.submissions, room.why):
+                with self.subTest(wrong=wrong, call=call):
+                    self.assertRaisesRegex(TypeError, "a ticket is a Ticket", call, wrong)
+            self.assertRaises(TypeError, entangle.Room, TABLES, next_ticket=wrong)
+        for wrong in (True, 1.5, None, b"a", [1]):
+            self.assertRaisesRegex(TypeError, "a value is an int or a str", room.put, TRIP, {"me": wrong})
+        self.assertRaises(TypeError, room.put, TRIP, {1: "a"})
+        for wrong in (True, 1.5, "1"):
+            self.assertRaises(TypeError, room.put, TRIP, None, wrong)
+            self.assertRaises(TypeError, entangle.Ticket, wrong)
+        for wrong in (-1, 2**64):
+            self.assertRaises(ValueError, entangle.Ticket, wrong)
+            self.assertRaises(ValueError, entangle.Room, TABLES, epoch=wrong)
+            self.assertRaises(ValueError, entangle.Room, TABLES, most_waiters=wrong)
+        self.assertEqual(room.waiting(), [])
+
+    def test_a_room_is_neither_copied_nor_pickled(self):
+        room = self.room()
+        self.assertRaisesRegex(TypeError, "a room can't be copied", copy.copy, room)
+        self.assertRaisesRegex(TypeError, "a room can't be copied", copy.deepcopy, [room])
+        self.assertRaisesRegex(TypeError, "a room can't be pickled", pickle.dumps, room)
+        for thing in (entangle.Ticket(7), entangle.TicketCommitted(1, 2), entangle.Submission(1, 2)):
+            self.assertEqual((copy.deepcopy(thing), pickle.loads(pickle.dumps(thing))), (thing, thing))
+        errors = [entangle.NotBound("me", entangle.BindingFault.TWICE), entangle.RoomFull("full")]
+        for error in [*errors, entangle.NotARow("T", 1, 2, entangle.BindingFault.TOO_LONG)]:
+            again = pickle.loads(pickle.dumps(error))
+            self.assertEqual((type(again), str(again), vars(again)), (type(error), str(error), vars(error)))
+
+    def test_refusals_are_errors_of_the_package(self):
+        kinds = "RoomFull NotBound NotARow TicketUsed NobodyWaits UnknownTicket BatchIsOn NoMoreEpochs"
+        for name in kinds.split():
+            self.assertTrue(issubclass(getattr(entangle, name), entangle.RoomError))
+        self.assertTrue(issubclass(entangle.RoomError, entangle.Error))
+
+
+class Waits(unittest.TestCase):
+    """Threads that wait."""
+
+    room = Rooms.room
+
+    def test_threads_share_a_room(self):
+        room, ends = self.room(), []
+
+        def book(me, friend):
+            ticket = put(room, f"p{me}", f"p{friend}")
+            told()
+            ends.append(room.wait(ticket, 60).kind)
+
+        with Stepping(room) as told:
+            people = [(2 * pair + one, 2 * pair + 1 - one) for pair in range(16) for one in range(2)]
+            threads = [threading.Thread(target=book, args=pair) for pair in people]
+            for thread in threads:
+                thread.start()
+            for thread in threads:
+                thread.join()
+        self.assertEqual((ends, len(room.table("Bookings")), room.waiting()), (32 * ["committed"], 32, []))
+
+    def test_a_wait_has_a_deadline(self):
+        room = self.room()
+        mickey = put(room, "Mickey", "Minnie")
+        settle(room)
+        begun = time.monotonic()
+        for timeout in (0.05, 0, -1):
+            self.assertRaises(TimeoutError, room.wait, mickey, timeout)
+        self.assertGreaterEqual(time.monotonic() - begun, 0.05)
+        self.assertEqual(room.state(mickey), entangle.TicketLonely(demand=0))
+        self.assertFalse(room._waits.tickets())
+        put(room, "Minnie", "Mickey")
+        settle(room)
+        self.assertEqual(room.wait(mickey, 0).kind, "committed")
+        self.assertRaises(entangle.UnknownTicket, room.wait, entangle.Ticket(3))
+
+    def test_how_a_ticket_ended_is_kept_for_a_while(self):
+        room, said = self.room(most_ended=1), []
+        tickets = [put(room, "Mickey", "Minnie"), put(room, "Minnie", "Mickey")]
+        for ticket in tickets:
+            room._listen(ticket, said.append)
+        settle(room)
+        self.assertEqual(sorted(type(told).__name__ for told in said), ["Broken", "TicketCommitted"])
+        self.assertEqual(sorted(room.state(ticket).kind for ticket in tickets), ["committed", "unknown"])
+        room, said = self.room(most_ended=0), []
+        room._listen(put(room, "Eve", "Finn"), said.append)
+        settle(room)
+        self.assertEqual(said, [])
+        room.withdraw(entangle.Ticket(1))
+        self.assertEqual(len(said), 1)
+
+    def test_a_step_that_finds_no_memory_tells_who_ended(self):
+        room, library, said = self.room(), entangle._room.LIBRARY, []
+        step = library.ent_c_room_step
+
+        def stops(*given):
+            step(*given)
+            return entangle._library.OUT_OF_MEMORY
+
+        def is_busy(place, ticket, refusal):
+            refusal._obj.value = 13
+            return entangle._library.REFUSED
+
+        room._listen(put(room, "Mickey", "Minnie"), said.append)
+        put(room, "Minnie", "Mickey")
+        with mock.patch.object(library, "ent_c_room_step", stops):
+            self.assertRaises(entangle.OutOfMemory, room.step)
+        self.assertEqual([told.kind for told in said], ["committed"])
+        with mock.patch.object(library, "ent_c_room_withdraw", is_busy):
+            self.assertRaises(entangle.BatchIsOn, room.withdraw, entangle.Ticket(1))
+
+    def test_no_step_asks_for_ends_that_are_known(self):
+        room = self.room()
+        for fno in range(100):
+            room.put(FLIGHT, {"fno": fno, "dest": "Rome"})
+        settle(room)
+        library = entangle._room.LIBRARY
+        with mock.patch.object(library, "ent_c_room_ended", wraps=library.ent_c_room_ended) as asked:
+            self.assertEqual((room.step(), asked.call_count), ("idle", 1))
+            room.withdraw(put(room, "Mickey", "Minnie"))
+            self.assertEqual(asked.call_count, 3)
+
+    def test_a_closed_room_ends_all_waits(self):
+        room, ends = self.room(), []
+        mickey = put(room, "Mickey", "Minnie")
+
+        def wait():
+            try:
+                room.wait(mickey)
+            except entangle.StateError as error:
+                ends.append(str(error))
+
+        threads = [threading.Thread(target=wait) for _ in range(2)]
+        for thread in threads:
+            thread.start()
+        while len(room._waits._of_ticket.get(mickey, [])) < 2:
+            time.sleep(0.001)
+        room.close()
+        for thread in threads:
+            thread.join()
+        self.assertEqual(ends, 2 * ["the room is closed"])
+        room.close()
+        for call in (
+            lambda: put(room, "Mickey", "Minnie"),
+            lambda: room.restore(mickey, TRIP, trip("Mickey", "Minnie")),
+            lambda: room.withdraw(mickey),
+            lambda: room.state(mickey),
+            lambda: room.wait(mickey),
+            lambda: room.submissions(mickey),
+            lambda: room.why(mickey),
+            lambda: room.explain("BEGIN"),
+            lambda: room.table("Flights"),
+            lambda: room.turn("Flights"),
+            room.step,
+            room.epoch,
+            room.turn,
+            room.report,
+            room.waiting,
+        ):
+            self.assertRaisesRegex(entangle.StateError, "the room is closed", call)
+
+
+class Fates(unittest.IsolatedAsyncioTestCase):
+    """Event loops that wait."""
+
+    room = Rooms.room
+
+    async def test_friends_await_their_fates(self):
+        room = self.room()
+
+        async def book(me, friend):
+            ticket = put(room, me, friend)
+            told()
+            return (await room.fate(ticket)).kind
+
+        with Stepping(room) as told:
+            pairs = [(f"p{one}", f"p{one ^ 1}") for one in range(32)]
+            self.assertEqual(await asyncio.gather(*(book(*pair) for pair in pairs)), 32 * ["committed"])
+        self.assertEqual((len(room.table("Bookings")), room._waits.tickets()), (32, []))
+
+    async def test_steps_may_be_made_in_the_loop_too(self):
+        room = self.room()
+        mickey = put(room, "Mickey", "Minnie")
+        fate = asyncio.ensure_future(room.fate(mickey))
+        await asyncio.sleep(0)
+        self.assertEqual(room._waits.tickets(), [mickey])
+        put(room, "Minnie", "Mickey")
+        self.assertFalse(fate.done())
+        settle(room)
+        self.assertEqual((await fate).kind, "committed")
+        self.assertEqual(await room.fate(mickey), room.state(mickey))
+
+    async def test_a_cancelled_wait_withdraws_nothing(self):
+        room = self.room()
+        mickey = put(room, "Mickey", "Minnie")
+        with self.assertRaises(asyncio.TimeoutError):
+            await asyncio.wait_for(room.fate(mickey), 0.02)
+        fate = asyncio.ensure_future(room.fate(mickey))
+        await asyncio.sleep(0)
+        fate.cancel()
+        with self.assertRaises(asyncio.CancelledError):
+            await fate
+        self.assertEqual((room._waits.tickets(), room.state(mickey).kind), ([], "waits"))
+        put(room, "Minnie", "Mickey")
+        settle(room)
+        self.assertEqual((await room.fate(mickey)).kind, "committed")
+
+    async def test_a_wait_is_cancelled_while_it_is_told(self):
+        room = self.room()
+        eve = put(room, "Eve", "Finn")
+        fate = asyncio.ensure_future(room.fate(eve))
+        await asyncio.sleep(0)
+        said = []
+        asyncio.get_running_loop().set_exception_handler(lambda _, context: said.append(context))
+        room.withdraw(eve)
+        fate.cancel()
+        with self.assertRaises(asyncio.CancelledError):
+            await fate
+        await asyncio.sleep(0)
+        self.assertEqual((room._waits.tickets(), said), ([], []))
+
+    async def test_errors_are_awaited_too(self):
+        room = self.room()
+        with self.assertRaises(entangle.UnknownTicket):
+            await room.fate(entangle.Ticket(9))
+        with self.assertRaises(TypeError):
+            await room.fate(9)
+        fates = [asyncio.ensure_future(room.fate(put(room, "Mickey", "Minnie"))) for _ in range(2)]
+        await asyncio.sleep(0)
+        room.close()
+        for fate in fates:
+            with self.assertRaises(entangle.StateError):
+                await fate
+        with self.assertRaises(entangle.StateError):
+            await room.fate(entangle.Ticket(1))
+
+
+class Loops(unittest.TestCase):
+    """Event loops that come and go."""
+
+    def test_a_loop_may_be_gone_when_it_would_be_told(self):
+        with entangle.Room(TABLES) as room:
+            loop = asyncio.new_event_loop()
+            coroutine = room.fate(put(room, "Mickey", "Minnie"))
+            task = loop.create_task(coroutine)
+            loop.run_until_complete(asyncio.sleep(0))
+            loop.close()
+            room.withdraw(entangle.Ticket(1))
+            self.assertFalse(task.done())
+            task._log_destroy_pending = False
+            coroutine.close()
+
+    def test_a_room_that_nobody_has_any_more_is_freed(self):
+        for _ in range(100):
+            room = entangle.Room(TABLES)
+            put(room, "Mickey", "Minnie")
+        del room
+        gc.collect()
