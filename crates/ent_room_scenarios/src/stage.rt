@@ -260,7 +260,10 @@ impl Stage {
             self.say("E900\n")?;
             answered = self.room.turn(drained.as_slice());
         }
-        told::turned(self.alloc, answered, self.room.book(), is_told)
+        match answered {
+            Ok(()) => told::turned(self.alloc, self.room.book(), is_told),
+            Err(refusal) => told::not_turned(self.alloc, refusal),
+        }
     }
 
     fn state(&self, ticket: Ticket) -> Result<String> {

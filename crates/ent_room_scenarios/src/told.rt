@@ -78,26 +78,21 @@ pub(crate) fn idle(alloc: Global, ran: u64) -> Result<String> {
     Ok(format!(in alloc; "idle, ran {ran}\n")?)
 }
 
-/// An epoch ended, or it didn't; with its report, where that is told.
-pub(crate) fn turned(
-    alloc: Global,
-    answered: Result<(), Refusal<NotTurned>>,
-    kept: Option<&EpochBook>,
-    is_told: bool,
-) -> Result<String> {
-    match answered {
-        Ok(()) if is_told => book_report(alloc, kept),
-        Ok(()) => Ok(format!(in alloc; "turned, {}", book(alloc, kept)?)?),
-        Err(Refusal::Memory) => bail!("memory ran out twice"),
-        Err(Refusal::Fault(refused)) => not_turned(alloc, refused),
+/// An epoch ended, whose book is kept; with its report, where that is told.
+pub(crate) fn turned(alloc: Global, kept: Option<&EpochBook>, is_told: bool) -> Result<String> {
+    match kept {
+        Some(last) if is_told => report(alloc, &last.book),
+        Some(last) => Ok(format!(in alloc; "turned, commits {}\n", commits(&last.book))?),
+        None => Ok(format!(in alloc; "no book\n")?),
     }
 }
 
-fn not_turned(alloc: Global, refused: NotTurned) -> Result<String> {
-    Ok(match refused {
-        NotTurned::Busy => format!(in alloc; "busy\n")?,
-        NotTurned::TooManyRows => format!(in alloc; "E407\n")?,
-        NotTurned::NoNumber => format!(in alloc; "no number\n")?,
+pub(crate) fn not_turned(alloc: Global, refusal: Refusal<NotTurned>) -> Result<String> {
+    Ok(match refusal {
+        Refusal::Memory => bail!("memory ran out twice"),
+        Refusal::Fault(NotTurned::Busy) => format!(in alloc; "busy\n")?,
+        Refusal::Fault(NotTurned::TooManyRows) => format!(in alloc; "E407\n")?,
+        Refusal::Fault(NotTurned::NoNumber) => format!(in alloc; "no number\n")?,
     })
 }
 
@@ -118,17 +113,21 @@ fn text_of(bytes: Vec<u8>) -> Result<String> {
     String::from_utf8(bytes).context("the replies aren't UTF-8")
 }
 
-/// The epoch of the book that is kept, and how many scripts committed in it.
+/// The epoch that ended last, and how many scripts committed in it.
 pub(crate) fn book(alloc: Global, kept: Option<&EpochBook>) -> Result<String> {
     match kept {
-        Some(kept) => Ok(format!(in alloc; "epoch {}, commits {}\n", kept.epoch, commits(&kept.book))?),
+        Some(last) => Ok(format!(in alloc;
+            "epoch {}, commits {}\n",
+            last.epoch,
+            commits(&last.book)
+        )?),
         None => Ok(format!(in alloc; "no book\n")?),
     }
 }
 
 pub(crate) fn book_report(alloc: Global, kept: Option<&EpochBook>) -> Result<String> {
     match kept {
-        Some(kept) => report(alloc, &kept.book),
+        Some(last) => report(alloc, &last.book),
         None => Ok(format!(in alloc; "no book\n")?),
     }
 }
