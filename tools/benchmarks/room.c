@@ -4,6 +4,7 @@
  *     room pairs N SEED     puts N pairs of friends in random order, and steps until nothing is left to do
  *     room lonely N         N wait whom nobody may answer; then pairs come, each of which one step books
  *     room writers N        N wait for a seat; then writers come, and after each a pair
+ *     room anybody N        N come whose demands anybody may meet, and whom the tables don't fit; behind them a pair
  *
  * Each line of its output is a name and a number. It ends with status 1 if somebody who had to commit didn't.
  */
@@ -35,6 +36,12 @@ static const char SEATED[] = "BEGIN TRANSACTION;"
                              " WHERE flight IN (SELECT flight FROM Seats)"
                              " AND (@friend, flight) IN ANSWER S CHOOSE 1;"
                              "COMMIT;";
+static const char ANYBODY[] = "BEGIN TRANSACTION;"
+                              "SELECT @me, fno AS @f INTO ANSWER R"
+                              " WHERE fno IN (SELECT fno FROM Flights WHERE dest = 'Oslo')"
+                              " AND who IN (SELECT who FROM Bookings)"
+                              " AND (who, fno) IN ANSWER R CHOOSE 1;"
+                              "COMMIT;";
 static const char WRITER[] = "BEGIN TRANSACTION; DELETE FROM Seats; COMMIT;";
 
 static entangle_room *room;
@@ -68,14 +75,14 @@ static void open_room(const char *opening, size_t length, uint64_t most_waiters)
     check(entangle_room_open(&room, opening, length, 1, 1, &limits, &refusal, &told), "the room isn't opened");
 }
 
-/* Puts a script with the two names bound in it. */
+/* Puts a script with the names bound in it that are given. */
 static uint64_t put(const char *script, const char *me, const char *friend) {
     entangle_values *values = NULL;
     entangle_told told;
     uint32_t refusal;
     uint64_t ticket;
-    if (me) {
-        check(entangle_values_text(&values, "me", 2, me, strlen(me), &refusal), "a name isn't bound");
+    if (me) check(entangle_values_text(&values, "me", 2, me, strlen(me), &refusal), "a name isn't bound");
+    if (friend) {
         check(entangle_values_text(&values, "friend", 6, friend, strlen(friend), &refusal), "a name isn't bound");
     }
     check(entangle_room_put(&room, script, strlen(script), &values, ENTANGLE_UNTIL_WITHDRAWN, &ticket, &refusal, &told),
@@ -229,11 +236,36 @@ static void writers(size_t count) {
     tell("the step of a pair that comes then:", stepped, TRIES);
 }
 
+static void anybody(size_t count) {
+    double longest_put = 0, longest_step = 0, begun;
+    uint64_t pair[2], steps = 0;
+    open_room(OPENING, sizeof OPENING - 1, 1000000);
+    for (size_t i = 0; i < count + 2; i++) {
+        char me[32];
+        snprintf(me, sizeof me, "G%zu", i);
+        begun = now(CLOCK_MONOTONIC);
+        if (i < count) put(ANYBODY, me, NULL);
+        else pair[i - count] = put(FRIEND, i == count ? "A" : "B", i == count ? "B" : "A");
+        if (now(CLOCK_MONOTONIC) - begun > longest_put) longest_put = now(CLOCK_MONOTONIC) - begun;
+    }
+    double first = now(CLOCK_MONOTONIC);
+    while (!committed(pair[0]) || !committed(pair[1])) {
+        begun = now(CLOCK_MONOTONIC);
+        if (step() == ENTANGLE_IDLE) stop("a pair behind those whom anybody may meet isn't booked");
+        if (now(CLOCK_MONOTONIC) - begun > longest_step) longest_step = now(CLOCK_MONOTONIC) - begun;
+        steps++;
+    }
+    printf("%zu whose demands anybody may meet: the pair behind them is booked after %llu steps, %.2f s; the longest put "
+           "%.2f ms, the longest step %.2f ms\n",
+           count, (unsigned long long)steps, now(CLOCK_MONOTONIC) - first, longest_put * 1e3, longest_step * 1e3);
+}
+
 int main(int count, char **words) {
     if (count == 3 && !strcmp(words[1], "arranged")) arranged(words[2]);
     else if (count == 4 && !strcmp(words[1], "pairs")) pairs(strtoul(words[2], NULL, 10), strtoul(words[3], NULL, 10));
     else if (count == 3 && !strcmp(words[1], "lonely")) lonely(strtoul(words[2], NULL, 10));
     else if (count == 3 && !strcmp(words[1], "writers")) writers(strtoul(words[2], NULL, 10));
+    else if (count == 3 && !strcmp(words[1], "anybody")) anybody(strtoul(words[2], NULL, 10));
     else return 2;
     entangle_room_free(&room);
     return 0;
