@@ -5,6 +5,8 @@
  *     room lonely N         N wait whom nobody may answer; then pairs come, each of which one step books
  *     room writers N        N wait for a seat; then writers come, and after each a pair
  *     room anybody N        N come whose demands anybody may meet, and whom the tables don't fit; behind them a pair
+ *     room epochs N         N rounds of 2,000 pairs, after each of which the bookings are drained and the report checked,
+ *                           while others wait through all of them
  *
  * Each line of its output is a name and a number. It ends with status 1 if somebody who had to commit didn't.
  */
@@ -260,11 +262,53 @@ static void anybody(size_t count) {
            count, (unsigned long long)steps, now(CLOCK_MONOTONIC) - first, longest_put * 1e3, longest_step * 1e3);
 }
 
+/* The report of the last epoch is one that the check accepts. */
+static void check_report(void) {
+    static char *text;
+    static size_t capacity;
+    char verdict[64];
+    uint64_t epoch;
+    entangle_told told = {0};
+    for (;;) {
+        check(entangle_room_report(&room, 2, text, capacity, &epoch, &told), "an epoch has no report");
+        if (told.needed <= capacity) break;
+        free(text);
+        if (!(text = malloc(capacity = told.needed))) stop("out of memory");
+    }
+    check(entangle_check(text, told.needed, verdict, sizeof verdict, &told), "the check says no");
+}
+
+static void epochs(size_t count) {
+    const size_t lonely_ones = 100;
+    uint64_t waiting;
+    open_room(OPENING, sizeof OPENING - 1, 1000000);
+    crowd(FRIEND, lonely_ones, 0);
+    double begun = now(CLOCK_PROCESS_CPUTIME_ID);
+    for (size_t round = 0; round < count; round++) {
+        uint32_t refusal;
+        entangle_told told;
+        for (size_t i = 0; i < 4000; i++) {
+            char me[32], friend[32];
+            snprintf(me, sizeof me, "%c%zu", i % 2 ? 'B' : 'A', i / 2);
+            snprintf(friend, sizeof friend, "%c%zu", i % 2 ? 'A' : 'B', i / 2);
+            put(FRIEND, me, friend);
+        }
+        settle();
+        if (entangle_room_waiting(&room, lonely_ones + 1, &waiting) == ENTANGLE_DONE) stop("somebody still waits");
+        check(entangle_room_turn(&room, "Bookings", 8, &refusal, &told), "the epoch doesn't end");
+        check_report();
+        if (entangle_room_waiting(&room, 0, &waiting) != ENTANGLE_DONE) stop("nobody waits any more");
+    }
+    printf("%zu scripts and as many bookings in %zu epochs, each with a report that is checked, while %zu wait: %.2f s\n",
+           4000 * count, count, lonely_ones, now(CLOCK_PROCESS_CPUTIME_ID) - begun);
+}
+
 int main(int count, char **words) {
     if (count == 3 && !strcmp(words[1], "arranged")) arranged(words[2]);
     else if (count == 4 && !strcmp(words[1], "pairs")) pairs(strtoul(words[2], NULL, 10), strtoul(words[3], NULL, 10));
     else if (count == 3 && !strcmp(words[1], "lonely")) lonely(strtoul(words[2], NULL, 10));
     else if (count == 3 && !strcmp(words[1], "writers")) writers(strtoul(words[2], NULL, 10));
+    else if (count == 3 && !strcmp(words[1], "epochs")) epochs(strtoul(words[2], NULL, 10));
     else if (count == 3 && !strcmp(words[1], "anybody")) anybody(strtoul(words[2], NULL, 10));
     else return 2;
     entangle_room_free(&room);
