@@ -1,11 +1,12 @@
 //! Limits of constants and of the protocol. Nothing here does anything; what holds is in the contracts.
-ghost use Rattle.std.specs.Prelude.{◌≡◌, ◌≢◌, ◌<◌, ◌≤◌, length};
+ghost use Rattle.std.specs.Prelude.{◌≡◌, ◌≢◌, ◌<◌, ◌≤◌, ◌↔◌, ℕ, List, length};
 ghost use Rattle.ent_value.specs.declared.limits.TheConstants.{MOST_ROWS};
 ghost use Rattle.ent_value.specs.declared.name.TheConstants.{LONGEST_NAME};
 ghost use Rattle.ent_value.specs.declared.text.TheConstants.{LONGEST_TEXT};
 ghost use Rattle.ent_tree.specs.declared.limits.TheConstants.{DEFAULT_RUNS, MOST_OPENING_ROWS, MOST_PARTS};
 ghost use Rattle.ent_tree.specs.declared.limits.TheConstants.{MOST_RUNS, MOST_SCRIPTS, MOST_SOURCES};
 ghost use Rattle.ent_tree.specs.declared.limits.TheConstants.{MOST_STATEMENTS, MOST_TABLES};
+ghost use Rattle.ent_tree.specs.declared.script.Input.{Input};
 ghost use Rattle.ent_tree.specs.declared.script.Script.{Script};
 ghost use Rattle.ent_group.specs.declared.members.TheConstants.{MOST_MEMBERS};
 ghost use Rattle.ent_protocol.specs.Event.{Full, Reply, Submit};
@@ -13,6 +14,10 @@ ghost use Rattle.ent_protocol.specs.Reached.{IsReached};
 ghost use Rattle.ent_protocol.specs.Run.{Forms};
 ghost use Rattle.ent_protocol.specs.State.{State, members};
 ghost use Rattle.ent_protocol.specs.Step.{Step};
+ghost use Rattle.ent_engine.specs.Reading.{IsInput, IsRefused};
+ghost use Rattle.ent_engine.specs.declared.fault.RunFault.TheVariants.{TooLong};
+ghost use Rattle.ent_engine.specs.declared.reader.TheConstants.{MOST_BYTES};
+ghost use Rattle.ent_check_report.specs.declared.check.TheConstants.{MOST_REPORT_BYTES};
 
 use ent_protocol_laws::transactions_stand_once;
 
@@ -31,6 +36,14 @@ pub fn limits_are_numbers()
     ensures statements { MOST_STATEMENTS ≡ 64 }
     ensures runs { MOST_RUNS ≡ 1000 }
     ensures default_runs { DEFAULT_RUNS ≡ 8 }
+    ensures input_bytes { MOST_BYTES ≡ 16777216 }
+    ensures report_bytes { MOST_REPORT_BYTES ≡ 1099511627776 }
+{}
+
+/// An input has 16,777,216 bytes at most, and bytes are refused as too many exactly where there are more.
+pub fn inputs_are_16_777_216_bytes_at_most()
+    ensures within { (bytes : List ℕ) (input : Input) → IsInput bytes input → length bytes ≤ 16777216 }
+    ensures refused { (bytes : List ℕ) → IsRefused bytes TooLong ↔ 16777216 < length bytes }
 {}
 
 /// A script more than 10,000 is refused for that, and no other one is.

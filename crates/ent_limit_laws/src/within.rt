@@ -1,15 +1,18 @@
-//! What each type holds at most, as numbers. A call does nothing: what holds is in its contract.
-ghost use Rattle.std.specs.Prelude.{◌≡◌, ◌≤◌, List, length};
+//! What each type holds at most, as numbers. A call does nothing but read, or check: what holds is in its contract.
+ghost use Rattle.std.specs.Prelude.{◌≡◌, ◌≤◌, ◌<◌, IfErr, List, OnOk, length};
+ghost use Rattle.ent_check_report.specs.declared.fault.CheckFault.TheVariants.{TooLong};
 ghost use Rattle.ent_set.specs.Sets as set;
 ghost use Rattle.ent_tree.specs.declared.operand.Operand.{Operand};
 ghost use Rattle.ent_tree.specs.declared.select.Items.TheVariants.{Listed};
 
+use ent_check_report::{CheckFault, Verdict, check_text};
 use ent_group::Members;
 use ent_rel::Table;
 use ent_tree::{
     Create, Delete, Entangled, Input, Insert, Items, OpeningRow, Script, Select, Tuple, Update,
 };
 use ent_value::{Name, Text};
+use std::alloc::Global;
 
 /// A text has 255 bytes at most.
 pub fn text_is_within(text: &Text)
@@ -131,4 +134,12 @@ pub fn update_is_within(update: &Update)
 {
     let _assignment_count = update.assignments.len();
     let _test_count = update.tests.len();
+}
+
+/// A report that is checked has 1,099,511,627,776 bytes at most; one that is refused as too long has more.
+pub fn report_is_within(alloc: Global, report: &[u8]) -> Result<Verdict, CheckFault>
+    ensures checked { OnOk result (length report.now ≤ 1099511627776) }
+    ensures refused { IfErr result (λ fault. fault ≡ TooLong → 1099511627776 < length report.now) }
+{
+    check_text(alloc, report)
 }
