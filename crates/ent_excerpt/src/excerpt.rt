@@ -1,6 +1,6 @@
 //! A line that is shown, with carets below it.
-ghost use Rattle.std.specs.Prelude.{◌≡◌, ◌+◌, ◌≤◌, ◌<◌, ◌↔◌, length, IsTrue};
-ghost use Rattle.ent_excerpt.specs.Part.{IsEndOf, IsBeginningOf, width};
+ghost use Rattle.std.specs.Prelude.{◌≡◌, ◌+◌, ◌≤◌, ◌<◌, ◌^◌, ◌↔◌, length, IsTrue};
+ghost use Rattle.ent_excerpt.specs.Part.{IsEndOf, IsBeginningOf, char_columns, columns, width};
 
 use crate::line::Line;
 use std::fmt;
@@ -86,12 +86,17 @@ fn shown_parts<'a>(before: &'a str, behind: &'a str) -> (&'a str, &'a str)
 }
 
 /// The columns that a character takes; a control character is shown as one other character.
-fn columns_of(c: char) -> usize {
+fn columns_of(c: char) -> usize
+    ensures { result ≡ char_columns c }
+{
     c.width().unwrap_or(1)
 }
 
-/// How many columns the characters of a text take, each by itself. A control character takes one, as it is shown.
-pub fn columns(text: &str) -> usize {
+/// How many columns the characters of a text take, each by itself, if 64 bits hold so many. A control character takes
+/// one, as it is shown.
+pub fn columns(text: &str) -> usize
+    ensures { columns text.now < 2 ^ 64 → result ≡ columns text.now }
+{
     let mut sum = 0usize;
     for c in text.chars() {
         sum = sum.saturating_add(columns_of(c));

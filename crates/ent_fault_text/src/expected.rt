@@ -1,4 +1,5 @@
 //! What can stand at a place: the reader itself is asked, token by token.
+use crate::names::nearest;
 use crate::whole::Whole;
 use crate::words::joined;
 use std::alloc::{AllocError, Global};
@@ -81,10 +82,31 @@ impl Expected {
         self.things.iter().any(|one| *one == thing)
     }
 
+    /// The reserved word that can stand there and is one letter away from a word, in any mix of upper and lower case.
+    pub(crate) fn near_word(
+        &self,
+        alloc: Global,
+        word: &str,
+    ) -> Result<Option<&'static str>, AllocError> {
+        let mut reserved: Vec<&'static str> = Vec::new(alloc);
+        for thing in &self.things {
+            if is_reserved(thing) {
+                reserved.push(*thing)?;
+            }
+        }
+        let upper = word.to_ascii_uppercase(alloc)?;
+        nearest(alloc, upper.as_str(), reserved.as_slice())
+    }
+
     /// All of it, as `, or FROM`: a comma may be among it.
     pub(crate) fn listed(&self, alloc: Global) -> Result<String, AllocError> {
         joined(alloc, self.things.as_slice(), " or ")
     }
+}
+
+/// Whether one of the things that can stand somewhere is a reserved word.
+fn is_reserved(thing: &str) -> bool {
+    thing.bytes().all(|byte| byte.is_ascii_uppercase())
 }
 
 /// Adds those of some words that can stand somewhere. A minus sign before a number belongs to a value.

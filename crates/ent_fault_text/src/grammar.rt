@@ -2,6 +2,8 @@
 use crate::absent::{absent_part, absent_word};
 use crate::expected::{Expected, can_begin};
 use crate::mark::{Mark, Sort};
+use crate::misspelt::misspelt;
+use crate::naming::hint_of_naming;
 use crate::scene::Scene;
 use crate::whole::Whole;
 use crate::words::Told;
@@ -35,6 +37,9 @@ fn hint_at(
     expected: &Expected,
 ) -> Result<Option<String>, AllocError> {
     let alloc = scene.alloc;
+    if let Some(hint) = hint_of_column(scene, found) {
+        return Ok(Some(String::from_str(alloc, hint)?));
+    }
     if let Some(before) = scene.back(1) {
         let part = absent_part(alloc, &before)?;
         if part.is_some() {
@@ -50,10 +55,14 @@ fn hint_at(
         return Ok(Some(format!(in alloc; "a script asks for 1 to {most} runs")?));
     }
     let is_start = can_begin(alloc, found.text)?;
-    match fixed_hint(scene, found, expected, is_start) {
-        Some(hint) => Ok(Some(String::from_str(alloc, hint)?)),
-        None => Ok(None),
+    if let Some(hint) = fixed_hint(scene, found, expected, is_start) {
+        return Ok(Some(String::from_str(alloc, hint)?));
     }
+    let naming = hint_of_naming(scene, found, expected)?;
+    if naming.is_some() {
+        return Ok(naming);
+    }
+    misspelt(scene, found, expected)
 }
 
 /// The first hint that fits, of those that are always the same. The token may begin a statement.
@@ -64,6 +73,7 @@ fn fixed_hint(
     is_start: bool,
 ) -> Option<&'static str> {
     hint_of_insert(scene, found)
+        .or(hint_of_set(scene, found))
         .or(hint_of_number(scene, found))
         .or(hint_of_script(scene, found, expected))
         .or(hint_of_place(found, expected, is_start))
@@ -90,8 +100,45 @@ fn hint_of_insert(scene: &Scene<'_>, found: &Mark<'_>) -> Option<&'static str> {
     None
 }
 
-/// What helps where a number can't stand.
+/// What helps where NOT NULL stands behind a column's kind.
+fn hint_of_column(scene: &Scene<'_>, found: &Mark<'_>) -> Option<&'static str> {
+    let first = scene.statement().first()?;
+    let next = scene.ahead(1)?;
+    let is_null = next.text.eq_ignore_ascii_case("NULL");
+    if first.is_word(Keyword::Create) && is_null && found.text.eq_ignore_ascii_case("NOT") {
+        return Some(
+            "NULL isn't in this language: each row has a value in each column, so leave NOT NULL out",
+        );
+    }
+    None
+}
+
+/// What helps where SET is given a SELECT.
+fn hint_of_set(scene: &Scene<'_>, found: &Mark<'_>) -> Option<&'static str> {
+    let first = scene.statement().first()?;
+    let is_next = scene
+        .ahead(1)
+        .is_some_and(|mark| mark.is_word(Keyword::Select));
+    let is_enclosed = found.is_sign(Symbol::Open) && is_next;
+    if first.is_word(Keyword::Set) && (is_enclosed || found.is_word(Keyword::Select)) {
+        return Some(
+            "SET takes no SELECT: AS in an entangled statement gives a host variable a value of a table",
+        );
+    }
+    None
+}
+
+/// Whether a number stands beside the place.
+fn is_beside_number(scene: &Scene<'_>) -> bool {
+    let is_before = scene.back(1).is_some_and(|mark| mark.sort == Sort::Number);
+    is_before || scene.ahead(1).is_some_and(|mark| mark.sort == Sort::Number)
+}
+
+/// What helps where a number, or a part of one, can't stand.
 fn hint_of_number(scene: &Scene<'_>, found: &Mark<'_>) -> Option<&'static str> {
+    if found.is_sign(Symbol::Dot) && is_beside_number(scene) {
+        return Some("numbers are whole: count in a smaller unit, as cents");
+    }
     if found.sort != Sort::Number {
         return None;
     }

@@ -137,8 +137,13 @@ impl<'a> Scene<'a> {
 
     /// The text from the first of these tokens up to the place.
     pub(crate) fn lead(&self) -> &'a str {
+        self.lead_up_to(self.offset)
+    }
+
+    /// The text from the first of these tokens up to an offset.
+    pub(crate) fn lead_up_to(&self, offset: usize) -> &'a str {
         match self.marks.first() {
-            Some(mark) => self.text.get(mark.start..self.offset).unwrap_or(""),
+            Some(mark) => self.text.get(mark.start..offset).unwrap_or(""),
             None => "",
         }
     }
