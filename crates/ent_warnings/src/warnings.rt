@@ -1,5 +1,7 @@
-//! Demands that nothing in an input is offered for, or only far away, and answer relations that nobody demands.
+//! Demands that nothing in an input is offered for, or only far away, answer relations that nobody demands, and writers
+//! that a waiting statement keeps out.
 use crate::apart::Apart;
+use crate::kept_out::KeptOut;
 use crate::names::{Meant, Relations, meant_text, near_relation, text_of};
 use crate::offer::{is_demanded, is_named, parties_of};
 use crate::postcondition::Postcondition;
@@ -7,7 +9,7 @@ use ent_excerpt::{Excerpt, Line, Place};
 use ent_fault_text::Explanation;
 use ent_parties::{Party, Pattern, is_met};
 use ent_sql::parse_input;
-use ent_tree::{Identifier, Script};
+use ent_tree::{Create, Identifier, Input, Script};
 use ent_value::Refusal;
 use std::alloc::{AllocError, Global};
 use std::fmt;
@@ -33,14 +35,15 @@ impl<'a> Warnings<'a> {
             more: 0,
         };
         match parse_input(alloc, text) {
-            Ok(input) => warnings.warn(alloc, input.scripts.as_slice())?,
+            Ok(input) => warnings.warn(alloc, &input)?,
             Err(Refusal::Fault(_)) => {}
             Err(Refusal::Memory) => return Err(AllocError),
         }
         Ok(warnings)
     }
 
-    fn warn(&mut self, alloc: Global, scripts: &[Script]) -> Result<(), AllocError> {
+    fn warn(&mut self, alloc: Global, input: &Input) -> Result<(), AllocError> {
+        let scripts = input.scripts.as_slice();
         let parties = parties_of(alloc, scripts)?;
         let parties = parties.as_slice();
         let relations = Relations::of(alloc, scripts)?;
@@ -56,6 +59,9 @@ impl<'a> Warnings<'a> {
         }
         for (script, party) in scripts.iter().zip(parties.iter()) {
             self.warn_demands(alloc, parties, script, party)?;
+        }
+        for create in input.opening.tables.as_slice() {
+            self.warn_writer(alloc, scripts, create)?;
         }
         match Apart::of(alloc, scripts, parties)? {
             Some(apart) => self.warn_apart(alloc, apart),
@@ -128,6 +134,26 @@ impl<'a> Warnings<'a> {
                 self.push(alloc, tuple.place, 1, sentence, None)
             }
         }
+    }
+
+    /// The first script that a waiting statement keeps from writing a table.
+    fn warn_writer(
+        &mut self,
+        alloc: Global,
+        scripts: &[Script],
+        create: &Create,
+    ) -> Result<(), AllocError> {
+        let Some(KeptOut { table, writer }) = KeptOut::of(scripts, &create.name.name) else {
+            return Ok(());
+        };
+        let name = text_of(&table.name);
+        let sentence = format!(in alloc;
+            "as long as this statement waits, script {writer} can't write {name}"
+        )?;
+        let hint = format!(in alloc;
+            "let the writer come first, or let this script ask for few runs, as WITHIN 1 RUNS"
+        )?;
+        self.push_hinted(table.place, name.len(), sentence, Some(hint))
     }
 
     /// Demands that only scripts may meet that stand too far away.
