@@ -16,10 +16,11 @@
  *
  * The library can't test these conditions, which hold for every call:
  *
- *   - `input`, `script`, `name` and `report` point to `length` bytes that can be read, and `buffer` to `capacity` bytes
- *     that can be written; `told`, `number` and the others that are no text each point to one object of their type,
- *     aligned as C requires. During the call nothing else reads or writes what the call writes, nothing writes what it
- *     reads, and none of these overlap. Length and capacity are below 2 to the power of 63.
+ *   - `input`, `script`, `report`, `name`, `text` and `drained` point to `length` bytes that can be read (`name` to
+ *     `name_length`, where a call has that), and `buffer` to `capacity` bytes that can be written. Each pointer `told`,
+ *     `number`, `reply`, `position`, `limits`, `refusal`, `ticket`, `step`, `state`, `submission` or `epoch` points to
+ *     one object of its type, aligned as C requires. During the call nothing else reads or writes what the call writes,
+ *     nothing writes what it reads, and none of these overlap. Lengths and the capacity are below 2 to the power of 63.
  *   - malloc, realloc and free come from one allocator, and malloc aligns as C requires.
  *   - The call isn't made from a signal handler, nor from a forked child of a process that has threads.
  *   - The thread that makes the call has enough stack for it: ENTANGLE_STACK_BYTES are enough.
@@ -29,16 +30,17 @@
  * Calls without a room or a manager keep nothing and free what they allocate. Any number of threads may make them
  * concurrently.
  *
- * The caller keeps a room as an `entangle_room *` in one place, null at first, and so it keeps values as an
- * `entangle_values *`, and a manager as an `entangle_manager *`. Each of their calls takes the address of that place.
- * These conditions are added:
+ * The caller keeps a room as an `entangle_room *` in one place, null at first, and so it keeps rows as an
+ * `entangle_rows *`, values as an `entangle_values *`, and a manager as an `entangle_manager *`. Each of their calls
+ * takes the address of that place. These conditions are added:
  *
  *   - The pointer is null, or a call of this header wrote it there. The caller neither copies nor dereferences it, and
  *     its place doesn't overlap what a call writes.
- *   - One room takes one call at a time, from any thread, and so do values and a manager; if threads share them, order
- *     their calls with a lock. They are independent of each other.
- *   - Give what a call opened to entangle_room_free, entangle_values_free or entangle_free in the end, or its memory is
- *     lost. If a call says that memory ran out, the room, the values or the manager is still there.
+ *   - One room takes one call at a time, from any thread, and so do rows, values and a manager; if threads share them,
+ *     order their calls with a lock. They are independent of each other.
+ *   - Give what a call opened to entangle_room_free, entangle_rows_free, entangle_values_free or entangle_free in the
+ *     end, or its memory is lost. If a call says that memory ran out, the room, the rows, the values or the manager is
+ *     still there; but entangle_room_open takes rows in any case.
  *
  * A room is open (by entangle_room_open) or null. A manager is open (by entangle_open or entangle_renew), closed (by
  * entangle_close) or null. A call that requires another one of these states answers ENTANGLE_MISUSED, and changes
@@ -87,8 +89,9 @@ typedef struct entangle_told entangle_told;
 
 /* ---- what the calls of rooms take and tell */
 
-/* A room, and values for host variables. C code doesn't see what they have. */
+/* A room, rows of tables, and values for host variables. C code doesn't see what they have. */
 typedef struct entangle_room entangle_room;
+typedef struct entangle_rows entangle_rows;
 typedef struct entangle_values entangle_values;
 
 struct entangle_limits {
@@ -101,7 +104,7 @@ typedef struct entangle_limits entangle_limits;
 #define ENTANGLE_AS_WRITTEN (-1)    /* in as many as its WITHIN says */
 #define ENTANGLE_UNTIL_WITHDRAWN 0
 
-/* Why a call of a room, or of values, is refused. */
+/* Why a call of a room, of rows or of values is refused. */
 enum entangle_room_refusal {
     ENTANGLE_ROOM_FAULTY = 1,          /* the text has a fault, which is told */
     ENTANGLE_ROOM_FULL,                /* as many wait as there may be, or no ticket is left */
@@ -117,8 +120,13 @@ enum entangle_room_refusal {
     ENTANGLE_ROOM_USED,                /* the ticket can't come in again */
     ENTANGLE_ROOM_ABSENT,              /* nobody waits under the ticket; no table has the name (E401) */
     ENTANGLE_ROOM_BUSY,                /* the ticket is in a batch that isn't over; a batch is on */
-    ENTANGLE_ROOM_TOO_MANY_ROWS,       /* E407: the tables that aren't drained have more than 65,536 rows together */
-    ENTANGLE_ROOM_NO_NUMBER            /* the epoch has the greatest number that there is */
+    ENTANGLE_ROOM_TOO_MANY_ROWS,       /* E407: the tables have more than 65,536 rows together: those that aren't
+                                          drained; or those of an input with the given ones */
+    ENTANGLE_ROOM_NO_NUMBER,           /* the epoch has the greatest number that there is */
+    ENTANGLE_ROOM_NOT_A_ROW,           /* a given row doesn't fit: there is no such table (E301), it has another number
+                                          of values than that has columns (E303), or a value of another kind (E304);
+                                          `told->offset` is which row it is, from 0, and no place is told */
+    ENTANGLE_ROOM_TOO_MANY_VALUES      /* the row has 16 values already, and no table has more columns */
 };
 
 /* What a step did. */
@@ -273,12 +281,17 @@ int32_t ent_c_values_int(entangle_values **values, const uint8_t *name, size_t n
 int32_t ent_c_values_text(entangle_values **values, const uint8_t *name, size_t name_length, const uint8_t *text,
                           size_t length, uint32_t *refusal);
 void ent_c_values_free(entangle_values **values);
-int32_t ent_c_room_open(entangle_room **room, const uint8_t *input, size_t length, uint64_t epoch, uint64_t next,
-                        const entangle_limits *limits, uint32_t *refusal, entangle_told *told);
+int32_t ent_c_rows_begin(entangle_rows **rows, const uint8_t *table, size_t length, uint32_t *refusal);
+int32_t ent_c_rows_int(entangle_rows **rows, int64_t number, uint32_t *refusal);
+int32_t ent_c_rows_text(entangle_rows **rows, const uint8_t *text, size_t length, uint32_t *refusal);
+void ent_c_rows_free(entangle_rows **rows);
+int32_t ent_c_room_open(entangle_room **room, const uint8_t *input, size_t length, entangle_rows **rows,
+                        uint64_t epoch, uint64_t next, const entangle_limits *limits, uint32_t *refusal,
+                        entangle_told *told);
 int32_t ent_c_room_put(entangle_room **room, const uint8_t *script, size_t length, entangle_values **values,
                        int64_t stay, uint64_t *ticket, uint32_t *refusal, entangle_told *told);
-int32_t ent_c_room_explain(entangle_room **room, const uint8_t *script, size_t length, uint8_t *buffer, size_t capacity,
-                           entangle_told *told);
+int32_t ent_c_room_explain(entangle_room **room, const uint8_t *script, size_t length, entangle_values **values,
+                           uint8_t *buffer, size_t capacity, entangle_told *told);
 int32_t ent_c_room_restore(entangle_room **room, uint64_t ticket, const uint8_t *script, size_t length,
                            entangle_values **values, int64_t stay, uint64_t batches, uint32_t *refusal,
                            entangle_told *told);
@@ -400,20 +413,59 @@ static inline void entangle_values_free(entangle_values **values) {
     if (values) ent_c_values_free(values);
 }
 
-/* Opens a room over an input: makes its tables, loads their rows, and puts its scripts, if it has any, in order; each
- * waits for as many batches as its WITHIN says. The first epoch has the number `epoch`, and the first script the ticket
- * `next`: tickets below it are of an earlier process, and may come back by entangle_room_restore. The pointer has to be
- * null.
+/* Begins a row of the table of this name, for entangle_room_open, behind the rows that there are. The values that are
+ * added from then on are its values, in the order of the columns. If the pointer is null, the rows begin with it.
+ * Whether there is such a table is told by entangle_room_open.
  *
- * ENTANGLE_DONE: the room is open. ENTANGLE_REFUSED, ENTANGLE_OUT_OF_MEMORY: the pointer is still null, and the fault
- * is told; or more scripts stand there than may wait (FULL). ENTANGLE_MISUSED: the pointer wasn't null, and stays as
- * it was. */
-static inline int32_t entangle_room_open(entangle_room **room, const void *input, size_t length, uint64_t epoch,
-                                         uint64_t next, const entangle_limits *limits, uint32_t *refusal,
-                                         entangle_told *told) {
+ * ENTANGLE_DONE: it is begun. ENTANGLE_REFUSED: the name is no word (BOUND_NO_NAME). ENTANGLE_OUT_OF_MEMORY. In both
+ * cases the rows are as they were, and a null pointer is null. */
+static inline int32_t entangle_rows_begin(entangle_rows **rows, const void *table, size_t length, uint32_t *refusal) {
     uint8_t none = 0;
-    if (!room || !limits || !refusal || entangle_is_misused(input, length, &none, 0, told)) return ENTANGLE_MISUSED;
-    return ent_c_room_open(room, input ? (const uint8_t *)input : &none, length, epoch, next, limits, refusal, told);
+    if (!rows || entangle_is_misused(table, length, &none, 0, refusal)) return ENTANGLE_MISUSED;
+    return ent_c_rows_begin(rows, table ? (const uint8_t *)table : &none, length, refusal);
+}
+
+/* Adds a number, any of 64 bits, to the row that was begun last.
+ *
+ * ENTANGLE_DONE: it is added. ENTANGLE_REFUSED: the row has as many values as a table has columns at most, which are 16
+ * (TOO_MANY_VALUES). ENTANGLE_OUT_OF_MEMORY. In both cases the rows are as they were. ENTANGLE_MISUSED: no row was
+ * begun. */
+static inline int32_t entangle_rows_int(entangle_rows **rows, int64_t number, uint32_t *refusal) {
+    if (!rows || !refusal) return ENTANGLE_MISUSED;
+    return ent_c_rows_int(rows, number, refusal);
+}
+
+/* The same for a text of UTF-8, of at most 255 bytes and without control characters; it is refused for its first fault
+ * as a value is (BOUND_TOO_LONG, BOUND_NOT_UTF8, BOUND_CONTROL), else as a number is. */
+static inline int32_t entangle_rows_text(entangle_rows **rows, const void *text, size_t length, uint32_t *refusal) {
+    uint8_t none = 0;
+    if (!rows || entangle_is_misused(text, length, &none, 0, refusal)) return ENTANGLE_MISUSED;
+    return ent_c_rows_text(rows, text ? (const uint8_t *)text : &none, length, refusal);
+}
+
+/* Frees rows, and sets the pointer to null; if the pointer is null, it does nothing. */
+static inline void entangle_rows_free(entangle_rows **rows) {
+    if (rows) ent_c_rows_free(rows);
+}
+
+/* Opens a room over an input: makes its tables, loads their rows, and puts its scripts, if it has any, in order; each
+ * waits for as many batches as its WITHIN says. `rows` is the address of rows that stand behind those of the input, in
+ * order, or of a null pointer if there are none. The first epoch has the number `epoch`, and the first script the
+ * ticket `next`: tickets below it are of an earlier process, and may come back by entangle_room_restore. The room's
+ * pointer has to be null.
+ *
+ * ENTANGLE_DONE: the room is open. ENTANGLE_REFUSED, ENTANGLE_OUT_OF_MEMORY: the room's pointer is still null, and the
+ * first fault is told: of the input (FAULTY); else TOO_MANY_ROWS, E407; else the first row that doesn't fit
+ * (NOT_A_ROW); else more scripts stand there than may wait (FULL). In all these cases the rows are taken, and their
+ * pointer is null. ENTANGLE_MISUSED: the room's pointer wasn't null, and stays as it was, and so do the rows. */
+static inline int32_t entangle_room_open(entangle_room **room, const void *input, size_t length, entangle_rows **rows,
+                                         uint64_t epoch, uint64_t next, const entangle_limits *limits,
+                                         uint32_t *refusal, entangle_told *told) {
+    uint8_t none = 0;
+    if (!room || !rows || !limits || !refusal) return ENTANGLE_MISUSED;
+    if (entangle_is_misused(input, length, &none, 0, told)) return ENTANGLE_MISUSED;
+    return ent_c_room_open(room, input ? (const uint8_t *)input : &none, length, rows, epoch, next, limits, refusal,
+                           told);
 }
 
 /* Puts a script into a room: the text of one script, from its BEGIN TRANSACTION on, and nothing else. It waits from
@@ -434,18 +486,21 @@ static inline int32_t entangle_room_put(entangle_room **room, const void *script
     return ent_c_room_put(room, script ? (const uint8_t *)script : &none, length, values, stay, ticket, refusal, told);
 }
 
-/* Gives the explanation of a script's fault, as entangle_explain does for an input: for a script that entangle_room_put
- * refused as FAULTY. The lines are those of this text, and hints name the room's tables. Nothing is bound in the
- * script: a host variable to which it gives no value itself is a fault here.
+/* Gives the explanation of the first fault for which entangle_room_put would refuse a script with these values, as
+ * entangle_explain does for an input. The lines are those of this text, and hints name the room's tables. `values` is
+ * the address of a null pointer if there are none; they stay as they are, and nothing is put.
  *
  * ENTANGLE_REFUSED: the text is the explanation, and the fault is told, whose place counts from the start of this text.
- * ENTANGLE_DONE: the script has no fault, and there is no text. ENTANGLE_OUT_OF_MEMORY: E900 is told, and the text is
- * `E900` with an LF, or there is none. */
-static inline int32_t entangle_room_explain(entangle_room **room, const void *script, size_t length, void *buffer,
-                                            size_t capacity, entangle_told *told) {
+ * A fault of the values (BOUND_TWICE, BOUND_SET_BY_SCRIPT, BOUND_UNUSED) has no number and no place: `told->offset`
+ * says which value it is, from 0, and the text is one line, with its LF, that names the host variable. ENTANGLE_DONE:
+ * the script has no fault with these values, and there is no text. ENTANGLE_OUT_OF_MEMORY: E900 is told, and there is
+ * no text. */
+static inline int32_t entangle_room_explain(entangle_room **room, const void *script, size_t length,
+                                            entangle_values **values, void *buffer, size_t capacity,
+                                            entangle_told *told) {
     uint8_t none = 0;
-    if (!room || entangle_is_misused(script, length, buffer, capacity, told)) return ENTANGLE_MISUSED;
-    return ent_c_room_explain(room, script ? (const uint8_t *)script : &none, length,
+    if (!room || !values || entangle_is_misused(script, length, buffer, capacity, told)) return ENTANGLE_MISUSED;
+    return ent_c_room_explain(room, script ? (const uint8_t *)script : &none, length, values,
                               buffer ? (uint8_t *)buffer : &none, capacity, told);
 }
 
@@ -491,8 +546,9 @@ static inline int32_t entangle_room_state(entangle_room **room, uint64_t ticket,
     return ent_c_room_state(room, ticket, state);
 }
 
-/* Gives a line, with its LF, that says how a ticket stands. ENTANGLE_DONE: the text is the line.
- * ENTANGLE_OUT_OF_MEMORY: E900 is told. */
+/* Gives a line, with its LF, that says how a ticket stands; of one that is LONELY it has the demand that nobody who
+ * waits may offer, as `('Minnie', _) IN ANSWER Trip`, with `_` where a value isn't known. ENTANGLE_DONE: the text is
+ * the line. ENTANGLE_OUT_OF_MEMORY: E900 is told. */
 static inline int32_t entangle_room_why(entangle_room **room, uint64_t ticket, void *buffer, size_t capacity,
                                         entangle_told *told) {
     uint8_t none = 0;

@@ -1,7 +1,7 @@
 /* A room from its opening to its end: two friends come, wait, meet and are booked; who waits, who ended and what the
- * tables hold is told; epochs turn; and calls are refused, or misused. It ends with status 0, or at the first check
- * that fails. With -DREFUSING -Wl,--wrap=malloc,--wrap=realloc it also lets each allocation of a room's life fail in
- * turn. */
+ * tables hold is told; epochs turn; rows are given as values; and calls are refused, or misused. It ends with status 0,
+ * or at the first check that fails. With -DREFUSING -Wl,--wrap=malloc,--wrap=realloc it also lets each allocation of a
+ * room's life fail in turn. */
 #include "entangle.h"
 
 #include <stdio.h>
@@ -95,6 +95,59 @@ static void bound(void) {
     CHECK(!values);
 }
 
+/* Adds a row of flights. */
+static void add_flight(entangle_rows **rows, int64_t number, const char *destination) {
+    uint32_t refusal = 77;
+    CHECK(entangle_rows_begin(rows, TEXT("Flights"), &refusal) == ENTANGLE_DONE && !refusal && *rows);
+    refusal = 77;
+    CHECK(entangle_rows_int(rows, number, &refusal) == ENTANGLE_DONE && !refusal);
+    refusal = 77;
+    CHECK(entangle_rows_text(rows, destination, strlen(destination), &refusal) == ENTANGLE_DONE && !refusal);
+}
+
+/* Values that no table has, and names that are none, are refused, and change nothing; so is one value too many. */
+static void collected(void) {
+    static const char control[] = "a\nb";
+    char longest[256];
+    entangle_rows *rows = NULL;
+    uint32_t refusal = 77;
+    memset(longest, 'x', sizeof longest);
+    CHECK(entangle_rows_int(&rows, 1, &refusal) == ENTANGLE_MISUSED);
+    CHECK(entangle_rows_text(&rows, TEXT("x"), &refusal) == ENTANGLE_MISUSED && refusal == 77 && !rows);
+    CHECK(entangle_rows_begin(&rows, TEXT("2T"), &refusal) == ENTANGLE_REFUSED);
+    CHECK(refusal == ENTANGLE_ROOM_BOUND_NO_NAME && !rows);
+    CHECK(entangle_rows_begin(&rows, TEXT("T"), &refusal) == ENTANGLE_DONE && !refusal && rows);
+    entangle_rows *at = rows;
+    CHECK(entangle_rows_begin(&rows, TEXT(""), &refusal) == ENTANGLE_REFUSED && rows == at);
+    CHECK(refusal == ENTANGLE_ROOM_BOUND_NO_NAME);
+    CHECK(entangle_rows_text(&rows, longest, 256, &refusal) == ENTANGLE_REFUSED);
+    CHECK(refusal == ENTANGLE_ROOM_BOUND_TOO_LONG && rows == at);
+    CHECK(entangle_rows_text(&rows, TEXT("\xff"), &refusal) == ENTANGLE_REFUSED);
+    CHECK(refusal == ENTANGLE_ROOM_BOUND_NOT_UTF8);
+    CHECK(entangle_rows_text(&rows, TEXT(control), &refusal) == ENTANGLE_REFUSED);
+    CHECK(refusal == ENTANGLE_ROOM_BOUND_CONTROL);
+    for (int count = 0; count < 8; count++) {
+        CHECK(entangle_rows_int(&rows, INT64_MIN, &refusal) == ENTANGLE_DONE && !refusal && rows == at);
+        CHECK(entangle_rows_text(&rows, longest, 255, &refusal) == ENTANGLE_DONE && !refusal && rows == at);
+    }
+    CHECK(entangle_rows_int(&rows, 1, &refusal) == ENTANGLE_REFUSED && refusal == ENTANGLE_ROOM_TOO_MANY_VALUES);
+    refusal = 77;
+    CHECK(entangle_rows_text(&rows, TEXT("x"), &refusal) == ENTANGLE_REFUSED && rows == at);
+    CHECK(refusal == ENTANGLE_ROOM_TOO_MANY_VALUES);
+    CHECK(entangle_rows_begin(&rows, TEXT("T"), &refusal) == ENTANGLE_DONE && !refusal && rows == at);
+    CHECK(entangle_rows_text(&rows, NULL, 0, &refusal) == ENTANGLE_DONE && !refusal);
+    CHECK(entangle_rows_begin(NULL, TEXT("T"), &refusal) == ENTANGLE_MISUSED);
+    CHECK(entangle_rows_begin(&rows, NULL, 1, &refusal) == ENTANGLE_MISUSED);
+    CHECK(entangle_rows_begin(&rows, TEXT("T"), NULL) == ENTANGLE_MISUSED);
+    CHECK(entangle_rows_int(NULL, 1, &refusal) == ENTANGLE_MISUSED);
+    CHECK(entangle_rows_int(&rows, 1, NULL) == ENTANGLE_MISUSED);
+    CHECK(entangle_rows_text(&rows, NULL, 1, &refusal) == ENTANGLE_MISUSED);
+    entangle_rows_free(&rows);
+    entangle_rows_free(&rows);
+    entangle_rows_free(NULL);
+    CHECK(!rows);
+}
+
 /* A room that is null takes no call but open and free. */
 static void closed(void) {
     char buffer[8] = "#";
@@ -107,7 +160,7 @@ static void closed(void) {
     uint32_t refusal = 77, step = 77;
     CHECK(entangle_room_put(&room, TEXT(WRITER), &values, -1, &number, &refusal, &told) == ENTANGLE_MISUSED);
     CHECK(entangle_room_restore(&room, 1, TEXT(WRITER), &values, -1, 0, &refusal, &told) == ENTANGLE_MISUSED);
-    CHECK(entangle_room_explain(&room, TEXT(WRITER), buffer, 8, &told) == ENTANGLE_MISUSED);
+    CHECK(entangle_room_explain(&room, TEXT(WRITER), &values, buffer, 8, &told) == ENTANGLE_MISUSED);
     CHECK(entangle_room_withdraw(&room, 1, &refusal) == ENTANGLE_MISUSED);
     CHECK(entangle_room_step(&room, &step, &refusal) == ENTANGLE_MISUSED);
     CHECK(entangle_room_state(&room, 1, &state) == ENTANGLE_MISUSED && state.kind == 7 && state.batches == 7);
@@ -130,26 +183,130 @@ static void opened(void) {
     char input[sizeof TABLES + 2 * sizeof WRITER];
     entangle_limits one = {1, 1};
     entangle_room *room = NULL;
+    entangle_rows *rows = NULL;
     entangle_told told;
     entangle_ticket_state state;
     uint32_t refusal = 77;
-    CHECK(entangle_room_open(&room, TEXT(faulty), 1, 1, &LIMITS, &refusal, &told) == ENTANGLE_REFUSED && !room);
+    CHECK(entangle_room_open(&room, TEXT(faulty), &rows, 1, 1, &LIMITS, &refusal, &told) == ENTANGLE_REFUSED && !room);
     CHECK(refusal == ENTANGLE_ROOM_FAULTY && told.code == 304 && told.has_place && told.line == 2 && told.offset == 46);
     snprintf(input, sizeof input, "%s%s%s", TABLES, WRITER, WRITER);
-    CHECK(entangle_room_open(&room, input, strlen(input), 1, 5, &one, &refusal, &told) == ENTANGLE_REFUSED && !room);
+    size_t length = strlen(input);
+    CHECK(entangle_room_open(&room, input, length, &rows, 1, 5, &one, &refusal, &told) == ENTANGLE_REFUSED && !room);
     CHECK(refusal == ENTANGLE_ROOM_FULL && tells_text(&told, 0));
-    CHECK(entangle_room_open(&room, input, strlen(input), 1, 5, &LIMITS, &refusal, &told) == ENTANGLE_DONE && room);
-    CHECK(!refusal && tells_text(&told, 0));
+    CHECK(entangle_room_open(&room, input, length, &rows, 1, 5, &LIMITS, &refusal, &told) == ENTANGLE_DONE && room);
+    CHECK(!refusal && tells_text(&told, 0) && !rows);
     CHECK(kind_of(&room, 4, &state) == ENTANGLE_TICKET_UNKNOWN && kind_of(&room, 5, &state) == ENTANGLE_TICKET_WAITS);
     CHECK(kind_of(&room, 6, &state) == ENTANGLE_TICKET_WAITS && kind_of(&room, 7, &state) == ENTANGLE_TICKET_UNKNOWN);
     entangle_room *at = room;
     refusal = 77;
-    CHECK(entangle_room_open(&room, TEXT(TABLES), 1, 1, &LIMITS, &refusal, &told) == ENTANGLE_MISUSED && room == at);
-    CHECK(refusal == 77);
-    CHECK(entangle_room_open(NULL, TEXT(TABLES), 1, 1, &LIMITS, &refusal, &told) == ENTANGLE_MISUSED);
-    CHECK(entangle_room_open(&room, TEXT(TABLES), 1, 1, NULL, &refusal, &told) == ENTANGLE_MISUSED);
+    CHECK(entangle_room_open(&room, TEXT(TABLES), &rows, 1, 1, &LIMITS, &refusal, &told) == ENTANGLE_MISUSED);
+    CHECK(refusal == 77 && room == at);
+    CHECK(entangle_room_open(NULL, TEXT(TABLES), &rows, 1, 1, &LIMITS, &refusal, &told) == ENTANGLE_MISUSED);
+    CHECK(entangle_room_open(&room, TEXT(TABLES), &rows, 1, 1, NULL, &refusal, &told) == ENTANGLE_MISUSED);
     entangle_room_free(&room);
-    CHECK(!room);
+    CHECK(entangle_room_open(&room, TEXT(TABLES), NULL, 1, 1, &LIMITS, &refusal, &told) == ENTANGLE_MISUSED && !room);
+}
+
+/* Whether a table is told in these lines. */
+static bool shows(entangle_room **room, const char *name, const char *lines) {
+    char buffer[256];
+    entangle_told told;
+    memset(buffer, '#', sizeof buffer);
+    CHECK(entangle_room_table(room, name, strlen(name), buffer, sizeof buffer, &told) == ENTANGLE_DONE);
+    return tells_text(&told, strlen(lines)) && !memcmp(buffer, lines, strlen(lines)) && buffer[strlen(lines)] == '#';
+}
+
+/* Rows that are given stand behind those of the text, and nothing in them is quoted. The call takes them, unless it is
+ * misused. */
+static void given(void) {
+    entangle_room *room = NULL;
+    entangle_rows *rows = NULL;
+    entangle_told told;
+    uint32_t refusal = 77;
+    add_flight(&rows, INT64_MIN, "O'Hara");
+    add_flight(&rows, 122, "LA");
+    CHECK(entangle_rows_begin(&rows, TEXT("Bookings"), &refusal) == ENTANGLE_DONE);
+    CHECK(entangle_rows_text(&rows, TEXT("'); --"), &refusal) == ENTANGLE_DONE);
+    CHECK(entangle_rows_int(&rows, 136, &refusal) == ENTANGLE_DONE);
+    refusal = 77;
+    CHECK(entangle_room_open(&room, TEXT(TABLES), &rows, 1, 1, &LIMITS, &refusal, &told) == ENTANGLE_DONE && room);
+    CHECK(!rows && !refusal && tells_text(&told, 0));
+    CHECK(shows(&room, "Flights",
+                "table Flights 3\n(-9223372036854775808, 'O''Hara')\n(122, 'LA')\n(136, 'Paris')\n"));
+    CHECK(shows(&room, "Bookings", "table Bookings 1\n('''); --', 136)\n"));
+    add_flight(&rows, 1, "LA");
+    entangle_rows *at = rows;
+    refusal = 77;
+    CHECK(entangle_room_open(&room, TEXT(TABLES), &rows, 1, 1, &LIMITS, &refusal, &told) == ENTANGLE_MISUSED);
+    CHECK(rows == at && refusal == 77 && room);
+    entangle_room_free(&room);
+    CHECK(entangle_room_open(&room, NULL, 1, &rows, 1, 1, &LIMITS, &refusal, &told) == ENTANGLE_MISUSED && rows == at);
+    CHECK(entangle_room_open(&room, TEXT(TABLES), &rows, 1, 1, &LIMITS, &refusal, &told) == ENTANGLE_DONE && !rows);
+    CHECK(shows(&room, "Flights", "table Flights 3\n(1, 'LA')\n(122, 'LA')\n(136, 'Paris')\n"));
+    entangle_room_free(&room);
+}
+
+/* No room is opened over these rows, of which this one is the first that doesn't fit. */
+static void not_opened(entangle_rows **rows, uint16_t code, size_t number) {
+    entangle_room *room = NULL;
+    entangle_told told;
+    uint32_t refusal = 77;
+    CHECK(entangle_room_open(&room, TEXT(TABLES), rows, 1, 1, &LIMITS, &refusal, &told) == ENTANGLE_REFUSED);
+    CHECK(refusal == ENTANGLE_ROOM_NOT_A_ROW && !room && !*rows);
+    CHECK(told.code == code && told.offset == number && !told.has_place && !told.line && !told.column && !told.needed);
+}
+
+/* The first row that doesn't fit is told; a fault of the text, and too many rows, come before it. */
+static void misfits(void) {
+    static const char faulty[] = "CREATE TABLE T (a INT);\nINSERT INTO T VALUES ('x');\n";
+    entangle_room *room = NULL;
+    entangle_rows *rows = NULL;
+    entangle_told told;
+    char line[32];
+    uint32_t refusal = 77;
+    CHECK(entangle_rows_begin(&rows, TEXT("Seats"), &refusal) == ENTANGLE_DONE);
+    add_flight(&rows, 1, "LA");
+    not_opened(&rows, 301, 0);
+    add_flight(&rows, 1, "LA");
+    CHECK(entangle_rows_begin(&rows, TEXT("Flights"), &refusal) == ENTANGLE_DONE);
+    CHECK(entangle_rows_int(&rows, 1, &refusal) == ENTANGLE_DONE);
+    CHECK(entangle_rows_begin(&rows, TEXT("Seats"), &refusal) == ENTANGLE_DONE);
+    not_opened(&rows, 303, 1);
+    add_flight(&rows, 1, "LA");
+    CHECK(entangle_rows_int(&rows, 1, &refusal) == ENTANGLE_DONE);
+    not_opened(&rows, 303, 0);
+    add_flight(&rows, 1, "LA");
+    add_flight(&rows, 2, "LA");
+    CHECK(entangle_rows_begin(&rows, TEXT("Bookings"), &refusal) == ENTANGLE_DONE);
+    CHECK(entangle_rows_int(&rows, 1, &refusal) == ENTANGLE_DONE);
+    CHECK(entangle_rows_text(&rows, TEXT("x"), &refusal) == ENTANGLE_DONE);
+    not_opened(&rows, 304, 2);
+    CHECK(entangle_rows_begin(&rows, TEXT("Seats"), &refusal) == ENTANGLE_DONE);
+    CHECK(entangle_room_open(&room, TEXT(faulty), &rows, 1, 1, &LIMITS, &refusal, &told) == ENTANGLE_REFUSED && !rows);
+    CHECK(refusal == ENTANGLE_ROOM_FAULTY && told.code == 304 && told.has_place && told.offset == 46);
+    /* TABLES has two rows. */
+    for (int64_t number = 1; number <= 65534; number++) add_flight(&rows, -number, "LA");
+    CHECK(entangle_room_open(&room, TEXT(TABLES), &rows, 1, 1, &LIMITS, &refusal, &told) == ENTANGLE_DONE && !rows);
+    CHECK(entangle_room_table(&room, TEXT("Flights"), line, sizeof line, &told) == ENTANGLE_DONE);
+    CHECK(!memcmp(line, "table Flights 65536\n(-65534, 'LA'", sizeof line));
+    entangle_room_free(&room);
+    CHECK(entangle_rows_begin(&rows, TEXT("Seats"), &refusal) == ENTANGLE_DONE);
+    for (int64_t number = 1; number <= 65534; number++) add_flight(&rows, number, "LA");
+    CHECK(entangle_room_open(&room, TEXT(TABLES), &rows, 1, 1, &LIMITS, &refusal, &told) == ENTANGLE_REFUSED && !rows);
+    CHECK(refusal == ENTANGLE_ROOM_TOO_MANY_ROWS && told.code == 407 && !told.has_place && !told.offset && !room);
+}
+
+/* A script with a value that isn't bound in it is explained in a line, which names the host variable. */
+static void explained(entangle_room **room, const char *script, entangle_values **values, size_t number,
+                      const char *expected) {
+    char buffer[128];
+    entangle_told told;
+    entangle_values *at = *values;
+    memset(buffer, '#', sizeof buffer);
+    CHECK(entangle_room_explain(room, script, strlen(script), values, buffer, sizeof buffer, &told) ==
+          ENTANGLE_REFUSED);
+    CHECK(told.needed == strlen(expected) && !memcmp(buffer, expected, told.needed) && buffer[told.needed] == '#');
+    CHECK(!told.code && told.offset == number && !told.has_place && !told.line && *values == at);
 }
 
 /* What can't come in is refused with its first fault, and nothing changes. */
@@ -165,20 +322,30 @@ static void put_refused(entangle_room **room) {
     CHECK(entangle_room_put(room, TEXT(WRONG), &none, -1, &ticket, &refusal, &told) == ENTANGLE_REFUSED);
     CHECK(refusal == ENTANGLE_ROOM_FAULTY && ticket == 7 && told.code == 301 && told.has_place && told.offset == 31);
     CHECK(told.line == 2 && told.column == 13 && !told.needed);
-    CHECK(entangle_room_explain(room, TEXT(WRONG), buffer, sizeof buffer, &told) == ENTANGLE_REFUSED);
+    CHECK(entangle_room_explain(room, TEXT(WRONG), &none, buffer, sizeof buffer, &told) == ENTANGLE_REFUSED);
     CHECK(told.code == 301 && told.needed > sizeof said && !memcmp(buffer, said, sizeof said - 1));
-    CHECK(entangle_room_explain(room, TEXT(WRITER), buffer, sizeof buffer, &told) == ENTANGLE_DONE);
+    CHECK(told.has_place && told.offset == 31 && told.line == 2 && told.column == 13);
+    CHECK(entangle_room_explain(room, TEXT(WRITER), &none, buffer, sizeof buffer, &told) == ENTANGLE_DONE);
     CHECK(tells_text(&told, 0));
+    CHECK(entangle_room_explain(room, TEXT(WRITER), NULL, buffer, sizeof buffer, &told) == ENTANGLE_MISUSED);
     CHECK(entangle_room_put(room, TEXT(uses), &none, -1, &ticket, &refusal, &told) == ENTANGLE_REFUSED);
     CHECK(refusal == ENTANGLE_ROOM_FAULTY && told.code == 306 && !none);
+    CHECK(entangle_room_explain(room, TEXT(uses), &none, buffer, sizeof buffer, &told) == ENTANGLE_REFUSED);
+    CHECK(told.code == 306 && told.has_place && !none);
     CHECK(entangle_values_text(&values, TEXT("n"), TEXT("x"), &refusal) == ENTANGLE_DONE);
     CHECK(entangle_room_put(room, TEXT(uses), &values, -1, &ticket, &refusal, &told) == ENTANGLE_REFUSED);
     CHECK(refusal == ENTANGLE_ROOM_FAULTY && told.code == 304);
+    CHECK(entangle_room_explain(room, TEXT(uses), &values, buffer, sizeof buffer, &told) == ENTANGLE_REFUSED);
+    CHECK(told.code == 304 && told.has_place && told.line == 2 && told.column == 29);
     CHECK(entangle_room_put(room, TEXT(sets), &values, -1, &ticket, &refusal, &told) == ENTANGLE_REFUSED);
     CHECK(refusal == ENTANGLE_ROOM_BOUND_SET_BY_SCRIPT && tells_text(&told, 0));
+    explained(room, sets, &values, 0, "@n is set by the script itself, so no value is bound to it\n");
     entangle_values_free(&values);
     CHECK(entangle_values_int(&values, TEXT("n"), 1, &refusal) == ENTANGLE_DONE);
+    CHECK(entangle_room_explain(room, TEXT(uses), &values, buffer, sizeof buffer, &told) == ENTANGLE_DONE);
+    CHECK(tells_text(&told, 0));
     CHECK(entangle_values_int(&values, TEXT("m"), 2, &refusal) == ENTANGLE_DONE);
+    explained(room, uses, &values, 1, "@m isn't used by the script, so no value is bound to it\n");
     CHECK(entangle_room_put(room, TEXT(uses), &values, -1, &ticket, &refusal, &told) == ENTANGLE_REFUSED);
     CHECK(refusal == ENTANGLE_ROOM_BOUND_UNUSED && told.offset == 1 && !told.has_place && !told.code);
     CHECK(entangle_values_int(&values, TEXT("n"), 3, &refusal) == ENTANGLE_DONE);
@@ -189,6 +356,7 @@ static void put_refused(entangle_room **room) {
     CHECK(entangle_values_int(&values, TEXT("n"), 1, &refusal) == ENTANGLE_DONE);
     CHECK(entangle_room_put(room, TEXT(uses), &values, -1, &ticket, &refusal, &told) == ENTANGLE_REFUSED);
     CHECK(refusal == ENTANGLE_ROOM_BOUND_TWICE && told.offset == 1);
+    explained(room, uses, &values, 1, "@n is bound twice\n");
     entangle_values_free(&values);
     refusal = 77;
     CHECK(entangle_room_put(room, TEXT(WRITER), &none, -2, &ticket, &refusal, &told) == ENTANGLE_MISUSED);
@@ -215,15 +383,6 @@ static void reported(entangle_room **room, uint64_t ended) {
     CHECK(!memcmp(report, "report 1\nt", 10));
 }
 
-/* Whether a table is told in these lines. */
-static bool shows(entangle_room **room, const char *name, const char *lines) {
-    char buffer[256];
-    entangle_told told;
-    memset(buffer, '#', sizeof buffer);
-    CHECK(entangle_room_table(room, name, strlen(name), buffer, sizeof buffer, &told) == ENTANGLE_DONE);
-    return tells_text(&told, strlen(lines)) && !memcmp(buffer, lines, strlen(lines)) && buffer[strlen(lines)] == '#';
-}
-
 /* Steps until there is nothing to do; whether a run was made. */
 static bool stepped(entangle_room **room) {
     bool ran = false;
@@ -237,6 +396,8 @@ static bool stepped(entangle_room **room) {
 
 /* Mickey is lonely until Minnie comes; then both are booked, with one flight. */
 static void meeting(entangle_room **room) {
+    static const char lonely[] =
+        "lonely: nobody who waits may offer its demand 0, ('Minnie', _) IN ANSWER Trip\n";
     entangle_ticket_state state;
     entangle_submission submission;
     entangle_told told;
@@ -244,8 +405,9 @@ static void meeting(entangle_room **room) {
     uint64_t ticket = 0;
     CHECK(put_friend(room, "Mickey", "Minnie") == 10 && !stepped(room));
     CHECK(kind_of(room, 10, &state) == ENTANGLE_TICKET_LONELY && !state.demand && !state.batches && !state.failure);
-    CHECK(entangle_room_why(room, 10, line, sizeof line, &told) == ENTANGLE_DONE && !memcmp(line, "lonely", 6));
-    CHECK(line[told.needed - 1] == '\n' && entangle_room_waiting(room, 0, &ticket) == ENTANGLE_DONE && ticket == 10);
+    CHECK(entangle_room_why(room, 10, line, sizeof line, &told) == ENTANGLE_DONE);
+    CHECK(tells_text(&told, sizeof lonely - 1) && !memcmp(line, lonely, sizeof lonely - 1));
+    CHECK(entangle_room_waiting(room, 0, &ticket) == ENTANGLE_DONE && ticket == 10);
     CHECK(put_friend(room, "Minnie", "Mickey") == 11 && kind_of(room, 11, &state) == ENTANGLE_TICKET_WAITS);
     CHECK(entangle_room_ended(room, 0, &ticket) == ENTANGLE_REFUSED && ticket == 10);
     CHECK(entangle_room_submission(room, 10, 0, &submission) == ENTANGLE_REFUSED);
@@ -323,9 +485,10 @@ static void restored(entangle_room **room) {
 /* A room from its opening to its end. */
 static void whole(void) {
     entangle_room *room = NULL;
+    entangle_rows *rows = NULL;
     entangle_told told;
     uint32_t refusal = 77;
-    CHECK(entangle_room_open(&room, TEXT(TABLES), 3, 10, &LIMITS, &refusal, &told) == ENTANGLE_DONE && !refusal);
+    CHECK(entangle_room_open(&room, TEXT(TABLES), &rows, 3, 10, &LIMITS, &refusal, &told) == ENTANGLE_DONE && !refusal);
     put_refused(&room);
     meeting(&room);
     turning(&room);
@@ -338,9 +501,12 @@ static void whole(void) {
 static void many(void) {
     for (int count = 0; count < 300; count++) {
         entangle_room *room = NULL;
+        entangle_rows *rows = NULL;
         entangle_told told;
         uint32_t refusal;
-        CHECK(entangle_room_open(&room, TEXT(TABLES), 1, 10, &LIMITS, &refusal, &told) == ENTANGLE_DONE);
+        add_flight(&rows, 7, "Rome");
+        if (count % 4 == 3) entangle_rows_free(&rows);
+        CHECK(entangle_room_open(&room, TEXT(TABLES), &rows, 1, 10, &LIMITS, &refusal, &told) == ENTANGLE_DONE);
         CHECK(put_friend(&room, "Mickey", "Minnie") == 10);
         CHECK(count % 2 || put_friend(&room, "Minnie", "Mickey") == 11);
         CHECK(count % 3 == 0 || stepped(&room) == (count % 2 == 0));
@@ -381,16 +547,47 @@ static void come(entangle_room **room, const char *me, const char *other, uint64
     entangle_values_free(&values);
 }
 
+/* A text that takes an allocation of its own. */
+static const char FAR[] = "Llanfairpwllgwyngyll";
+
+/* Collects a flight; each call again if memory ran out for it. Whether there is a row then. */
+static bool collect(entangle_rows **rows) {
+    uint32_t refusal = 77;
+    REPEATED(entangle_rows_begin(rows, TEXT("Flights"), &refusal), !refusal && !*rows);
+    REPEATED(entangle_rows_int(rows, INT64_MIN, &refusal), !refusal && *rows);
+    REPEATED(entangle_rows_text(rows, TEXT(FAR), &refusal), !refusal && *rows);
+    return *rows != NULL;
+}
+
+/* Asks what is said of a script that has a fault; again if memory ran out for it. */
+static void ask(entangle_room **room) {
+    char buffer[512];
+    entangle_values *none = NULL;
+    entangle_told told;
+    int32_t status;
+    while ((status = entangle_room_explain(room, TEXT(WRONG), &none, buffer, sizeof buffer, &told)) !=
+           ENTANGLE_REFUSED) {
+        CHECK(status == ENTANGLE_OUT_OF_MEMORY && told.code == 900 && !told.needed);
+        told_refusals++;
+    }
+    CHECK(told.code == 301 && told.needed);
+}
+
 /* Two friends come and are booked, while one allocation fails. Whether there were so many allocations. */
 static bool lived(long number) {
     char buffer[2048];
     entangle_room *room = NULL;
+    entangle_rows *rows = NULL;
     entangle_told told;
     entangle_ticket_state state;
     uint64_t epoch = 0;
     uint32_t refusal = 77, step = 0;
     until = number;
-    REPEATED(entangle_room_open(&room, TEXT(TABLES), 3, 10, &LIMITS, &refusal, &told), told.code == 900 && !room);
+    collect(&rows);
+    REPEATED(entangle_room_open(&room, TEXT(TABLES), &rows, 3, 10, &LIMITS, &refusal, &told),
+             told.code == 900 && !room && !rows && collect(&rows));
+    CHECK(!rows);
+    ask(&room);
     come(&room, "Mickey", "Minnie", 10);
     come(&room, "Minnie", "Mickey", 11);
     do {
@@ -404,6 +601,8 @@ static bool lived(long number) {
     until = -1;
     CHECK(epoch == 3 && kind_of(&room, 10, &state) == ENTANGLE_TICKET_COMMITTED);
     CHECK(shows(&room, "Bookings", "table Bookings 0\n"));
+    CHECK(shows(&room, "Flights",
+                "table Flights 3\n(-9223372036854775808, 'Llanfairpwllgwyngyll')\n(122, 'LA')\n(136, 'Paris')\n"));
     entangle_room_free(&room);
     return is_reached;
 }
@@ -419,8 +618,11 @@ static void refusals(void) {
 
 int main(void) {
     bound();
+    collected();
     closed();
     opened();
+    given();
+    misfits();
     whole();
     many();
 #ifdef REFUSING

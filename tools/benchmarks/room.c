@@ -72,9 +72,10 @@ static size_t lent(void) {
 
 static void open_room(const char *opening, size_t length, uint64_t most_waiters) {
     entangle_limits limits = {most_waiters, 1000};
+    entangle_rows *rows = NULL;
     entangle_told told;
     uint32_t refusal;
-    check(entangle_room_open(&room, opening, length, 1, 1, &limits, &refusal, &told), "the room isn't opened");
+    check(entangle_room_open(&room, opening, length, &rows, 1, 1, &limits, &refusal, &told), "the room isn't opened");
 }
 
 /* Puts a script with the names bound in it that are given. */

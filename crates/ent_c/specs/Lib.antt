@@ -9,3 +9,4 @@ pub mod Moving
 pub mod Rooms
 pub mod Looks
 pub mod Bound
+pub mod Given

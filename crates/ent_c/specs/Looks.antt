@@ -1,20 +1,26 @@
 -- What C's calls tell of a room.
-use Rattle.std.specs.Prelude.{◌≡◌, ◌⊎◌, ◌≤◌, ℕ, ℤ, pos, List, [], Some, None, IsSome, slice_get}
+use Rattle.std.specs.Prelude.{◌≡◌, ◌⊎◌, ◌≤◌, ℕ, ℤ, pos, List, [], length, Some, None, IsSome, slice_get}
 use Rattle.ent_book.specs.Tables.{book_seen}
-use Rattle.ent_driver.specs.Scripts.{HasForm, IsFaultOver}
-use Rattle.ent_driver.specs.declared.fault.DriverFault.TheVariants.{Text}
+use Rattle.ent_bound.specs.declared.variable.BoundVariable.{BoundVariable}
 use Rattle.ent_engine.specs.Report.{text_of}
 use Rattle.ent_engine.specs.declared.fault.RunFault.{RunFault}
 use Rattle.ent_engine.specs.declared.fault.RunFault.TheVariants as run_faults
 use Rattle.ent_engine.specs.declared.options.ReportVersion.{ReportVersion}
+use Rattle.ent_prepare.specs.Prepared.{IsFirstFault}
+use Rattle.ent_prepare.specs.declared.fault.PrepareFault.{PrepareFault}
+use Rattle.ent_prepare.specs.declared.fault.PrepareFault.TheVariants.{Binding, Form, Reading}
+use Rattle.ent_prepare.specs.declared.fault.ReadingFault.{ReadingFault}
+use Rattle.ent_prepare.specs.declared.fault.ReadingFault.TheVariants as reading_faults
+use Rattle.ent_room.specs.Putting.{HasScript, tables_of}
 use Rattle.ent_room.specs.Room.{Room}
 use Rattle.ent_room.specs.State.{StandsAs, submissions_of}
 use Rattle.ent_room.specs.declared.epoch_book.EpochBook.{EpochBook}
 use Rattle.ent_room.specs.declared.state.State.{State}
 use Rattle.ent_room.specs.declared.state.State.TheVariants as states
+use Rattle.ent_room_calls.specs.Binding.{binding_line}
 use Rattle.ent_room_calls.specs.Fault.{status as fault_status}
 use Rattle.ent_room_calls.specs.declared.fault.RoomFault.{RoomFault}
-use Rattle.ent_room_calls.specs.declared.fault.RoomFault.TheVariants.{Memory}
+use Rattle.ent_room_calls.specs.declared.fault.RoomFault.TheVariants.{Faulty, Memory}
 use Rattle.ent_semantics.specs.Book.{IsLegal}
 use Rattle.ent_waiting.specs.Ended.{last_but}
 use Rattle.ent_waiting.specs.WaitingList.{waiter_of}
@@ -22,12 +28,11 @@ use Rattle.ent_waiting.specs.declared.ended.Ended.{Ended}
 use Rattle.ent_waiting.specs.declared.ended.Ending.{Ending}
 use Rattle.ent_waiting.specs.declared.ended.Ending.TheVariants as endings
 use Rattle.ent_waiting.specs.declared.waiter.Submission.{Submission as OneSubmission}
-use Rattle.ent_tree.specs.declared.declaration.Opening.{Opening}
-use Rattle.ent_c.specs.Calls.{Declines, HandsOut}
-use Rattle.ent_c.specs.Explaining.{HandsNothing, HandsSaid}
+use Rattle.ent_c.specs.Calls.{HandsOut}
+use Rattle.ent_c.specs.Explaining.{HandsNothing}
 use Rattle.ent_c.specs.Position.{failure_number}
-use Rattle.ent_c.specs.Rooms.{TellsRoom}
-use Rattle.ent_c.specs.Text.{IsSaidOf}
+use Rattle.ent_c.specs.Rooms.{TellsBeside, TellsRoom}
+use Rattle.ent_c.specs.Text.{IsSaidOf, laid_over}
 use Rattle.ent_c.specs.Told.{told_of_text}
 use Rattle.ent_c.specs.declared.ticket_state.Submission.{Submission}
 use Rattle.ent_c.specs.declared.ticket_state.TicketState.{TicketState}
@@ -93,14 +98,32 @@ HandsRoom IsText IsFault bytes old new told status =
     ⊎ ((fault : RoomFault) × IsFault fault × (new ≡ old) × TellsRoom fault bytes told
     × (status ≡ pos (fault_status fault)))
 
--- the script has no fault over an opening, and nothing is handed out; or what is said of its first fault is; or memory
--- ran out for that
-abbrev pub ExplainsOver : Opening → List ℕ → List ℕ → List ℕ → Told → ℤ → Type 0
-ExplainsOver opening bytes old new told status =
-    (HasForm opening bytes × HandsNothing old new told status)
-    ⊎ (((fault : RunFault) × (text : List ℕ) × IsFaultOver opening bytes fault × IsSaidOf fault text
-    × HandsSaid fault text bytes old new told status)
-    ⊎ Declines (Text run_faults.Memory) bytes old new told status)
+-- a fault of a script's text, as a run would tell it
+abbrev pub of_reading : ReadingFault → RunFault
+of_reading reading_faults.TooLong = run_faults.TooLong
+of_reading (reading_faults.NotUtf8 place) = run_faults.NotUtf8 place
+of_reading (reading_faults.Sql fault) = run_faults.Sql fault
+
+-- what is said of a fault: the line that names it, and what is below that; of a value that isn't bound, a line in words
+abbrev pub IsSaid : List BoundVariable → PrepareFault → List ℕ → Type 0
+IsSaid variables (Reading fault) text = IsSaidOf (of_reading fault) text
+IsSaid variables (Form fault) text = IsSaidOf (run_faults.Form fault) text
+IsSaid variables (Binding fault) text = text ≡ binding_line variables fault
+
+-- the fault is told, for which the script wouldn't be put with these values, and what is said of it is handed out
+abbrev pub HandsFault : List BoundVariable → PrepareFault → List ℕ → List ℕ → List ℕ → Told → ℤ → Type 0
+HandsFault variables fault bytes old new told status =
+    (text : List ℕ) × IsSaid variables fault text × (new ≡ laid_over old text)
+    × TellsBeside (Faulty fault) bytes (length text) told × (status ≡ pos (fault_status (Faulty fault)))
+
+-- the script could be put with these values, and nothing is handed out; or what is said of the first fault is; or
+-- memory ran out for that
+abbrev pub ExplainsPut : Room → List ℕ → List BoundVariable → List ℕ → List ℕ → Told → ℤ → Type 0
+ExplainsPut room bytes variables old new told status =
+    (HasScript room.admission bytes variables × HandsNothing old new told status)
+    ⊎ (((fault : PrepareFault) × IsFirstFault (tables_of room.admission) bytes variables fault
+    × HandsFault variables fault bytes old new told status)
+    ⊎ ((new ≡ old) × TellsRoom Memory bytes told × (status ≡ pos (fault_status Memory))))
 
 -- the report of the epoch that ended last, whose book is legal, is handed out, and the epoch's number is told
 abbrev pub HandsReport : ReportVersion → Room → ℕ → List ℕ → List ℕ → Told → ℤ → Type 0

@@ -5,6 +5,7 @@ use Rattle.std.specs.BTreeSet.{contains}
 use Rattle.std.specs.Ordering.{nat_cmp}
 use Rattle.ent_admission.specs.Admission.{IsAtRest}
 use Rattle.ent_bound.specs.declared.variable.BoundVariable.{BoundVariable}
+use Rattle.ent_given.specs.declared.row.GivenRow.{GivenRow}
 use Rattle.ent_prepare.specs.Prepared.{IsFirstFault}
 use Rattle.ent_room.specs.Acts.{Advances}
 use Rattle.ent_room.specs.Putting as putting
@@ -20,7 +21,7 @@ use Rattle.ent_room.specs.declared.reading.NotOpened.{NotOpened}
 use Rattle.ent_room.specs.declared.step.NotStepped.{NotStepped}
 use Rattle.ent_room.specs.declared.step.Stepped.{Stepped}
 use Rattle.ent_room.specs.declared.step.Stepped.TheVariants as steps
-use Rattle.ent_room_calls.specs.Fault.{code_of, number_of, place_of, variable_of, status as fault_status}
+use Rattle.ent_room_calls.specs.Fault.{code_of, item_of, number_of, place_of, status as fault_status}
 use Rattle.ent_room_calls.specs.Fault.{of_open, of_put, of_restore, of_step, of_withdraw}
 use Rattle.ent_room_calls.specs.Stay.{IsNoStay, IsStay}
 use Rattle.ent_room_calls.specs.Turning.{IsNotTurned, Turns}
@@ -66,6 +67,11 @@ abbrev pub bound_in : Option (List BoundVariable) → List BoundVariable
 bound_in None = []
 bound_in (Some list) = list
 
+-- the rows behind a handle: none where it is null
+abbrev pub given_in : Option (List GivenRow) → List GivenRow
+given_in None = []
+given_in (Some rows) = rows
+
 -- neither the number of a refusal nor what is told is written
 abbrev pub IsKept : ℕ → ℕ → Told → Told → Type 0
 IsKept refusal refusal' told told' = (refusal' ≡ refusal) × (told' ≡ told)
@@ -84,34 +90,47 @@ TellsDone refusal status = (refusal ≡ 0) × (status ≡ pos 0)
 abbrev pub TellsNumber : RoomFault → ℕ → ℤ → Type 0
 TellsNumber fault refusal status = (refusal ≡ number_of fault) × (status ≡ pos (fault_status fault))
 
--- which variable has a fault
-abbrev pub told_of_variable : ℕ → Told
-told_of_variable number =
-    record { needed = 0; offset = number; line = 0; column = 0; code = 0; has_place = false }
+-- a fault of this number, of a bound variable or of a given row, which is told by its own number, beside a text of so
+-- many bytes
+abbrev pub told_of_item : ℕ → ℕ → ℕ → Told
+told_of_item count code item =
+    record { needed = count; offset = item; line = 0; column = 0; code = code; has_place = false }
 
-abbrev pub TellsWhere : Option ℕ → RoomFault → List ℕ → Told → Type 0
-TellsWhere None fault bytes told = TellsCode (code_of fault) (place_of fault) bytes 0 told
-TellsWhere (Some number) fault bytes told = told ≡ told_of_variable number
+abbrev pub TellsWhere : Option ℕ → RoomFault → List ℕ → ℕ → Told → Type 0
+TellsWhere None fault bytes count told = TellsCode (code_of fault) (place_of fault) bytes count told
+TellsWhere (Some item) fault bytes count told = told ≡ told_of_item count (code_of fault) item
 
--- a fault is told of the bytes that were handed in, or which variable it is of
+-- a fault is told of the bytes that were handed in, or which variable or row it is of, beside a text of so many bytes
+abbrev pub TellsBeside : RoomFault → List ℕ → ℕ → Told → Type 0
+TellsBeside fault bytes count told = TellsWhere (item_of fault) fault bytes count told
+
+-- the same beside no text
 abbrev pub TellsRoom : RoomFault → List ℕ → Told → Type 0
-TellsRoom fault bytes told = TellsWhere (variable_of fault) fault bytes told
+TellsRoom fault bytes told = TellsBeside fault bytes 0 told
 
 -- ---- opening
 
--- the input has this first fault, or more scripts than may wait; or memory ran out
-abbrev pub IsNoRoom : List ℕ → ℕ → Limits → RoomFault → Type 0
-IsNoRoom bytes next limits fault =
-    (refused : Refusal NotOpened) × IsNotOpened bytes next limits refused × (fault ≡ of_open refused)
+-- the input has this first fault, or the rows do behind its own, or there are more scripts than may wait; or memory ran
+-- out
+abbrev pub IsNoRoom : List ℕ → List GivenRow → ℕ → Limits → RoomFault → Type 0
+IsNoRoom bytes rows next limits fault =
+    (refused : Refusal NotOpened) × IsNotOpened bytes rows next limits refused × (fault ≡ of_open refused)
 
--- a handle that was null has a room over the input, or it is told why not; one that wasn't null is misused
-abbrev pub OpensRoom : List ℕ → ℕ → ℕ → Limits → Held → Held → Type 0 → ℕ → Told → ℤ → Type 0
-OpensRoom bytes number next limits (Some room) new Same refusal told status = IsMisused (Some room) new status Same
-OpensRoom bytes number next limits None new Same refusal told status =
-    ((room : Room) × Opens bytes number next limits room × (new ≡ Some room) × (told ≡ told_of_text 0)
+-- a handle that was null has a room over the input and these rows, or it is told why not; one that wasn't null is
+-- misused
+abbrev pub OpensRoom : List ℕ → List GivenRow → ℕ → ℕ → Limits → Held → Held → Type 0 → ℕ → Told → ℤ → Type 0
+OpensRoom bytes rows number next limits (Some room) new Same refusal told status =
+    IsMisused (Some room) new status Same
+OpensRoom bytes rows number next limits None new Same refusal told status =
+    ((room : Room) × Opens bytes rows number next limits room × (new ≡ Some room) × (told ≡ told_of_text 0)
     × TellsDone refusal status)
-    ⊎ ((fault : RoomFault) × IsNoRoom bytes next limits fault × (new ≡ None) × TellsRoom fault bytes told
+    ⊎ ((fault : RoomFault) × IsNoRoom bytes rows next limits fault × (new ≡ None) × TellsRoom fault bytes told
     × TellsNumber fault refusal status)
+
+-- the rows are taken; where the call is misused, they stay
+abbrev pub TakesRows : Held → Option (List GivenRow) → Option (List GivenRow) → Type 0
+TakesRows None old new = new ≡ None
+TakesRows (Some room) old new = new ≡ old
 
 -- ---- scripts that come and go
 

@@ -2,9 +2,9 @@
 //! rooms, in which scripts wait, and managers, which keep tables between calls and make single runs.
 //!
 //! `include/entangle.h` declares the calls, with the conditions of each. A text goes into the caller's buffer, as far
-//! as the buffer reaches; its length, and a fault, go into a [`Told`]. Only rooms, values and managers keep anything
-//! between calls, behind a [`RoomHandle`], a [`ValuesHandle`] or a [`Handle`]; everything else that a call allocates it
-//! frees.
+//! as the buffer reaches; its length, and a fault, go into a [`Told`]. Only rooms, rows, values and managers keep
+//! anything between calls, behind a [`RoomHandle`], a [`RowsHandle`], a [`ValuesHandle`] or a [`Handle`]; everything
+//! else that a call allocates it frees.
 #![tactic(auto)]
 
 ghost use Rattle.std.specs.Prelude.{MatchOption};
@@ -22,8 +22,11 @@ mod report;
 mod room;
 mod room_handle;
 mod room_look;
+mod room_said;
 mod room_text;
 mod room_told;
+mod rows;
+mod rows_handle;
 mod script;
 mod ticket_state;
 mod told;
@@ -57,7 +60,10 @@ pub use room_handle::RoomHandle;
 pub use room_look::{
     ent_c_room_ended, ent_c_room_epoch, ent_c_room_state, ent_c_room_submission, ent_c_room_waiting,
 };
-pub use room_text::{ent_c_room_explain, ent_c_room_report, ent_c_room_table, ent_c_room_why};
+pub use room_said::ent_c_room_explain;
+pub use room_text::{ent_c_room_report, ent_c_room_table, ent_c_room_why};
+pub use rows::{ent_c_rows_begin, ent_c_rows_free, ent_c_rows_int, ent_c_rows_text};
+pub use rows_handle::RowsHandle;
 pub use script::ent_c_explain_script;
 use std::alloc::Global;
 pub use ticket_state::{Submission, TicketState};

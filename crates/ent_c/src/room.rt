@@ -3,14 +3,17 @@ ghost use Rattle.std.specs.Prelude.{◌≡◌, IfErr, IfOk};
 ghost use Rattle.std.specs.declared.option.Option.TheVariants.{None};
 ghost use Rattle.ent_room.specs.Reading.{Opens};
 ghost use Rattle.ent_c.specs.Rooms.{IsKept, IsMisused, IsNoRoom, OfRoom, OfStay, OpensRoom, PutsBackIn, PutsIn};
-ghost use Rattle.ent_c.specs.Rooms.{StepsIn, TurnsIn, WithdrawsFrom, bound_in, limits_of, step_number};
+ghost use Rattle.ent_c.specs.Rooms.{StepsIn, TakesRows, TurnsIn, WithdrawsFrom, bound_in, given_in, limits_of};
+ghost use Rattle.ent_c.specs.Rooms.{step_number};
 
 use crate::room_handle::RoomHandle;
 use crate::room_told::{refuse, refuse_of, tell_of};
+use crate::rows_handle::RowsHandle;
 use crate::told::Told;
 use crate::values_handle::ValuesHandle;
 use crate::{DONE, MISUSED};
 use ent_bound::BoundVariable;
+use ent_given::GivenRow;
 use ent_room::{Room, Stay, Stepped};
 use ent_room_calls::{RoomFault, stay_numbered, turn};
 use ent_waiting::{Limits as ListLimits, Ticket};
@@ -26,47 +29,72 @@ pub struct Limits {
     pub most_ended: u64,
 }
 
-/// A room over the text of an input, or why there is none.
+/// A room over the text of an input and over rows, or why there is none.
 fn room_over(
     alloc: Global,
     input: &[u8],
+    rows: &[GivenRow],
     epoch: u64,
     next: u64,
     limits: &Limits,
 ) -> Result<Box<Room>, RoomFault>
-    ensures opened { IfOk result (λ room. Opens input.now epoch next (limits_of limits.now) room.value) }
-    ensures refused { IfErr result (λ fault. IsNoRoom input.now next (limits_of limits.now) fault) }
+    ensures opened { IfOk result (λ room. Opens input.now rows.now epoch next (limits_of limits.now) room.value) }
+    ensures refused { IfErr result (λ fault. IsNoRoom input.now rows.now next (limits_of limits.now) fault) }
 {
     let limits = ListLimits {
         most_waiters: limits.most_waiters as usize,
         most_ended: limits.most_ended as usize,
     };
-    match Room::read(alloc, input, epoch, Ticket::new(next), limits) {
+    match Room::read(alloc, input, rows, epoch, Ticket::new(next), limits) {
         Ok(room) => Ok(Box::new(alloc, room)?),
         Err(refusal) => Err(RoomFault::from(refusal)),
     }
 }
 
-/// Opens a room over an input, whose scripts wait in order. A handle that isn't null is misused.
+/// A room over the text of an input and over the rows behind a handle, which are taken; or why there is none.
+fn room_of(
+    alloc: Global,
+    input: &[u8],
+    rows: &mut RowsHandle,
+    epoch: u64,
+    next: u64,
+    limits: &Limits,
+) -> Result<Box<Room>, RoomFault>
+    ensures opened { IfOk result (λ room.
+        Opens input.now (given_in rows.old.held) epoch next (limits_of limits.now) room.value) }
+    ensures refused { IfErr result (λ fault.
+        IsNoRoom input.now (given_in rows.old.held) next (limits_of limits.now) fault) }
+    ensures taken { rows.new.held ≡ None }
+{
+    match rows.take(alloc) {
+        Some(given) => room_over(alloc, input, given.as_slice(), epoch, next, limits),
+        None => room_over(alloc, input, &[], epoch, next, limits),
+    }
+}
+
+/// Opens a room over an input, whose scripts wait in order, with rows behind its own. A handle that isn't null is
+/// misused; else the rows are taken.
 #[unsafe(no_mangle)]
 pub extern "C" fn ent_c_room_open(
     alloc: Global,
     handle: &mut RoomHandle,
     input: &[u8],
+    rows: &mut RowsHandle,
     epoch: u64,
     next: u64,
     limits: &Limits,
     refusal: &mut u32,
     told: &mut Told,
 ) -> i32
-    ensures { OpensRoom input.now epoch next (limits_of limits.now) handle.old.held handle.new.held
-        (IsKept refusal.old refusal.new told.old told.new) refusal.new told.new result }
+    ensures room { OpensRoom input.now (given_in rows.old.held) epoch next (limits_of limits.now) handle.old.held
+        handle.new.held (IsKept refusal.old refusal.new told.old told.new) refusal.new told.new result }
+    ensures rows { TakesRows handle.old.held rows.old.held rows.new.held }
 {
     if let Some(room) = handle.take(alloc) {
         handle.put(room);
         return MISUSED;
     }
-    match room_over(alloc, input, epoch, next, limits) {
+    match room_of(alloc, input, rows, epoch, next, limits) {
         Ok(room) => {
             handle.put(room);
             *refusal = 0;

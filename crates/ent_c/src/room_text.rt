@@ -3,31 +3,29 @@ ghost use Rattle.std.specs.Prelude.{◌≡◌, ◌++◌, ◌∷◌, [], IfErr, I
 ghost use Rattle.ent_book.specs.Tables.{book_seen};
 ghost use Rattle.ent_driver.specs.Told.{lines_under};
 ghost use Rattle.ent_engine.specs.Report.{text_of};
-ghost use Rattle.ent_form.specs.OpeningFault.{opening_fault};
 ghost use Rattle.ent_room.specs.State.{StandsAs};
 ghost use Rattle.ent_room.specs.declared.state.State.{State as StateSeen};
 ghost use Rattle.ent_room.specs.declared.epoch_book.EpochBook.{EpochBook as LastBook};
 ghost use Rattle.ent_room_calls.specs.Fault.{status as fault_status};
-ghost use Rattle.ent_room_calls.specs.State.{state_text};
 ghost use Rattle.ent_room_calls.specs.Text.{HasNoTable};
+ghost use Rattle.ent_room_calls.specs.Why.{why_text};
 ghost use Rattle.ent_room_calls.specs.declared.fault.RoomFault.TheVariants.{Memory};
 ghost use Rattle.ent_semantics.specs.Book.{IsLegal};
+ghost use Rattle.ent_waiting.specs.WaitingList.{waiter_of};
 ghost use Rattle.ent_c.specs.Calls.{HandsOut};
-ghost use Rattle.ent_c.specs.Looks.{ExplainsOver, HandsRoom, ReportsOf};
+ghost use Rattle.ent_c.specs.Looks.{HandsRoom, ReportsOf};
 ghost use Rattle.ent_c.specs.Rooms.{InRoom, IsMisused, TellsRoom};
 ghost use Rattle.ent_c.specs.Told.{told_of_text};
 ghost use Rattle.ent_c.specs.Version.{version_numbered};
 
 use crate::room_handle::RoomHandle;
 use crate::room_told::hand_out_of_room;
-use crate::script::{hand_out_said, said_over};
 use crate::told::Told;
 use crate::version::version_numbered;
 use crate::{MISUSED, REFUSED};
 use ent_engine::ReportVersion;
 use ent_room::Room;
-use ent_room_calls::{RoomFault, book_text, state_text, table_text};
-use ent_tree::Opening;
+use ent_room_calls::{RoomFault, book_text, table_text, why_line};
 use ent_waiting::Ticket;
 use std::alloc::Global;
 
@@ -50,37 +48,6 @@ pub extern "C" fn ent_c_room_table(
     let text = table_text(alloc, &room, name);
     handle.put(room);
     hand_out_of_room(text, name, buffer, told)
-}
-
-/// The declarations over which a room's epoch began, which have no fault.
-fn opening_of(room: &Room) -> &Opening
-    ensures opening { result.now ≡ room.now.admission.epoch.core.opening }
-    ensures formed { opening_fault result.now ≡ None }
-{
-    let core = room.admission().epoch().core();
-    // A law: the opening has no fault of form.
-    core.is_reached();
-    core.opening()
-}
-
-/// Hands out what is said of the fault of a script over the tables of a room, where nothing is bound in it.
-#[unsafe(no_mangle)]
-pub extern "C" fn ent_c_room_explain(
-    alloc: Global,
-    handle: &mut RoomHandle,
-    script: &[u8],
-    buffer: &mut [u8],
-    told: &mut Told,
-) -> i32
-    ensures { InRoom handle.old.held handle.new.held result ((buffer.new ≡ buffer.old) × (told.new ≡ told.old))
-        (λ room. ExplainsOver room.admission.epoch.core.opening script.now buffer.old buffer.new told.new result) }
-{
-    let Some(room) = handle.take(alloc) else {
-        return MISUSED;
-    };
-    let said = said_over(alloc, opening_of(&room), script);
-    handle.put(room);
-    hand_out_said(said, script, buffer, told)
 }
 
 /// The report of an epoch that ended, and its number.
@@ -202,12 +169,13 @@ pub extern "C" fn ent_c_room_why(
 ) -> i32
     ensures { InRoom handle.old.held handle.new.held result ((buffer.new ≡ buffer.old) × (told.new ≡ told.old))
         (λ room. HandsRoom (λ text. (seen : StateSeen) × StandsAs room.admission ticket seen
-        × (text ≡ state_text seen ++ 10 ∷ [])) (λ fault. fault ≡ Memory) [] buffer.old buffer.new told.new result) }
+        × (text ≡ why_text (waiter_of room.admission.list ticket) seen ++ 10 ∷ [])) (λ fault. fault ≡ Memory) []
+        buffer.old buffer.new told.new result) }
 {
     let Some(room) = handle.take(alloc) else {
         return MISUSED;
     };
-    let state = room.state(Ticket::new(ticket));
+    let line = why_line(alloc, &room, Ticket::new(ticket));
     handle.put(room);
-    hand_out_of_room(state_text(alloc, state), &[], buffer, told)
+    hand_out_of_room(line, &[], buffer, told)
 }

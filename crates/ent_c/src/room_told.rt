@@ -1,7 +1,7 @@
 //! How a room refuses a call, as C is told it.
 ghost use Rattle.std.specs.Prelude.{◌≡◌, IfErr, IfOk, OnOk, pos};
 ghost use Rattle.ent_c.specs.Calls.{HandsOut};
-ghost use Rattle.ent_c.specs.Rooms.{TellsDone, TellsNumber, TellsRoom};
+ghost use Rattle.ent_c.specs.Rooms.{TellsBeside, TellsDone, TellsNumber, TellsRoom};
 ghost use Rattle.ent_c.specs.Told.{told_of_text};
 ghost use Rattle.ent_room_calls.specs.Fault.{status as fault_status};
 
@@ -12,16 +12,17 @@ use ent_room_calls::RoomFault;
 
 impl Told {
     /// What is told of a call that a room refuses, of bytes that were handed in: where the fault stands there, or
-    /// which variable it is of.
-    pub(crate) fn room(given: &[u8], fault: RoomFault) -> Self
-        ensures { TellsRoom fault given.now result }
+    /// which variable or which row it is of; beside a text of so many bytes.
+    pub(crate) fn room(given: &[u8], fault: RoomFault, needed: usize) -> Self
+        ensures { TellsBeside fault given.now needed result }
     {
-        match fault.variable() {
-            Some(number) => Told {
-                offset: number,
-                ..Told::text(0)
+        match fault.item() {
+            Some(item) => Told {
+                offset: item,
+                code: fault.code(),
+                ..Told::text(needed)
             },
-            None => Told::coded(given, fault.code(), fault.place(), 0),
+            None => Told::coded(given, fault.code(), fault.place(), needed),
         }
     }
 }
@@ -39,7 +40,7 @@ pub(crate) fn refuse_of(fault: RoomFault, given: &[u8], refusal: &mut u32, told:
     ensures number { TellsNumber fault refusal.new result }
     ensures told { TellsRoom fault given.now told.new }
 {
-    *told = Told::room(given, fault);
+    *told = Told::room(given, fault, 0);
     refuse(fault, refusal)
 }
 
@@ -97,7 +98,7 @@ pub(crate) fn hand_out_of_room(
             DONE
         }
         Err(fault) => {
-            *told = Told::room(given, fault);
+            *told = Told::room(given, fault, 0);
             fault.status() as i32
         }
     }

@@ -23,17 +23,13 @@ use std::alloc::Global;
 
 /// A fault, and what is said of it.
 #[derive(Drop)]
-pub(crate) struct Said {
-    pub(crate) fault: RunFault,
-    pub(crate) text: String,
+struct Said {
+    fault: RunFault,
+    text: String,
 }
 
 /// What is said of the first fault of a script over the tables of an opening; nothing where it has no fault.
-pub(crate) fn said_over(
-    alloc: Global,
-    opening: &Opening,
-    script: &[u8],
-) -> Result<Option<Said>, DriverFault>
+fn said_over(alloc: Global, opening: &Opening, script: &[u8]) -> Result<Option<Said>, DriverFault>
     requires { opening_fault opening.now ≡ None }
     ensures said { IfOk result (λ said. MatchOption said (HasForm opening.now script.now)
         (λ said. IsFaultOver opening.now script.now said.fault)) }
@@ -67,7 +63,7 @@ fn said_of_script(
 }
 
 /// Hands out what is said of a fault of a script, if it has one, or tells why nothing is.
-pub(crate) fn hand_out_said(
+fn hand_out_said(
     said: Result<Option<Said>, DriverFault>,
     script: &[u8],
     buffer: &mut [u8],

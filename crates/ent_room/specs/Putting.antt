@@ -50,6 +50,10 @@ with_restored ticket script stay batches list =
 abbrev pub tables_of : Admission → List TableSchema
 tables_of a = schemas_of a.epoch.core.opening.tables
 
+-- the text and the values are a script that may wait
+abbrev pub HasScript : Admission → List ℕ → List BoundVariable → Type 0
+HasScript a text variables = (script : Script) × IsPrepared (tables_of a) text variables script
+
 -- the script that is prepared of the text and the values waits from now on, under the next ticket
 pub record Puts (a : Admission) (text : List ℕ) (variables : List BoundVariable) (stay : Stay) (new : WaitingList)
     : Type 0 where

@@ -1,9 +1,12 @@
--- Rooms over the texts of inputs.
+-- Rooms over the texts of inputs, and over rows that are given as values.
 use Rattle.std.specs.Prelude.{◌≡◌, ℕ, List, [], ◌∷◌, ◌++◌, None}
 use Rattle.ent_engine.specs.Reading.{IsInput, IsRefused}
 use Rattle.ent_engine.specs.declared.fault.RunFault.{RunFault}
 use Rattle.ent_engine.specs.declared.fault.RunFault.TheVariants as faults
 use Rattle.ent_epoch.specs.Epoch.{begun}
+use Rattle.ent_given.specs.Given.{AreTooMany as AreTooManyRows, CanStand, IsFirstFault, with_rows}
+use Rattle.ent_given.specs.declared.row.GivenRow.{GivenRow}
+use Rattle.ent_tree.specs.declared.declaration.Opening.{Opening}
 use Rattle.ent_tree.specs.declared.script.Input.{Input}
 use Rattle.ent_tree.specs.declared.script.Script.{Script}
 use Rattle.ent_value.specs.declared.refusal.Refusal.{Refusal}
@@ -14,7 +17,7 @@ use Rattle.ent_room.specs.Putting.{with_put}
 use Rattle.ent_room.specs.Room.{Room}
 use Rattle.ent_room.specs.declared.putting.Stay.TheVariants.{AsWritten}
 use Rattle.ent_room.specs.declared.reading.NotOpened.{NotOpened}
-use Rattle.ent_room.specs.declared.reading.NotOpened.TheVariants.{Faulty, Full}
+use Rattle.ent_room.specs.declared.reading.NotOpened.TheVariants.{Faulty, Full, NotARow, TooManyRows}
 
 -- the scripts come to wait, in order, each for as many batches as its WITHIN says
 abbrev pub all_put : List Script → WaitingList → WaitingList
@@ -24,6 +27,10 @@ all_put (script ∷ more) list = all_put more (with_put script AsWritten list)
 -- nobody waits yet
 abbrev pub empty_list : ℕ → Limits → WaitingList
 empty_list next limits = nobody next limits.most_waiters limits.most_ended
+
+-- the same input, with these rows behind its own
+abbrev pub input_with : List GivenRow → Input → Input
+input_with rows input = record input { opening = with_rows rows input.opening }
 
 -- The epoch is over the opening of the input, and no script was submitted to it. The scripts of the input wait, in
 -- order, and nobody else does.
@@ -41,16 +48,37 @@ pub record AreTooMany (scripts : List Script) (list : WaitingList) : Type 0 wher
   pub all : taken ++ script ∷ behind ≡ scripts
   pub full : IsFull (all_put taken list)
 
--- the bytes are this input, and the room is that of the input
-abbrev pub Opens : List ℕ → ℕ → ℕ → Limits → Room → Type 0
-Opens bytes number next limits room = (input : Input) × IsInput bytes input × IsRoomOf input number next limits room
+-- the bytes are this input, and the room is that of the input with these rows behind its own
+abbrev pub Opens : List ℕ → List GivenRow → ℕ → ℕ → Limits → Room → Type 0
+Opens bytes rows number next limits room =
+    (input : Input) × IsInput bytes input × CanStand input.opening rows
+    × IsRoomOf (input_with rows input) number next limits room
 
--- the first fault of the bytes; or more scripts than may wait; or memory ran out
-abbrev pub IsNotOpened : List ℕ → ℕ → Limits → Refusal NotOpened → Type 0
-IsNotOpened bytes next limits refusals.Memory = Unit {0}
-IsNotOpened bytes next limits (refusals.Fault (Faulty fault)) = IsRefused bytes fault
-IsNotOpened bytes next limits (refusals.Fault Full) =
-    (input : Input) × IsInput bytes input × AreTooMany input.scripts (empty_list next limits)
+-- an opening has too many rows with these, else the first of them that has a fault has this one; or memory ran out
+abbrev pub RefusesRows : Opening → List GivenRow → Refusal NotOpened → Type 0
+RefusesRows opening rows refusals.Memory = Unit {0}
+RefusesRows opening rows (refusals.Fault TooManyRows) = AreTooManyRows opening rows
+RefusesRows opening rows (refusals.Fault (NotARow fault)) = IsFirstFault opening rows fault
+RefusesRows opening rows (refusals.Fault (Faulty fault)) = ⊥
+RefusesRows opening rows (refusals.Fault Full) = ⊥
+
+-- the bytes are an input, and such rows can't stand behind its own
+abbrev pub HasNoPlaceFor : List ℕ → List GivenRow → Refusal NotOpened → Type 0
+HasNoPlaceFor bytes rows refusal =
+    (input : Input) × IsInput bytes input × RefusesRows input.opening rows refusal
+
+-- the first fault of the bytes; else too many rows, or the first fault of those that are given; else more scripts than
+-- may wait; or memory ran out
+abbrev pub IsNotOpened : List ℕ → List GivenRow → ℕ → Limits → Refusal NotOpened → Type 0
+IsNotOpened bytes rows next limits refusals.Memory = Unit {0}
+IsNotOpened bytes rows next limits (refusals.Fault (Faulty fault)) = IsRefused bytes fault
+IsNotOpened bytes rows next limits (refusals.Fault TooManyRows) =
+    HasNoPlaceFor bytes rows (refusals.Fault TooManyRows)
+IsNotOpened bytes rows next limits (refusals.Fault (NotARow fault)) =
+    HasNoPlaceFor bytes rows (refusals.Fault (NotARow fault))
+IsNotOpened bytes rows next limits (refusals.Fault Full) =
+    (input : Input) × IsInput bytes input × CanStand input.opening rows
+    × AreTooMany input.scripts (empty_list next limits)
 
 -- want of memory says nothing of the bytes
 abbrev pub refuses : RunFault → Refusal NotOpened

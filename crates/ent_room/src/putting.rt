@@ -3,7 +3,7 @@ ghost use Rattle.std.specs.Prelude.{◌≡◌, ◌⊎◌, ◌+◌, IfErr, IfOk, 
 ghost use Rattle.std.specs.BTreeSet.{contains};
 ghost use Rattle.std.specs.Ordering.{nat_cmp};
 ghost use Rattle.ent_admission.specs.Admission.{IsFormed};
-ghost use Rattle.ent_prepare.specs.Prepared.{IsFirstFault};
+ghost use Rattle.ent_prepare.specs.Prepared.{IsFirstFault, IsRefused};
 ghost use Rattle.ent_prepare.specs.declared.fault.PrepareFault.{PrepareFault as PrepareFaultSeen};
 ghost use Rattle.ent_value.specs.declared.refusal.Refusal.TheVariants.{Fault};
 ghost use Rattle.ent_waiting.specs.WaitingList.{IsFull, IsIdle, IsInBatch, IsUsed, MayComeBack, Onward, ending_as};
@@ -13,7 +13,7 @@ ghost use Rattle.ent_waiting.specs.declared.waiter.Waiter.{Waiter as WaiterSeen}
 ghost use Rattle.ent_waiting.specs.declared.waiting_list.Full.{Full as FullSeen};
 ghost use Rattle.ent_waiting.specs.declared.waiting_list.NotRestored.TheVariants.{NoRoom, Used};
 ghost use Rattle.ent_waiting.specs.declared.waiting_list.NotWithdrawn.TheVariants.{Absent, InBatch};
-ghost use Rattle.ent_room.specs.Putting.{Puts, Restores, patience_of, rank_of, tables_of, with_put};
+ghost use Rattle.ent_room.specs.Putting.{HasScript, Puts, Restores, patience_of, rank_of, tables_of, with_put};
 ghost use Rattle.ent_room.specs.declared.putting.NotPut.TheVariants as not_put;
 ghost use Rattle.ent_room.specs.declared.putting.NotPutBack.TheVariants as not_back;
 
@@ -102,6 +102,22 @@ impl Room {
                 Err(refusal)
             }
         }
+    }
+
+    /// Whether a text is a script that may wait, with these values bound in it; or the first fault of the text, the
+    /// values or the form, as `put` tells it. Nothing changes.
+    pub fn examine(
+        &mut self,
+        text: &[u8],
+        variables: &[BoundVariable],
+    ) -> Result<(), Refusal<PrepareFault>>
+        ensures ok { OnOk result (HasScript self.old.admission text.now variables.now) }
+        ensures refused { IfErr result (λ refusal.
+            IsRefused (tables_of self.old.admission) text.now variables.now refusal) }
+        ensures same { self.new ≡ self.old }
+    {
+        self.preparing.prepare(text, variables)?;
+        Ok(())
     }
 
     /// Takes a script in by its text, with these values bound in it, and gives it the next ticket. It waits from then

@@ -1,4 +1,4 @@
-//! A room over the text of an input.
+//! A room over the text of an input, and over rows that are given as values.
 ghost use Rattle.std.specs.Prelude.{◌≡◌, [], IfErr, IfOk, None, OnOk};
 ghost use Rattle.std.specs.Result.{result_err};
 ghost use Rattle.ent_core.specs.Play.{input_fault, scripts_fault};
@@ -7,15 +7,17 @@ ghost use Rattle.ent_epoch.specs.Epoch.{begun};
 ghost use Rattle.ent_form.specs.Catalogue.{schemas_of};
 ghost use Rattle.ent_form.specs.Form.{script_in};
 ghost use Rattle.ent_form.specs.OpeningFault.{first_of, opening_fault};
+ghost use Rattle.ent_given.specs.Given.{CanStand, with_rows};
 ghost use Rattle.ent_value.specs.declared.refusal.Refusal.TheVariants.{Fault};
 ghost use Rattle.ent_waiting.specs.declared.waiting_list.Full.{Full as FullSeen};
-ghost use Rattle.ent_room.specs.Reading.{AreTooMany, IsNotOpened, Opens, all_put, empty_list, refuses};
+ghost use Rattle.ent_room.specs.Reading.{AreTooMany, IsNotOpened, Opens, RefusesRows, all_put, empty_list, refuses};
 
 use crate::putting::Stay;
 use crate::room::Room;
 use ent_engine::{MOST_BYTES, RunFault, parse_bytes};
 use ent_form::{Catalogue, FormFault, resolve};
-use ent_tree::{Input, MOST_SCRIPTS, Opening, Script};
+use ent_given::{GivenRow, first_fault_tells_its_row, given_rows_come_last, with_rows};
+use ent_tree::{Input, MOST_OPENING_ROWS, MOST_SCRIPTS, Opening, Script};
 use ent_value::{Limited, Refusal};
 use ent_waiting::{Full, Limits, Ticket};
 use std::alloc::{AllocError, Global};
@@ -27,6 +29,12 @@ pub enum NotOpened {
     Full,
     /// It has this fault, as the text of an input.
     Faulty(RunFault),
+    /// E407: more rows stand there, with those that are given, than an opening has, which are [`MOST_OPENING_ROWS`].
+    TooManyRows,
+    /// The first of the given rows that doesn't fit names no table, or has another number of values than its table has
+    /// columns, or a value of another kind. The place of the fault is the number of the row among those that are given,
+    /// from 0.
+    NotARow(FormFault),
 }
 
 /// The fault of form of a script over these tables.
@@ -115,45 +123,57 @@ impl Room {
         Ok(())
     }
 
-    /// A room over an opening without a fault of form.
+    /// A room over an opening without a fault of form, with these rows behind its own; or why they can't stand there.
     fn over(
         alloc: Global,
         opening: Opening,
-        number: u64,
-        next: Ticket,
-        limits: Limits,
-    ) -> Result<Self, AllocError>
-        requires formed { opening_fault opening ≡ None }
-        ensures epoch { IfOk result (λ room. room.admission.epoch ≡ begun number opening) }
-        ensures list { IfOk result (λ room. room.admission.list ≡ empty_list next limits) }
-        ensures coming { IfOk result (λ room. room.admission.coming ≡ record { keys = [] }) }
-        ensures last { IfOk result (λ room. room.last ≡ None) }
-    {
-        match Room::open(alloc, opening, number, next, limits) {
-            Ok(room) => Ok(room),
-            Err(Refusal::Memory) => Err(AllocError),
-            Err(Refusal::Fault(_)) => unreachable!(),
-        }
-    }
-
-    /// A room over the text of an input: its declarations and opening rows, and its scripts. These wait in order, the
-    /// first under the ticket `next`, each for as many batches as its WITHIN says. The first epoch has this number. It
-    /// tells the first fault of the text; or that more scripts stand there than may wait.
-    pub fn read(
-        alloc: Global,
-        text: &[u8],
+        rows: &[GivenRow],
         number: u64,
         next: Ticket,
         limits: Limits,
     ) -> Result<Self, Refusal<NotOpened>>
-        ensures opened { IfOk result (λ room. Opens text.now number next limits room) }
-        ensures refused { IfErr result (λ refusal. IsNotOpened text.now next limits refusal) }
+        requires formed { opening_fault opening ≡ None }
+        ensures rows { OnOk result (CanStand opening rows.now) }
+        ensures epoch { IfOk result (λ room. room.admission.epoch ≡ begun number (with_rows rows.now opening)) }
+        ensures list { IfOk result (λ room. room.admission.list ≡ empty_list next limits) }
+        ensures coming { IfOk result (λ room. room.admission.coming ≡ record { keys = [] }) }
+        ensures last { IfOk result (λ room. room.last ≡ None) }
+        ensures refused { IfErr result (λ refusal. RefusesRows opening rows.now refusal) }
+    {
+        if rows.len() > MOST_OPENING_ROWS - opening.rows.len() {
+            return Err(Refusal::Fault(NotOpened::TooManyRows));
+        }
+        // Laws: the opening with these rows has no other fault than one of these rows, and that tells its row.
+        given_rows_come_last();
+        first_fault_tells_its_row();
+        let opening = with_rows(alloc, opening, rows)?;
+        match Room::open(alloc, opening, number, next, limits) {
+            Ok(room) => Ok(room),
+            Err(Refusal::Memory) => Err(Refusal::Memory),
+            Err(Refusal::Fault(fault)) => Err(Refusal::Fault(NotOpened::NotARow(fault))),
+        }
+    }
+
+    /// A room over the text of an input: its declarations, its opening rows and, behind them, the given ones; and its
+    /// scripts. These wait in order, the first under the ticket `next`, each for as many batches as its WITHIN says.
+    /// The first epoch has this number. It tells the first fault of the text; else too many rows, or the first of the
+    /// given ones that doesn't fit; else that more scripts stand there than may wait.
+    pub fn read(
+        alloc: Global,
+        text: &[u8],
+        rows: &[GivenRow],
+        number: u64,
+        next: Ticket,
+        limits: Limits,
+    ) -> Result<Self, Refusal<NotOpened>>
+        ensures opened { IfOk result (λ room. Opens text.now rows.now number next limits room) }
+        ensures refused { IfErr result (λ refusal. IsNotOpened text.now rows.now next limits refusal) }
     {
         let input = match input_of(alloc, text) {
             Ok(input) => input,
             Err(fault) => return Err(refusal_of(fault)),
         };
-        let mut room = Room::over(alloc, input.opening, number, next, limits)?;
+        let mut room = Room::over(alloc, input.opening, rows, number, next, limits)?;
         match room.take_all(input.scripts) {
             Ok(()) => Ok(room),
             Err(Refusal::Memory) => Err(Refusal::Memory),

@@ -5,6 +5,7 @@ use Rattle.ent_bound.specs.declared.fault.BindingFault.TheVariants.{Value as Val
 use Rattle.ent_bound.specs.declared.fault.ValueFault.{ValueFault}
 use Rattle.ent_bound.specs.declared.fault.ValueFault.TheVariants.{LeastNumber, TooLong, NotUtf8, ControlCharacter}
 use Rattle.ent_engine.specs.Fault.{code_of as run_code_of, place_of as run_place_of, status as run_status}
+use Rattle.ent_form.specs.Fault.{code_of as form_code_of, place_of as form_place_of}
 use Rattle.ent_prepare.specs.Fault.{code_of as prepare_code_of, place_of as prepare_place_of}
 use Rattle.ent_prepare.specs.declared.fault.PrepareFault.{PrepareFault}
 use Rattle.ent_prepare.specs.declared.fault.PrepareFault.TheVariants.{Reading, Binding, Form}
@@ -24,6 +25,7 @@ use Rattle.ent_waiting.specs.declared.waiting_list.NotWithdrawn.TheVariants as w
 use Rattle.ent_room_calls.specs.declared.fault.RoomFault.{RoomFault}
 use Rattle.ent_room_calls.specs.declared.fault.RoomFault.TheVariants.{Memory, Input, Faulty, Full, Value, NoName}
 use Rattle.ent_room_calls.specs.declared.fault.RoomFault.TheVariants.{Used, Absent, Busy, TooManyRows, NoNumber}
+use Rattle.ent_room_calls.specs.declared.fault.RoomFault.TheVariants.{NotARow, TooManyValues}
 
 -- ---- the refusals of a room's calls
 
@@ -31,6 +33,8 @@ abbrev pub of_open : Refusal NotOpened → RoomFault
 of_open refusals.Memory = Memory
 of_open (refusals.Fault opened.Full) = Full
 of_open (refusals.Fault (opened.Faulty fault)) = Input fault
+of_open (refusals.Fault opened.TooManyRows) = TooManyRows
+of_open (refusals.Fault (opened.NotARow fault)) = NotARow fault
 
 abbrev pub of_put : Refusal NotPut → RoomFault
 of_put refusals.Memory = Memory
@@ -85,6 +89,8 @@ number_of Absent = 12
 number_of Busy = 13
 number_of TooManyRows = 14
 number_of NoNumber = 15
+number_of (NotARow fault) = 16
+number_of TooManyValues = 17
 
 -- 0 where there is none
 abbrev pub or_0 : Option ℕ → ℕ
@@ -103,6 +109,8 @@ code_of NoName = 0
 code_of Used = 0
 code_of Busy = 0
 code_of NoNumber = 0
+code_of (NotARow fault) = form_code_of fault
+code_of TooManyValues = 0
 
 abbrev pub place_of : RoomFault → Option ℕ
 place_of (Input fault) = run_place_of fault
@@ -116,9 +124,11 @@ binding_variable (Twice number) = number
 binding_variable (SetByScript number) = number
 binding_variable (Unused number) = number
 
-abbrev pub variable_of : RoomFault → Option ℕ
-variable_of (Faulty (Binding fault)) = Some (binding_variable fault)
-variable_of other = None
+-- which of the bound variables, or of the given rows, has the fault
+abbrev pub item_of : RoomFault → Option ℕ
+item_of (Faulty (Binding fault)) = Some (binding_variable fault)
+item_of (NotARow fault) = Some (form_place_of fault)
+item_of other = None
 
 -- 3: memory ran out; else 1
 abbrev pub status : RoomFault → ℕ

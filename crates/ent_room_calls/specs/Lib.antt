@@ -1,6 +1,9 @@
 pub mod Fault
 pub mod Stay
 pub mod Values
+pub mod Rows
+pub mod Binding
 pub mod State
+pub mod Why
 pub mod Turning
 pub mod Text

@@ -1,4 +1,4 @@
--- How a ticket stands, in a line.
+-- How a ticket stands, in words.
 use Rattle.std.specs.Prelude.{ℕ, List, ◌++◌, codes}
 use Rattle.std.specs.Fmt.{decimal}
 use Rattle.ent_room.specs.declared.state.State.{State}

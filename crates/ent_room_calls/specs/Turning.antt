@@ -12,6 +12,7 @@ use Rattle.ent_value.specs.Name.{is_word}
 use Rattle.ent_room_calls.specs.declared.fault.RoomFault.{RoomFault}
 use Rattle.ent_room_calls.specs.declared.fault.RoomFault.TheVariants.{Memory, Input, Faulty, Full, Value, NoName}
 use Rattle.ent_room_calls.specs.declared.fault.RoomFault.TheVariants.{Used, Absent, Busy, TooManyRows, NoNumber}
+use Rattle.ent_room_calls.specs.declared.fault.RoomFault.TheVariants.{NotARow, TooManyValues}
 
 abbrev pub is_space : ℕ → Bool
 is_space byte = byte == 32
@@ -66,3 +67,5 @@ IsNotTurned text room Full = ⊥
 IsNotTurned text room (Value fault) = ⊥
 IsNotTurned text room NoName = ⊥
 IsNotTurned text room Used = ⊥
+IsNotTurned text room (NotARow fault) = ⊥
+IsNotTurned text room TooManyValues = ⊥

@@ -1,4 +1,4 @@
--- Values for host variables, by their bytes.
+-- Values for host variables and for rows, by their bytes.
 use Rattle.std.specs.Prelude.{◌≡◌, ◌⊎◌, ◌++◌, ◌∷◌, ℕ, ℤ, false, List, []}
 use Rattle.ent_value.specs.Name.{is_word}
 use Rattle.ent_value.specs.declared.value.Value.{Value as OneValue}
@@ -8,6 +8,7 @@ use Rattle.ent_bound.specs.declared.variable.BoundVariable.{BoundVariable}
 use Rattle.ent_room_calls.specs.declared.fault.RoomFault.{RoomFault}
 use Rattle.ent_room_calls.specs.declared.fault.RoomFault.TheVariants.{Memory, Input, Faulty, Full, Value, NoName}
 use Rattle.ent_room_calls.specs.declared.fault.RoomFault.TheVariants.{Used, Absent, Busy, TooManyRows, NoNumber}
+use Rattle.ent_room_calls.specs.declared.fault.RoomFault.TheVariants.{NotARow, TooManyValues}
 
 -- one more behind those that there are
 abbrev pub with_value : List ℕ → OneValue → List BoundVariable → List BoundVariable
@@ -34,3 +35,5 @@ IsNoText text Absent = ⊥
 IsNoText text Busy = ⊥
 IsNoText text TooManyRows = ⊥
 IsNoText text NoNumber = ⊥
+IsNoText text (NotARow fault) = ⊥
+IsNoText text TooManyValues = ⊥

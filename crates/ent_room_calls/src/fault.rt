@@ -1,12 +1,13 @@
 //! Why a call of a room does nothing.
 ghost use Rattle.std.specs.Prelude.{◌≡◌};
-ghost use Rattle.ent_room_calls.specs.Fault.{binding_number, binding_variable, code_of, number_of, place_of};
+ghost use Rattle.ent_room_calls.specs.Fault.{binding_number, binding_variable, code_of, item_of, number_of, place_of};
 ghost use Rattle.ent_room_calls.specs.Fault.{of_open, of_put, of_restore, of_step, of_withdraw};
-ghost use Rattle.ent_room_calls.specs.Fault.{prepare_number, status, value_number, variable_of};
+ghost use Rattle.ent_room_calls.specs.Fault.{prepare_number, status, value_number};
 ghost use Rattle.ent_room_calls.specs.declared.fault.RoomFault.TheVariants.{Memory as OutOfMemory};
 
 use ent_bound::{BindingFault, ValueFault};
 use ent_engine::{RunFault, status_of};
+use ent_form::FormFault;
 use ent_prepare::PrepareFault;
 use ent_room::{NotOpened, NotPut, NotPutBack, NotStepped};
 use ent_value::Refusal;
@@ -32,8 +33,8 @@ pub enum RoomFault {
     /// A value can't be bound.
     #[error("{0}")]
     Value(ValueFault),
-    /// These bytes are no name of a host variable.
-    #[error("this is no name of a host variable")]
+    /// These bytes are no name of a host variable, or of a table.
+    #[error("this is no name")]
     NoName,
     /// The ticket isn't of an earlier process, or one that is no less came in before.
     #[error("the ticket can't come in again")]
@@ -44,12 +45,20 @@ pub enum RoomFault {
     /// A batch is on.
     #[error("a batch is on")]
     Busy,
-    /// The tables that aren't drained have more rows together than an opening has.
+    /// The tables have more rows together than an opening has: those that aren't drained, or the rows of an input with
+    /// those that are given.
     #[error("E407: more than 65,536 rows stand in the tables together")]
     TooManyRows,
     /// The epoch has the greatest number that there is.
     #[error("the epoch has the greatest number that there is")]
     NoNumber,
+    /// A given row doesn't fit: it names no table, or has another number of values than its table has columns, or a
+    /// value of another kind. The place of the fault is the number of the row, from 0.
+    #[error("a given row doesn't fit: {0}")]
+    NotARow(FormFault),
+    /// A given row has as many values as a table has columns at most.
+    #[error("a row has no more values than this one has already")]
+    TooManyValues,
 }
 
 impl From<AllocError> for RoomFault {
@@ -76,6 +85,8 @@ impl From<Refusal<NotOpened>> for RoomFault {
             Refusal::Memory => RoomFault::Memory,
             Refusal::Fault(NotOpened::Full) => RoomFault::Full,
             Refusal::Fault(NotOpened::Faulty(fault)) => RoomFault::Input(fault),
+            Refusal::Fault(NotOpened::TooManyRows) => RoomFault::TooManyRows,
+            Refusal::Fault(NotOpened::NotARow(fault)) => RoomFault::NotARow(fault),
         }
     }
 }
@@ -164,7 +175,7 @@ fn prepare_number(fault: PrepareFault) -> u32
 }
 
 /// Which variable has a fault.
-fn variable_of(fault: BindingFault) -> usize
+pub(crate) fn variable_of(fault: BindingFault) -> usize
     ensures { result ≡ binding_variable fault }
 {
     match fault {
@@ -192,6 +203,8 @@ impl RoomFault {
             RoomFault::Busy => 13,
             RoomFault::TooManyRows => 14,
             RoomFault::NoNumber => 15,
+            RoomFault::NotARow(_) => 16,
+            RoomFault::TooManyValues => 17,
         }
     }
 
@@ -208,12 +221,14 @@ impl RoomFault {
             },
             RoomFault::Absent => 401,
             RoomFault::TooManyRows => 407,
+            RoomFault::NotARow(fault) => fault.code(),
             RoomFault::Full
             | RoomFault::Value(_)
             | RoomFault::NoName
             | RoomFault::Used
             | RoomFault::Busy
-            | RoomFault::NoNumber => 0,
+            | RoomFault::NoNumber
+            | RoomFault::TooManyValues => 0,
         }
     }
 
@@ -228,12 +243,13 @@ impl RoomFault {
         }
     }
 
-    /// Which variable can't be bound in a script, from 0, where that is the fault.
-    pub fn variable(self) -> Option<usize>
-        ensures { result ≡ variable_of self }
+    /// Which variable can't be bound in a script, or which given row doesn't fit, from 0, where that is the fault.
+    pub fn item(self) -> Option<usize>
+        ensures { result ≡ item_of self }
     {
         match self {
             RoomFault::Faulty(PrepareFault::Binding(fault)) => Some(variable_of(fault)),
+            RoomFault::NotARow(fault) => Some(fault.place()),
             _ => None,
         }
     }

@@ -1,5 +1,5 @@
-//! How a ticket stands, in a line.
-ghost use Rattle.std.specs.Prelude.{◌≡◌, ◌++◌, ◌∷◌, [], IfErr, IfOk, Some};
+//! How a ticket stands, in words.
+ghost use Rattle.std.specs.Prelude.{◌≡◌, IfErr, IfOk, Some};
 ghost use Rattle.ent_room_calls.specs.State.{ending_text, state_text};
 ghost use Rattle.ent_room_calls.specs.declared.fault.RoomFault.TheVariants.{Memory};
 
@@ -55,12 +55,12 @@ impl fmt::Display for StateWords {
     }
 }
 
-/// A line, with its end, that says how a ticket stands.
-pub fn state_text(alloc: Global, state: State) -> Result<Vec<u8>, RoomFault>
-    ensures line { IfOk result (λ line. line.items ≡ state_text state ++ 10 ∷ []) }
+/// How a ticket stands.
+pub(crate) fn state_text(alloc: Global, state: State) -> Result<Vec<u8>, RoomFault>
+    ensures text { IfOk result (λ text. text.items ≡ state_text state) }
     ensures refused { IfErr result (λ fault. fault ≡ Memory) }
 {
     let words = StateWords(state);
-    let line = format!(in alloc; "{words}\n")?;
-    Ok(line.into_bytes())
+    let text = format!(in alloc; "{words}")?;
+    Ok(text.into_bytes())
 }

@@ -4,6 +4,7 @@
 
 mod call;
 mod coming;
+mod rows;
 mod scenario;
 mod stage;
 mod told;

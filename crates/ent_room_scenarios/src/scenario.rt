@@ -1,8 +1,11 @@
-//! A scenario: an input, whose scripts are the first who wait, a line `== calls`, and a call a line. Behind a line that
-//! puts a script come its bound values, each a line, and its text, up to the line that ends it.
+//! A scenario: an input, whose scripts are the first who wait, a line `== calls`, and a call a line. Behind the first
+//! line, which opens the room, come rows that are given. Behind a line that puts a script come its bound values, each a
+//! line, and its text, up to the line that ends it.
 use crate::call::{Open, read_open};
+use crate::rows::take_row;
 use crate::stage::Stage;
 use anyhow::{Context, Result, bail};
+use ent_given::GivenRow;
 use ent_room::{NotOpened, Room};
 use ent_value::Refusal;
 use ent_waiting::Ticket;
@@ -16,21 +19,41 @@ pub(crate) fn replies(alloc: Global, text: &str) -> Result<String> {
     opened(alloc, input, open, calls)
 }
 
-/// Opens a room over an input, and makes its calls; or why it isn't opened.
+/// Opens a room over an input and the rows that stand first among the calls, and makes the others; or why it isn't
+/// opened.
 fn opened(alloc: Global, input: &str, open: Open, calls: &str) -> Result<String> {
-    let next = Ticket::new(open.next);
-    match Room::read(alloc, input.as_bytes(), open.epoch, next, open.limits) {
-        Ok(room) => played(alloc, room, calls),
+    let mut rows: Vec<GivenRow> = Vec::new(alloc);
+    let mut taken = 0usize;
+    for line in calls.lines() {
+        if !take_row(alloc, &mut rows, line)? {
+            break;
+        }
+        taken = taken.saturating_add(1);
+    }
+    let (text, given, next) = (input.as_bytes(), rows.as_slice(), Ticket::new(open.next));
+    match Room::read(alloc, text, given, open.epoch, next, open.limits) {
+        Ok(room) => played(alloc, room, calls, taken),
         Err(Refusal::Memory) => bail!("no memory"),
-        Err(Refusal::Fault(NotOpened::Full)) => Ok(format!(in alloc; "full\n")?),
-        Err(Refusal::Fault(NotOpened::Faulty(fault))) => Ok(format!(in alloc; "{fault}\n")?),
+        Err(Refusal::Fault(fault)) => not_opened(alloc, fault),
     }
 }
 
-fn played(alloc: Global, room: Room, calls: &str) -> Result<String> {
+fn not_opened(alloc: Global, fault: NotOpened) -> Result<String> {
+    Ok(match fault {
+        NotOpened::Full => format!(in alloc; "full\n")?,
+        NotOpened::Faulty(fault) => format!(in alloc; "{fault}\n")?,
+        NotOpened::TooManyRows => format!(in alloc; "E407\n")?,
+        NotOpened::NotARow(fault) => {
+            format!(in alloc; "row {}: E{}\n", fault.place(), fault.code())?
+        }
+    })
+}
+
+/// Makes the calls behind so many lines.
+fn played(alloc: Global, room: Room, calls: &str, taken: usize) -> Result<String> {
     let mut stage = Stage::new(alloc, room);
     stage.say("opened\n")?;
-    for line in calls.lines() {
+    for line in calls.lines().skip(taken) {
         stage.take(line)?;
     }
     Ok(stage.into_replies())

@@ -1,4 +1,4 @@
-use Rattle.std.proofs.Common.{◌≡◌, ◌∙◌, Some, ap, inl, inr, refl, sym}
+use Rattle.std.proofs.Common.{◌∙◌, Some, ap, inl, inr, refl, sym}
 use Rattle.ent_driver.specs.Renewal.{IsNotRenewed, Renews}
 use Rattle.ent_driver.specs.declared.fault.DriverFault.TheVariants.{Vacant}
 use Rattle.ent_c.proofs.Behind.{behind_both, behind_none, behind_some}

@@ -1,4 +1,4 @@
-use Rattle.std.proofs.Common.{[], ◌≡◌, ◌∙◌, Some, ap, of_z, refl, sym, to_z, w32}
+use Rattle.std.proofs.Common.{[], ◌∙◌, Some, ap, of_z, refl, sym, to_z, w32}
 use Rattle.ent_driver.specs.Why.{Explains, IsUnexplained}
 use Rattle.ent_driver.specs.declared.driver.Driver.{Driver}
 use Rattle.ent_driver.specs.declared.fault.DriverFault.TheVariants.{Vacant}

@@ -1,0 +1,2 @@
+pub mod Givable
+pub mod Given
