@@ -56,12 +56,12 @@ ValueError; and a wait that takes too long is a TimeoutError.
 
 from ._calls import Verdict, check, explain, report
 from ._errors import Error, Fault, LibraryError, OutOfMemory, Refused, StateError
+from ._given import Rows, Values
 from ._library import Text, __version__, library_version
 from ._manager import Manager, Reply, Step
-from ._opening import Rows
 from ._refusals import BatchIsOn, BindingFault, NoMoreEpochs, NobodyWaits, NotARow, NotBound, RoomError, RoomFull
-from ._refusals import TicketUsed, UnknownTicket
-from ._room import EpochReport, Patience, Room, Stepped, Values
+from ._refusals import RowFault, TicketUsed, UnknownTicket
+from ._room import EpochReport, Patience, Room, Stepped
 from ._standing import Committed, Failed, Failure, Fate, GaveUp, RolledBack, Running, Standing, Waiting
 from ._telling import Change, Commit
 from ._tickets import Ending, Submission, Ticket, TicketCommitted, TicketFailed, TicketGaveUp, TicketInBatch
@@ -102,6 +102,7 @@ __all__ = [
     "RoomError",
     "RoomFull",
     "Row",
+    "RowFault",
     "Rows",
     "RowsAnswer",
     "Running",

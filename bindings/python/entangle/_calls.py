@@ -2,10 +2,11 @@
 
 from __future__ import annotations
 
+from contextlib import suppress
 from dataclasses import dataclass
 from typing import Optional
 
-from ._errors import Refused
+from ._errors import OutOfMemory, Refused
 from ._library import DONE, FIRST_CAPACITY, LIBRARY, OUT_OF_MEMORY, REFUSED, Text
 from ._library import buffered, checked_version, encoded, fault_of
 
@@ -35,7 +36,7 @@ def report(text: Text, version: int = 1) -> str:
         return said
     fault = fault_of(status, told)
     if isinstance(fault, Refused):
-        fault._explain(explain(given) or "")
+        keep_explanation(fault, given)
     raise fault
 
 
@@ -49,6 +50,12 @@ def explain(text: Text) -> Optional[str]:
     if status == OUT_OF_MEMORY:
         raise fault_of(status, told)
     return said if status == REFUSED else None
+
+
+def keep_explanation(fault: Refused, given: bytes) -> None:
+    """Keeps what is said of the fault of an input, if there is memory for it."""
+    with suppress(OutOfMemory):
+        fault._explain(explain(given) or "")
 
 
 def check(text: Text) -> Verdict:

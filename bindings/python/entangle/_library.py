@@ -89,7 +89,7 @@ _TEXT = (ctypes.c_char_p, ctypes.c_size_t)
 _TOLD = ctypes.POINTER(Told)
 _OUT = (ctypes.c_char_p, ctypes.c_size_t, _TOLD)
 _MANAGER = ctypes.POINTER(ctypes.c_void_p)
-_ROOM = _VALUES = _MANAGER
+_ROOM = _VALUES = _ROWS = _MANAGER
 _NUMBER = ctypes.c_uint64
 _TO_NUMBER = ctypes.POINTER(_NUMBER)
 _REFUSAL = ctypes.POINTER(ctypes.c_uint32)
@@ -114,9 +114,12 @@ _STATUSES = {
     "closed_report": (_MANAGER, ctypes.c_uint32, *_OUT),
     "values_int": (_VALUES, *_TEXT, ctypes.c_int64, _REFUSAL),
     "values_text": (_VALUES, *_TEXT, *_TEXT, _REFUSAL),
-    "room_open": (_ROOM, *_TEXT, _NUMBER, _NUMBER, ctypes.POINTER(Limits), _REFUSAL, _TOLD),
+    "rows_begin": (_ROWS, *_TEXT, _REFUSAL),
+    "rows_int": (_ROWS, ctypes.c_int64, _REFUSAL),
+    "rows_text": (_ROWS, *_TEXT, _REFUSAL),
+    "room_open": (_ROOM, *_TEXT, _ROWS, _NUMBER, _NUMBER, ctypes.POINTER(Limits), _REFUSAL, _TOLD),
     "room_put": (_ROOM, *_TEXT, _VALUES, ctypes.c_int64, _TO_NUMBER, _REFUSAL, _TOLD),
-    "room_explain": (_ROOM, *_TEXT, *_OUT),
+    "room_explain": (_ROOM, *_TEXT, _VALUES, *_OUT),
     "room_restore": (_ROOM, _NUMBER, *_TEXT, _VALUES, ctypes.c_int64, _NUMBER, _REFUSAL, _TOLD),
     "room_withdraw": (_ROOM, _NUMBER, _REFUSAL),
     "room_step": (_ROOM, ctypes.POINTER(ctypes.c_uint32), _REFUSAL),
@@ -130,7 +133,7 @@ _STATUSES = {
     "room_turn": (_ROOM, *_TEXT, _REFUSAL, _TOLD),
     "room_report": (_ROOM, ctypes.c_uint32, ctypes.c_char_p, ctypes.c_size_t, _TO_NUMBER, _TOLD),
 }
-_FREES = ("free", "values_free", "room_free")
+_FREES = ("free", "values_free", "rows_free", "room_free")
 _SIZES = {
     "size_of_told": Told,
     "size_of_position": Position,

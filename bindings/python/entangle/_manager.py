@@ -8,7 +8,7 @@ from contextlib import suppress
 from types import TracebackType
 from typing import Any, Literal, NoReturn, Optional
 
-from ._calls import explain
+from ._calls import keep_explanation
 from ._errors import OutOfMemory, Refused
 from ._library import LIBRARY, OUT_OF_MEMORY, REFUSED, Position, Text, Told
 from ._library import buffered, checked_tx, checked_version, encoded, raise_for
@@ -85,7 +85,7 @@ class Manager:
         try:
             raise_for(status, told)
         except Refused as fault:
-            fault._explain(explain(given) or "")
+            keep_explanation(fault, given)
             raise
 
     def _place(self) -> Any:

@@ -6,25 +6,26 @@ import ctypes
 import enum
 import operator
 import threading
-from contextlib import contextmanager, suppress
+from contextlib import suppress
 from dataclasses import dataclass
 from types import TracebackType
-from typing import TYPE_CHECKING, Any, Iterator, Literal, Mapping, NoReturn, Optional, Union
+from typing import TYPE_CHECKING, Any, Literal, NoReturn, Optional, Union
 
-from ._calls import explain
+from ._calls import keep_explanation
 from ._errors import OutOfMemory, Refused, StateError
-from ._library import DONE, LIBRARY, MISUSED, OUT_OF_MEMORY, REFUSED, Limits, SubmissionSeen, Text
-from ._library import TicketPosition, Told, buffered, checked_version, encoded, fault_of
-from ._opening import Rows, checked_name, checked_value, inserts, number_fault
-from ._refusals import BindingFault, NotBound, UnknownTicket, binding_fault_of, refusal_of
+from ._given import Rows, Values, bound, given_rows
+from ._library import DONE, LIBRARY, MISUSED, REFUSED, Limits, SubmissionSeen, Text, TicketPosition, Told
+from ._library import buffered, checked_version, encoded, fault_of
+from ._refusals import BINDING_FAULTS, FAULTY, NOT_A_ROW, NotBound, UnknownTicket, refusal_of
 from ._tickets import Ending, Submission, Ticket, TicketState, TicketUnknown, checked_ticket, ending_of, state_of
-from ._values import Row, Value, table_in
+from ._values import Row, table_in
 from ._waits import Broken, News, Tell, Waits, ending
 
 if TYPE_CHECKING:
     import asyncio
 
 _MOST_BATCHES = 1_000
+_NO_SUCH = 401
 _CLOSED = Broken(StateError, "the room is closed")
 _NOT_KEPT = Broken(UnknownTicket, "the ticket was never given out, or how it ended isn't kept any more")
 
@@ -42,9 +43,6 @@ class Patience(enum.Enum):
     """For as many batches as its WITHIN says: 8 if it has none."""
     UNTIL_WITHDRAWN = 0
     """Until it is withdrawn."""
-
-
-Values = Mapping[str, Value]
 
 
 @dataclass(frozen=True)
@@ -83,37 +81,14 @@ def _raise_for(status: int, told: Told, refusal: int = 0) -> None:
         raise fault_of(status, told)
 
 
-def _bind(place: Any, name: str, value: Value) -> None:
-    """Binds a value to a host variable."""
-    if not isinstance(name, str):
-        raise TypeError(f"the name of a host variable is a str, not {type(name).__name__}")
-    given, refusal = encoded(name, "a name"), ctypes.c_uint32()
-    value = checked_value(value)
-    if isinstance(value, str):
-        text = encoded(value, "a value")
-        status = LIBRARY.ent_c_values_text(place, given, len(given), text, len(text), ctypes.byref(refusal))
-    elif number_fault(value) is BindingFault.TOO_LARGE:
-        raise NotBound(name, BindingFault.TOO_LARGE)
-    else:
-        status = LIBRARY.ent_c_values_int(place, given, len(given), value, ctypes.byref(refusal))
-    if status == OUT_OF_MEMORY:
-        raise OutOfMemory()
-    if status != DONE:
-        fault = binding_fault_of(refusal.value)
-        assert fault is not None, "a value is refused for one of these faults"
-        raise NotBound(name, fault)
-
-
-@contextmanager
-def _bound(values: Values) -> Iterator[Any]:
-    """Where the library finds values that are bound to host variables, for one call."""
-    place = ctypes.byref(ctypes.c_void_p())
-    try:
-        for name, value in values.items():
-            _bind(place, name, value)
-        yield place
-    finally:
-        LIBRARY.ent_c_values_free(place)
+def _checked_drained(names: tuple[str, ...]) -> bytes:
+    """Names of tables behind one another, with spaces between; one with a space, or of no length, is no table's."""
+    for name in names:
+        if not isinstance(name, str):
+            raise TypeError(f"a table's name is a str, not {type(name).__name__}")
+        if not name or " " in name:
+            raise Refused(_NO_SUCH)
+    return encoded(" ".join(names), "names")
 
 
 class Room:
@@ -136,16 +111,16 @@ class Room:
         most_ended: int = 1_024,
     ) -> None:
         """Opens it over an input: its tables with their rows. Scripts that it has are put in order, to wait for as long
-        as they say. `rows` has further rows of tables, as table() gives them.
+        as they say. `rows` has further rows of its tables, by their names, as table() gives them.
 
         The first epoch has the number `epoch`, and the first script that is put has the ticket `next_ticket`: those
         below it are of an earlier process. So many scripts may wait at once, and of the last `most_ended` that ended it
         is kept how. A step ends 128 at most: with fewer than these, a wait may be told that how its ticket ended isn't
         kept.
 
-        Raises Refused for the first fault of the input, below which each of `rows` is an INSERT statement in a line of
-        its own; NotARow for a value that no script can spell; RoomFull if the input has more scripts than may wait; and
-        OutOfMemory.
+        Raises NotARow for the first of `rows` that can't be one of any table; else Refused for the first fault of the
+        input, with its explanation, or for more than 65,536 rows together (E407); else NotARow for the first of `rows`
+        that doesn't fit its table; else RoomFull if the input has more scripts than may wait. Raises OutOfMemory.
         """
         self._lock = threading.RLock()
         self._waits = Waits()
@@ -153,22 +128,27 @@ class Room:
         self._most_ended = _checked_number(most_ended, "most_ended")
         self._last_ended: Optional[int] = None
         limits = Limits(_checked_number(most_waiters, "most_waiters"), self._most_ended)
-        given = encoded(opening, "an opening") + inserts(rows or {}).encode()
-        told, refusal = Told(), ctypes.c_uint32()
-        status = LIBRARY.ent_c_room_open(
-            ctypes.byref(self._handle),
-            given,
-            len(given),
-            _checked_number(epoch, "epoch"),
-            checked_ticket(next_ticket),
-            ctypes.byref(limits),
-            ctypes.byref(refusal),
-            ctypes.byref(told),
-        )
+        given, first_epoch = encoded(opening, "an opening"), _checked_number(epoch, "epoch")
+        first_ticket, told, refusal = checked_ticket(next_ticket), Told(), ctypes.c_uint32()
+        with given_rows({} if rows is None else rows) as more:
+            status = LIBRARY.ent_c_room_open(
+                ctypes.byref(self._handle),
+                given,
+                len(given),
+                more.place,
+                first_epoch,
+                first_ticket,
+                ctypes.byref(limits),
+                ctypes.byref(refusal),
+                ctypes.byref(told),
+            )
+        if refusal.value == NOT_A_ROW:
+            raise more.refused(told)
         try:
             _raise_for(status, told, refusal.value)
         except Refused as fault:
-            fault._explain(explain(given) or "")
+            if refusal.value == FAULTY:
+                keep_explanation(fault, given)
             raise
 
     def _place(self) -> Any:
@@ -197,18 +177,18 @@ class Room:
         given, stay = encoded(script, "a script"), _stay(patience)
         values = {} if values is None else values
         ticket, refusal, told = ctypes.c_uint64(), ctypes.c_uint32(), Told()
-        with _bound(values) as bound, self._lock:
+        with bound(values) as place, self._lock:
             status = LIBRARY.ent_c_room_put(
                 self._place(),
                 given,
                 len(given),
-                bound,
+                place,
                 stay,
                 ctypes.byref(ticket),
                 ctypes.byref(refusal),
                 ctypes.byref(told),
             )
-            self._raise_for_script(status, refusal.value, told, given, values)
+            self._raise_for_script(status, refusal.value, told, given, values, place)
         return Ticket(ticket.value)
 
     def restore(
@@ -228,52 +208,52 @@ class Room:
         values = {} if values is None else values
         number, after = checked_ticket(ticket), _checked_number(batches, "batches")
         refusal, told = ctypes.c_uint32(), Told()
-        with _bound(values) as bound, self._lock:
+        with bound(values) as place, self._lock:
             status = LIBRARY.ent_c_room_restore(
                 self._place(),
                 number,
                 given,
                 len(given),
-                bound,
+                place,
                 stay,
                 after,
                 ctypes.byref(refusal),
                 ctypes.byref(told),
             )
-            self._raise_for_script(status, refusal.value, told, given, values)
+            self._raise_for_script(status, refusal.value, told, given, values, place)
 
-    def _raise_for_script(self, status: int, refusal: int, told: Told, script: bytes, values: Values) -> None:
-        """Raises what the status of a call says that takes a script."""
+    def _raise_for_script(
+        self, status: int, refusal: int, told: Told, script: bytes, values: Values, place: Any
+    ) -> None:
+        """Raises what the status of a call says that takes a script with values, which the library has in a place."""
         if status == MISUSED:
             raise ValueError("a script doesn't wait for so many batches")
-        fault = binding_fault_of(refusal)
-        if status == REFUSED and fault is not None:
-            raise NotBound(list(values)[told.offset], fault)
+        if refusal in BINDING_FAULTS:
+            raise NotBound(list(values)[told.offset], BINDING_FAULTS[refusal])
         try:
             _raise_for(status, told, refusal)
-        except Refused as refused:
-            self._explain(refused, script)
+        except Refused as fault:
+            with suppress(OutOfMemory):
+                fault._explain(self._said(script, place) or "")
             raise
 
-    def explain(self, script: Text) -> Optional[str]:
-        """What is said of the fault of a script, as explain() says it of an input, in the lines of this text.
+    def explain(self, script: Text, values: Optional[Values] = None) -> Optional[str]:
+        """What is said of the fault of a script with these values, as explain() says it of an input, in the lines of
+        this text. None if put() would refuse neither the script nor its values. Nothing is put.
 
-        None if the script has no fault; a host variable that nobody binds is one. Nothing is put. Raises OutOfMemory.
+        Raises NotBound for a value that no host variable can have, or a name that none can have; and OutOfMemory.
         """
         given = encoded(script, "a script")
-        with self._lock:
-            status, said, told = buffered(LIBRARY.ent_c_room_explain, self._place(), given, len(given))
+        with bound({} if values is None else values) as place, self._lock:
+            return self._said(given, place)
+
+    def _said(self, script: bytes, place: Any) -> Optional[str]:
+        """What is said of the fault of a script with the values that the library has in a place."""
+        status, said, told = buffered(LIBRARY.ent_c_room_explain, self._place(), script, len(script), place)
         if status == REFUSED:
             return said
         _raise_for(status, told)
         return None
-
-    def _explain(self, fault: Refused, script: bytes) -> None:
-        """Keeps what is said of a fault, if it is the script's own, and there is memory for it."""
-        with suppress(OutOfMemory):
-            said = self.explain(script) or ""
-            if said.startswith(f"{fault}\n"):
-                fault._explain(said)
 
     def withdraw(self, ticket: Ticket) -> None:
         """A script waits no more, and will never commit.
@@ -365,9 +345,7 @@ class Room:
         Raises Refused if no table has a name (E401), or the other tables have more than 65,536 rows together (E407);
         BatchIsOn if a batch isn't over, since memory ran out; NoMoreEpochs; and OutOfMemory. Then nothing has changed.
         """
-        # names go behind one another with spaces between: one with a space would be two
-        names = " ".join(checked_name(name) for name in drained).encode()
-        refusal, told = ctypes.c_uint32(), Told()
+        names, refusal, told = _checked_drained(drained), ctypes.c_uint32(), Told()
         with self._lock:
             epoch = self.epoch()
             status = LIBRARY.ent_c_room_turn(

@@ -78,7 +78,13 @@ def said_of_error(error: entangle.Error) -> str:
         return f"E{error.code + 0}" if error.offset is None else f"E{error.code + 0} at {error.offset + 0}"
     if isinstance(error, entangle.NotBound):
         return f"{error.variable}: {error.fault.name}"
+    if isinstance(error, entangle.NotARow):
+        return f"{error.table} {error.row + 0} {said_of_row_fault(error.fault)}"
     return str(error)
+
+
+def said_of_row_fault(fault: entangle.RowFault) -> str:
+    return "in no table" if fault is entangle.RowFault.NO_SUCH_TABLE else fault.name
 
 
 def tell_of_room() -> None:
@@ -101,6 +107,14 @@ def tell_of_room() -> None:
             room.put(script, {"b": "x"})
         except entangle.Error as error:
             assert said_of_error(error) == "b: UNUSED"
+        said = room.explain(script, {"a": "x"})
+        assert said is not None and said.startswith("E304 at ")
+    try:
+        entangle.Room("CREATE TABLE T (a INT);", {"T": ([number] for number in (1, 2**63))})
+    except entangle.NotARow as error:
+        column, code = error.column, error.code
+        assert column is not None and column + 0 == 0 and code is None
+        assert said_of_error(error) == "T 1 TOO_LARGE"
 
 
 def main() -> None:

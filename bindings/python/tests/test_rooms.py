@@ -144,11 +144,36 @@ class Rooms(unittest.TestCase):
         self.assertTrue(said.startswith("E302 at 56\nline 3, column 31: Flights has no column dst\n"), said)
         self.assertEqual(fault.explanation, said)
         self.assertIsNone(room.explain("BEGIN TRANSACTION; COMMIT;"))
+        self.assertEqual(self.refused(302, room.restore, entangle.Ticket(0), script).explanation, said)
         self.refused(201, room.put, "COMMIT;")
         self.refused(201, room.put, 2 * "BEGIN TRANSACTION; COMMIT;")
         self.refused(100, room.put, b"BEGIN \xff")
         opening = self.refused(201, entangle.Room, "CREATE TABLE T (a INTEGER);")
         self.assertTrue(opening.explanation.startswith("E201 at 18\nline 1, column 19: "))
+        self.assertEqual(room.waiting(), [])
+
+    def test_a_script_is_explained_with_its_values(self):
+        room, values = self.room(epoch=1, next_ticket=entangle.Ticket(10)), trip("Mickey", "Minnie")
+        self.assertIsNone(room.explain(TRIP, values))
+        misspelt = TRIP.replace("dest =", "dst =")
+        for script, given, code, place, said in [
+            (misspelt, values, 302, misspelt.index("dst"), "Flights has no column dst"),
+            (TRIP, {"me": "Mickey", "friend": "Minnie"}, 306, TRIP.index("@dest"), "@dest"),
+            (TRIP, {**values, "dest": 5}, 304, TRIP.index("@dest"), "TEXT"),
+        ]:
+            for call in (room.put, lambda *given: room.restore(entangle.Ticket(3), *given)):
+                with self.subTest(code=code):
+                    fault = self.refused(code, call, script, given)
+                    self.assertEqual((fault.offset, fault.explanation), (place, room.explain(script, given)))
+                    self.assertTrue(fault.explanation.startswith(f"{fault}\nline 3, column "), fault.explanation)
+                    self.assertIn(said, fault.explanation.split("\n")[1])
+        self.assertTrue(room.explain(TRIP).startswith(f"E306 at {TRIP.index('@dest')}\n"))
+        self.assertTrue(room.explain(TRIP, {"dest": "LA"}).startswith(f"E306 at {TRIP.index('@me')}\n"))
+        for name, why in [("nobody", "isn't used by the script"), ("fno", "is set by the script itself")]:
+            said = room.explain(TRIP, {**values, name: 1})
+            self.assertEqual(said, f"@{name} {why}, so no value is bound to it\n")
+        for name, value in [("me", "a\nb"), ("me", -(2**63)), ("@me", 1)]:
+            self.assertRaises(entangle.NotBound, room.explain, TRIP, {name: value})
         self.assertEqual(room.waiting(), [])
 
     def test_patience_ends(self):
@@ -284,23 +309,56 @@ class Rooms(unittest.TestCase):
             self.assertEqual((room.table("T"), room.table("U")), ([], [(1,)]))
 
     def test_rows_are_given_as_values(self):
-        rows = [("it's", 1), ("東", -(2**63) + 1), ("", 0), ("'); DELETE FROM U; --", 2), ("\x85\u2028", 2**63 - 1)]
+        rows = [("it's", 1), ("東", -(2**63)), ("", 0), ("'); DELETE FROM U; --", 2), ("\x85\u2028", 2**63 - 1)]
         rows += [(85 * "東", 3), (255 * "'", 4)]
-        tables = "CREATE TABLE T (a TEXT, b INT); CREATE TABLE U (a INT); -- and no more"
-        with entangle.Room(tables, {"T": rows, "U": iter([[5]])}) as room:
-            self.assertEqual((room.table("T"), room.table("U")), (sorted(rows), [(5,)]))
-            with entangle.Room(tables.encode(), {"T": room.table("T")}) as again:
-                self.assertEqual(again.table("T"), room.table("T"))
-        self.refused(304, entangle.Room, tables, {"T": [(1, 1)]})
-        self.refused(303, entangle.Room, tables, {"T": [("a",)]})
-        self.refused(301, entangle.Room, tables, {"V": [("a",)]})
-        for name in ("T U", "", "T VALUES ('x', 1); --", "T\n", "Tä", 64 * "T"):
-            self.refused(401, entangle.Room, tables, {name: [("a", 1)]})
+        tables = "CREATE TABLE T (a TEXT, b INT); CREATE TABLE U (a INT); INSERT INTO U VALUES (6); -- and no more"
+        with entangle.Room(tables, {"T": rows, "U": iter([[5], (6,)])}) as room:
+            self.assertEqual((room.table("T"), room.table("U")), (sorted(rows), [(5,), (6,)]))
+            with entangle.Room(tables.encode(), {"T": room.table("T"), "U": []}) as again:
+                self.assertEqual((again.table("T"), again.table("U")), (room.table("T"), [(6,)]))
 
-    def test_rows_that_no_script_can_spell_are_refused(self):
-        fault = entangle.BindingFault
+    def test_rows_may_have_more_bytes_than_an_input(self):
+        rows = [(f"{number:0255}",) for number in range(65_536)]
+        tables = "CREATE TABLE T (a TEXT); CREATE TABLE U (a INT);"
+        with entangle.Room(tables, {"T": rows}) as room:
+            self.assertEqual(room.table("T"), rows)
+        for inserted, more in [("", {"U": [(1,)]}), ("INSERT INTO U VALUES (1);", {})]:
+            with mock.patch.object(entangle._calls.LIBRARY, "ent_c_explain") as explained:
+                fault = self.refused(407, entangle.Room, tables + inserted, {"T": rows, **more})
+            self.assertEqual((fault.offset, fault.explanation, explained.called), (None, "", False))
+
+    def test_rows_that_do_not_fit_their_tables_are_refused(self):
+        fault, strange = entangle.RowFault, ("T U", "", "T VALUES ('x', 1); --", "T\n", "Tä", "\ud800", 64 * "T")
+        for rows, table, row, why, code in [
+            ({"T": [("a", 1), (1, 1)]}, "T", 1, fault.OTHER_KIND, 304),
+            ({"U": [(5,), (6,)], "T": [("a", 1), ("b", "2")]}, "T", 1, fault.OTHER_KIND, 304),
+            ({"T": [("a", 1)], "U": iter([(1,), (2, 3), ("x",)])}, "U", 1, fault.OTHER_LENGTH, 303),
+            ({"U": [(1,), (), (2, 3)]}, "U", 1, fault.OTHER_LENGTH, 303),
+            ({"U": [(1,), range(17)]}, "U", 1, fault.OTHER_LENGTH, 303),
+            ({"T": [("a", 1)], "V": [("a",)], "U": [()]}, "V", 0, fault.NO_SUCH_TABLE, 301),
+            *[({"T": [("a", 1)], name: [("a", 1)]}, name, 0, fault.NO_SUCH_TABLE, 301) for name in strange],
+        ]:
+            with self.subTest(rows=rows), self.assertRaises(entangle.NotARow) as caught:
+                entangle.Room("CREATE TABLE T (a TEXT, b INT); CREATE TABLE U (a INT);", rows)
+            found = caught.exception
+            self.assertEqual((found.table, found.row, found.column, found.fault), (table, row, None, why))
+            self.assertEqual((found.code, str(found)), (code, f"row {row} of {table}: {why.value}"))
+
+    def test_an_opening_is_refused_for_its_first_fault(self):
+        tables = "CREATE TABLE T (a INT);"
+        fault = self.refused(201, entangle.Room, "CREATE TABLE T (a INTEGER);", {"T": [("x",)]})
+        self.assertTrue(fault.explanation.startswith("E201 at 18\nline 1, column 19: "))
+        self.refused(407, entangle.Room, tables, {"T": [("x",), *((row,) for row in range(65_536))]})
+        two = f"{tables} {2 * 'BEGIN TRANSACTION; COMMIT;'}"
+        with self.assertRaises(entangle.NotARow):
+            entangle.Room(two, {"T": [("x",)]}, most_waiters=1)
+        with self.assertRaises(entangle.RoomFull):
+            entangle.Room(two, {"T": [(1,)]}, most_waiters=1)
+
+    def test_rows_with_values_that_no_table_can_have_are_refused(self):
+        fault = entangle.RowFault
         for value, why in [
-            (-(2**63), fault.LEAST_NUMBER),
+            (-(2**63) - 1, fault.TOO_LARGE),
             (2**63, fault.TOO_LARGE),
             (86 * "東", fault.TOO_LONG),
             (256 * "a", fault.TOO_LONG),
@@ -313,12 +371,27 @@ class Rooms(unittest.TestCase):
                 entangle.Room("CREATE TABLE T (a INT, b TEXT);", {"T": [(1, "a"), (2, value)]})
             found = caught.exception
             self.assertEqual((found.table, found.row, found.column, found.fault), ("T", 1, 1, why))
-            self.assertEqual(str(found), f"value 1 of row 1 of T: {why.value}")
+            self.assertEqual((found.code, str(found)), (None, f"value 1 of row 1 of T: {why.value}"))
         for wrong in (True, 1.5, None, b"a"):
             self.assertRaisesRegex(TypeError, "a value is an int or a str", entangle.Room, TABLES, {"T": [(wrong,)]})
-        for wrong in ("ab", b"ab"):
+        for wrong in ("ab", b"ab", bytearray(b"ab"), memoryview(b"ab"), {1, 2}, {1: 2}, iter([1]), 5, None):
             self.assertRaisesRegex(TypeError, "a row is a sequence of values", entangle.Room, TABLES, {"T": [wrong]})
-        self.assertRaisesRegex(TypeError, "a table's name is a str", entangle.Room, TABLES, {1: [(1,)]})
+        for wrong in (1, b"T", None):
+            self.assertRaisesRegex(TypeError, "a table's name is a str", entangle.Room, TABLES, {wrong: [(1,)]})
+        for wrong in ([("T", [(1,)])], "T", 0, False):
+            self.assertRaisesRegex(TypeError, "rows are a mapping", entangle.Room, TABLES, wrong)
+        self.assertRaises(TypeError, entangle.Room, TABLES, {"T": 5})
+
+    def test_rows_and_values_for_which_there_is_no_memory_are_freed(self):
+        room, library = self.room(), entangle._given.LIBRARY
+        calls = [(f"rows_{name}", entangle.Room, {"Flights": [(1, "Rome")]}) for name in ("begin", "int", "text")]
+        calls += [(f"values_{name}", room.put, {"me": 1, "friend": "a"}) for name in ("int", "text")]
+        for name, call, given in calls:
+            full = mock.patch.object(library, f"ent_c_{name}", return_value=entangle._library.OUT_OF_MEMORY)
+            free = getattr(library, f"ent_c_{name.partition('_')[0]}_free")
+            with self.subTest(name), full, mock.patch.object(library, free.__name__, wraps=free) as freed:
+                self.assertRaises(entangle.OutOfMemory, call, TABLES, given)
+                self.assertEqual(freed.call_count, 1)
 
     def test_scripts_of_an_opening_are_put_in_order(self):
         opening = "CREATE TABLE T (a INT); BEGIN TRANSACTION; COMMIT; BEGIN TRANSACTION; ROLLBACK;"
@@ -351,6 +424,9 @@ class Rooms(unittest.TestCase):
         for wrong in (True, 1.5, None, b"a", [1]):
             self.assertRaisesRegex(TypeError, "a value is an int or a str", room.put, TRIP, {"me": wrong})
         self.assertRaises(TypeError, room.put, TRIP, {1: "a"})
+        for wrong in ([("me", "a")], "me", 0, False):
+            for call in (room.put, room.explain):
+                self.assertRaisesRegex(TypeError, "the values of host variables are a mapping", call, TRIP, wrong)
         for wrong in (True, 1.5, "1"):
             self.assertRaises(TypeError, room.put, TRIP, None, wrong)
             self.assertRaises(TypeError, entangle.Ticket, wrong)
@@ -368,7 +444,8 @@ class Rooms(unittest.TestCase):
         for thing in (entangle.Ticket(7), entangle.TicketCommitted(1, 2), entangle.Submission(1, 2)):
             self.assertEqual((copy.deepcopy(thing), pickle.loads(pickle.dumps(thing))), (thing, thing))
         errors = [entangle.NotBound("me", entangle.BindingFault.TWICE), entangle.RoomFull("full")]
-        for error in [*errors, entangle.NotARow("T", 1, 2, entangle.BindingFault.TOO_LONG)]:
+        errors += [entangle.NotARow("T", 1, entangle.RowFault.TOO_LONG, 2)]
+        for error in [*errors, entangle.NotARow("T", 1, entangle.RowFault.OTHER_KIND)]:
             again = pickle.loads(pickle.dumps(error))
             self.assertEqual((type(again), str(again), vars(again)), (type(error), str(error), vars(error)))
 

@@ -5,15 +5,13 @@
 //! cargo run --offline --example friends
 //! ```
 
-use entangle::{Patience, Room, RoomError, Stepped, Verdict, Version, check};
+use entangle::{Patience, Room, RoomError, RoomOptions, Stepped, Verdict, Version, check};
 use std::error::Error;
 use std::sync::mpsc::channel;
 use std::thread;
 
 const TABLES: &str = "CREATE TABLE Flights (fno INT, dest TEXT);
 CREATE TABLE Bookings (who TEXT, fno INT);
-INSERT INTO Flights VALUES (122, 'LA');
-INSERT INTO Flights VALUES (123, 'LA');
 ";
 
 /// Somebody flies where a friend does.
@@ -25,7 +23,8 @@ COMMIT;
 ";
 
 fn main() -> Result<(), Box<dyn Error>> {
-    let room = Room::open(TABLES)?;
+    let flights = [122, 123].map(|fno| vec![fno.into(), "LA".into()]);
+    let room = Room::open_rows(TABLES, &[("Flights", &flights)], RoomOptions::default())?;
     let (is_put, put) = channel();
     thread::scope(|scope| {
         let friends = [("Mickey", "Minnie"), ("Minnie", "Mickey")].map(|(me, friend)| {
@@ -59,10 +58,10 @@ fn main() -> Result<(), Box<dyn Error>> {
     let report = room.report(Version::Two)?.expect("an epoch ended");
     assert_eq!(check(&report.text)?, Verdict::Yes);
 
-    let wrong = TRIP.replace("dest = 'LA'", "dest = LA").replace("@me", "'Eve'").replace("@friend", "'Finn'");
-    match room.put(&wrong, &[], Patience::AsWritten) {
+    let (wrong, values) = (TRIP.replace("dest = 'LA'", "dest = LA"), [("me", "Eve".into()), ("friend", "Finn".into())]);
+    match room.put(&wrong, &values, Patience::AsWritten) {
         Ok(ticket) => println!("ticket {ticket}"),
-        Err(error) => print!("{}", room.explain(&wrong)?.unwrap_or(format!("{error}\n"))),
+        Err(error) => print!("{}", room.explain(&wrong, &values)?.unwrap_or(format!("{error}\n"))),
     }
     Ok(())
 }

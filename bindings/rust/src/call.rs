@@ -1,10 +1,12 @@
-//! The calls of the archive, made safely. All `unsafe` of this crate stands here.
+//! The calls of the archive, made safely: those of managers and those without one; `room` has those of rooms.
+
+pub(crate) mod room;
 
 use crate::fault::{Error, Fault, FaultKind, Place};
 use crate::library::fits;
-use crate::refusal::{BindingFault, RoomError, ValueFault};
 use std::collections::TryReserveError;
 use std::ptr::null_mut;
+use std::str::from_utf8;
 
 /// What a call tells beside its text: `struct entangle_told` of `include/entangle.h`.
 #[repr(C)]
@@ -56,7 +58,7 @@ pub(crate) struct SubmissionSeen {
     pub(crate) tx: u64,
 }
 
-/// What stands behind the pointer of a manager, a room or bound values: nothing looks there.
+/// What stands behind the pointer of a manager, a room, bound values or rows: nothing looks there.
 #[repr(C)]
 struct Opaque {
     _private: [u8; 0],
@@ -164,10 +166,16 @@ unsafe extern "C" {
 
     fn ent_c_values_free(values: *mut *mut Opaque);
 
+    fn ent_c_rows_begin(rows: *mut *mut Opaque, table: *const u8, length: usize, refusal: *mut u32) -> i32;
+    fn ent_c_rows_int(rows: *mut *mut Opaque, number: i64, refusal: *mut u32) -> i32;
+    fn ent_c_rows_text(rows: *mut *mut Opaque, text: *const u8, length: usize, refusal: *mut u32) -> i32;
+    fn ent_c_rows_free(rows: *mut *mut Opaque);
+
     fn ent_c_room_open(
         room: *mut *mut Opaque,
         input: *const u8,
         length: usize,
+        rows: *mut *mut Opaque,
         epoch: u64,
         next: u64,
         limits: *const Limits,
@@ -190,6 +198,7 @@ unsafe extern "C" {
         room: *mut *mut Opaque,
         script: *const u8,
         length: usize,
+        values: *mut *mut Opaque,
         buffer: *mut u8,
         capacity: usize,
         told: *mut Told,
@@ -249,12 +258,20 @@ unsafe extern "C" {
 
 /// What the library answers when it is asked what it is.
 pub(crate) struct About {
-    pub(crate) version: String,
+    text: [u8; 256],
+    length: usize,
     /// Whether its structs are of the sizes that they have here.
     pub(crate) has_these_sizes: bool,
 }
 
-/// Asks the library what it is.
+impl About {
+    /// Its version; nothing, if it has none.
+    pub(crate) fn version(&self) -> &str {
+        from_utf8(&self.text[..self.length]).unwrap_or_default()
+    }
+}
+
+/// Asks the library what it is, for which no memory is asked.
 pub(crate) fn about() -> About {
     let (mut text, mut told) = ([0; 256], Told::default());
     // SAFETY: these calls take nothing.
@@ -280,8 +297,7 @@ pub(crate) fn about() -> About {
         // size that the library writes. A call keeps no pointer.
         unsafe { ent_c_version(text.as_mut_ptr(), text.len(), &mut told) };
     }
-    let version = String::from_utf8_lossy(&text[..told.needed.min(text.len())]).into_owned();
-    About { version, has_these_sizes }
+    About { text, length: told.needed.min(text.len()), has_these_sizes }
 }
 
 /// A buffer of so many bytes, if there is memory for it.
@@ -500,259 +516,5 @@ fn buffered(
         text.truncate(told.needed);
         let text = String::from_utf8(text).expect("each text of the archive is UTF-8");
         return Ok((status, text, told));
-    }
-}
-
-/// Values that are bound to host variables, for one call.
-pub(crate) struct BoundValues {
-    at: *mut Opaque,
-}
-
-impl BoundValues {
-    pub(crate) fn new() -> Self {
-        BoundValues { at: null_mut() }
-    }
-
-    pub(crate) fn add_int(&mut self, name: &str, number: i64) -> Result<(), NotDone> {
-        let mut refusal = 0;
-        // SAFETY: as said of the calls of a manager; `at` is null, or was written by a call of this kind.
-        let status = unsafe { ent_c_values_int(&mut self.at, name.as_ptr(), name.len(), number, &mut refusal) };
-        room_said(status, refusal, Told::default())
-    }
-
-    pub(crate) fn add_text(&mut self, name: &str, text: &str) -> Result<(), NotDone> {
-        let mut refusal = 0;
-        let (from, length) = (text.as_ptr(), text.len());
-        // SAFETY: as above.
-        let status = unsafe { ent_c_values_text(&mut self.at, name.as_ptr(), name.len(), from, length, &mut refusal) };
-        room_said(status, refusal, Told::default())
-    }
-}
-
-impl Drop for BoundValues {
-    fn drop(&mut self) {
-        // SAFETY: as above; it is dropped once, and the call leaves the pointer null.
-        unsafe { ent_c_values_free(&mut self.at) }
-    }
-}
-
-/// Why a call of a room does nothing, or why a value isn't bound.
-pub(crate) enum NotDone {
-    /// The variable of this place, in the order in which they were added, isn't bound.
-    NotBound(usize, BindingFault),
-    Error(RoomError),
-}
-
-impl From<TryReserveError> for NotDone {
-    fn from(error: TryReserveError) -> Self {
-        NotDone::Error(error.into())
-    }
-}
-
-/// For calls that bind nothing.
-impl From<NotDone> for RoomError {
-    fn from(not_done: NotDone) -> Self {
-        match not_done {
-            NotDone::Error(error) => error,
-            NotDone::NotBound(..) => unreachable!("this call binds no variable"),
-        }
-    }
-}
-
-/// What a status of a room's call says, whose room is open.
-fn room_said(status: i32, refusal: u32, told: Told) -> Result<(), NotDone> {
-    Err(NotDone::Error(match status {
-        DONE => return Ok(()),
-        // a room that is there is open, and no pointer is null: so it is how long the script waits
-        MISUSED => RoomError::NoPatience,
-        OUT_OF_MEMORY => RoomError::OutOfMemory,
-        REFUSED => match refused(refusal, told) {
-            Ok(error) => error,
-            Err(fault) => return Err(NotDone::NotBound(told.offset, fault)),
-        },
-        other => unreachable!("no call with these arguments answers {other}"),
-    }))
-}
-
-/// The refusal of a number of `enum entangle_room_refusal`.
-fn refused(number: u32, told: Told) -> Result<RoomError, BindingFault> {
-    Ok(match number {
-        1 => RoomError::Faulty(fault_of(FaultKind::Refused, told)),
-        2 => RoomError::Full,
-        3 => return Err(BindingFault::Value(ValueFault::LeastNumber)),
-        4 => return Err(BindingFault::Value(ValueFault::TooLong)),
-        6 => return Err(BindingFault::Value(ValueFault::ControlCharacter { offset: 0 })),
-        7 => return Err(BindingFault::Twice),
-        8 => return Err(BindingFault::SetByScript),
-        9 => return Err(BindingFault::Unused),
-        10 => return Err(BindingFault::NoName),
-        11 => RoomError::Used,
-        12 if told.code == 0 => RoomError::NobodyWaits,
-        12 => RoomError::NoSuchTable,
-        13 => RoomError::Busy,
-        14 => RoomError::TooManyRows,
-        15 => RoomError::NoNumber,
-        other => unreachable!("a text of this crate is UTF-8, and no call is refused by {other}"),
-    })
-}
-
-/// The one owner of what stands behind a room's pointer.
-pub(crate) struct RoomHandle {
-    at: *mut Opaque,
-}
-
-// SAFETY: as said of a manager's handle.
-unsafe impl Send for RoomHandle {}
-
-// What is said of the calls of a manager holds for those of a room; values that are bound are another pointer of this
-// kind, which its own `&mut` keeps from every other call.
-impl RoomHandle {
-    pub(crate) fn open(input: &[u8], epoch: u64, next: u64, limits: Limits) -> Result<Self, RoomError> {
-        fits();
-        let (mut handle, mut refusal, mut told) = (RoomHandle { at: null_mut() }, 0, Told::default());
-        let (from, length) = (input.as_ptr(), input.len());
-        // SAFETY: as said above.
-        let status =
-            unsafe { ent_c_room_open(&mut handle.at, from, length, epoch, next, &limits, &mut refusal, &mut told) };
-        Ok(room_said(status, refusal, told).map(|()| handle)?)
-    }
-
-    pub(crate) fn put(&mut self, script: &[u8], values: &mut BoundValues, stay: i64) -> Result<u64, NotDone> {
-        let (mut ticket, mut refusal, mut told) = (0, 0, Told::default());
-        let (from, length, values) = (script.as_ptr(), script.len(), &mut values.at);
-        // SAFETY: as said above.
-        let status =
-            unsafe { ent_c_room_put(&mut self.at, from, length, values, stay, &mut ticket, &mut refusal, &mut told) };
-        room_said(status, refusal, told).map(|()| ticket)
-    }
-
-    pub(crate) fn restore(
-        &mut self,
-        ticket: u64,
-        script: &[u8],
-        values: &mut BoundValues,
-        stay: i64,
-        batches: u64,
-    ) -> Result<(), NotDone> {
-        let (mut refusal, mut told) = (0, Told::default());
-        let (from, length, values) = (script.as_ptr(), script.len(), &mut values.at);
-        // SAFETY: as said above.
-        let status = unsafe {
-            ent_c_room_restore(&mut self.at, ticket, from, length, values, stay, batches, &mut refusal, &mut told)
-        };
-        room_said(status, refusal, told)
-    }
-
-    /// What is said of the fault of a script, if it has one.
-    pub(crate) fn explain(&mut self, script: &[u8]) -> Result<Option<String>, RoomError> {
-        let (status, text, told) = buffered(&mut self.at, |at, buffer, told| {
-            // SAFETY: as said above.
-            unsafe { ent_c_room_explain(at, script.as_ptr(), script.len(), buffer.as_mut_ptr(), buffer.len(), told) }
-        })?;
-        match status {
-            REFUSED => Ok(Some(text)),
-            status => Ok(room_said(status, 0, told).map(|()| None)?),
-        }
-    }
-
-    pub(crate) fn withdraw(&mut self, ticket: u64) -> Result<(), RoomError> {
-        let mut refusal = 0;
-        // SAFETY: as said above.
-        let status = unsafe { ent_c_room_withdraw(&mut self.at, ticket, &mut refusal) };
-        Ok(room_said(status, refusal, Told::default())?)
-    }
-
-    pub(crate) fn step(&mut self) -> Result<u32, RoomError> {
-        let (mut step, mut refusal) = (0, 0);
-        // SAFETY: as said above.
-        let status = unsafe { ent_c_room_step(&mut self.at, &mut step, &mut refusal) };
-        Ok(room_said(status, refusal, Told::default()).map(|()| step)?)
-    }
-
-    pub(crate) fn state(&mut self, ticket: u64) -> TicketPosition {
-        let mut state = TicketPosition::default();
-        // SAFETY: as said above.
-        let status = unsafe { ent_c_room_state(&mut self.at, ticket, &mut state) };
-        assert_eq!(status, DONE, "each ticket of an open room has a state");
-        state
-    }
-
-    /// How a ticket stands, in a line.
-    pub(crate) fn why(&mut self, ticket: u64) -> Result<String, RoomError> {
-        let (status, text, told) = buffered(&mut self.at, |at, buffer, told| {
-            // SAFETY: as said above.
-            unsafe { ent_c_room_why(at, ticket, buffer.as_mut_ptr(), buffer.len(), told) }
-        })?;
-        Ok(room_said(status, 0, told).map(|()| text)?)
-    }
-
-    /// The first ticket from this one on under which somebody waits.
-    pub(crate) fn waiting(&mut self, from: u64) -> Option<u64> {
-        let mut ticket = 0;
-        // SAFETY: as said above.
-        let status = unsafe { ent_c_room_waiting(&mut self.at, from, &mut ticket) };
-        (status == DONE).then_some(ticket)
-    }
-
-    /// The ticket that ended last but so many, if it is kept.
-    pub(crate) fn ended(&mut self, back: u64) -> Option<u64> {
-        let mut ticket = 0;
-        // SAFETY: as said above.
-        let status = unsafe { ent_c_room_ended(&mut self.at, back, &mut ticket) };
-        (status == DONE).then_some(ticket)
-    }
-
-    /// The transaction that the script of a ticket was at this place of the order, if it was one.
-    pub(crate) fn submission(&mut self, ticket: u64, place: u64) -> Option<SubmissionSeen> {
-        let mut submission = SubmissionSeen::default();
-        // SAFETY: as said above.
-        let status = unsafe { ent_c_room_submission(&mut self.at, ticket, place, &mut submission) };
-        (status == DONE).then_some(submission)
-    }
-
-    pub(crate) fn table(&mut self, name: &[u8]) -> Result<String, RoomError> {
-        let (status, text, _) = buffered(&mut self.at, |at, buffer, told| {
-            // SAFETY: as said above.
-            unsafe { ent_c_room_table(at, name.as_ptr(), name.len(), buffer.as_mut_ptr(), buffer.len(), told) }
-        })?;
-        match status {
-            REFUSED => Err(RoomError::NoSuchTable),
-            status => Ok(room_said(status, 0, Told::default()).map(|()| text)?),
-        }
-    }
-
-    pub(crate) fn epoch(&mut self) -> u64 {
-        let mut epoch = 0;
-        // SAFETY: as said above.
-        let status = unsafe { ent_c_room_epoch(&mut self.at, &mut epoch) };
-        assert_eq!(status, DONE, "an open room is in an epoch");
-        epoch
-    }
-
-    pub(crate) fn turn(&mut self, drained: &str) -> Result<(), RoomError> {
-        let (mut refusal, mut told) = (0, Told::default());
-        // SAFETY: as said above.
-        let status = unsafe { ent_c_room_turn(&mut self.at, drained.as_ptr(), drained.len(), &mut refusal, &mut told) };
-        Ok(room_said(status, refusal, told)?)
-    }
-
-    /// The report of the last epoch that ended, with its number, if one ended.
-    pub(crate) fn report(&mut self, version: u32) -> Result<Option<(u64, String)>, RoomError> {
-        let mut epoch = 0;
-        let (status, text, told) = buffered(&mut self.at, |at, buffer, told| {
-            // SAFETY: as said above.
-            unsafe { ent_c_room_report(at, version, buffer.as_mut_ptr(), buffer.len(), &mut epoch, told) }
-        })?;
-        match status {
-            REFUSED => Ok(None),
-            status => Ok(room_said(status, 0, told).map(|()| Some((epoch, text)))?),
-        }
-    }
-}
-
-impl Drop for RoomHandle {
-    fn drop(&mut self) {
-        // SAFETY: as said of a manager's handle.
-        unsafe { ent_c_room_free(&mut self.at) }
     }
 }

@@ -1,21 +1,20 @@
 //! The futures of tickets.
 
+use crate::counted::Counted;
 use crate::refusal::RoomError;
 use crate::room::Inner;
 use crate::ticket::{Ending, Ticket};
-use crate::waits::{Sleeper, WaitId};
+use crate::waits::{Bed, Sleeper, WaitId};
 use std::fmt;
 use std::future::Future;
 use std::pin::Pin;
-use std::sync::Arc;
 use std::task::{Context, Poll};
-use std::thread;
 use std::time::Instant;
 
 /// How a ticket of a [`Room`](crate::Room) ends, once it has: see [`Room::fate`](crate::Room::fate).
 #[must_use = "a future does nothing unless it is awaited"]
 pub struct FutureFate {
-    room: Arc<Inner>,
+    room: Counted<Inner>,
     ticket: Ticket,
     /// Its number among those who wait.
     id: Option<WaitId>,
@@ -28,7 +27,7 @@ impl fmt::Debug for FutureFate {
 }
 
 impl FutureFate {
-    pub(crate) fn new(room: Arc<Inner>, ticket: Ticket) -> Self {
+    pub(crate) fn new(room: Counted<Inner>, ticket: Ticket) -> Self {
         FutureFate { room, ticket, id: None }
     }
 
@@ -56,17 +55,13 @@ impl FutureFate {
 
     /// How the ticket ended, if it has by this time; if there is none, as soon as it has.
     pub(crate) fn wait_until(mut self, deadline: Option<Instant>) -> Result<Option<Ending>, RoomError> {
+        let bed = Counted::new(Bed::default()).ok_or(RoomError::OutOfMemory)?;
         loop {
-            if let Some(told) = self.look(Sleeper::Thread(thread::current())) {
+            if let Some(told) = self.look(Sleeper::Thread(bed.clone())) {
                 return told.map(Some);
             }
-            let Some(deadline) = deadline else {
-                thread::park();
-                continue;
-            };
-            match deadline.checked_duration_since(Instant::now()) {
-                Some(left) if !left.is_zero() => thread::park_timeout(left),
-                _ => return Ok(None),
+            if !bed.sleep(deadline) {
+                return self.look(Sleeper::Thread(bed)).transpose();
             }
         }
     }

@@ -41,11 +41,12 @@
 
 mod answer;
 mod call;
+mod counted;
 mod fate;
 mod fault;
+mod given;
 mod library;
 mod manager;
-mod opening;
 mod refusal;
 mod room;
 mod step;
@@ -58,7 +59,7 @@ pub use fate::FutureFate;
 pub use fault::{Error, Fault, FaultKind, Place};
 pub use library::library_version;
 pub use manager::{Failure, Fate, Manager, Shared, Standing, Tx};
-pub use refusal::{BindingFault, RoomError, ValueFault};
+pub use refusal::{BindingFault, RoomError, RowFault, ValueFault};
 pub use room::{EpochReport, Patience, Room, RoomOptions, Stepped};
 pub use step::{Reply, Step};
 pub use ticket::{Ending, Submission, Ticket, TicketState};

@@ -21,23 +21,23 @@ fn asked() -> &'static About {
 /// As every call: if the library isn't the one of this crate.
 pub fn library_version() -> &'static str {
     fits();
-    &asked().version
+    asked().version()
 }
 
 /// Panics if the library that is linked isn't the one of this crate.
 pub(crate) fn fits() {
-    if let Some(sentence) = difference(asked()) {
+    if let Some(sentence) = difference(asked().version(), asked().has_these_sizes) {
         panic!("{sentence}");
     }
 }
 
 /// A sentence that says why a library isn't the one of this crate, if it isn't.
-fn difference(about: &About) -> Option<String> {
+fn difference(version: &str, has_these_sizes: bool) -> Option<String> {
     let wanted = env!("CARGO_PKG_VERSION");
-    if !about.has_these_sizes {
+    if !has_these_sizes {
         return Some(format!("the linked library isn't of version {wanted}: its structs are of other sizes"));
     }
-    let found = about.version.split(',').next().unwrap_or_default();
+    let found = version.split(',').next().unwrap_or_default();
     (found != wanted).then(|| format!("the linked library is of version {found}, and this crate of {wanted}"))
 }
 
@@ -47,8 +47,7 @@ mod tests {
 
     #[test]
     fn another_library_is_told() {
-        let of = |version: &str, has_these_sizes| About { version: version.to_string(), has_these_sizes };
-        let said = |version, has_these_sizes| difference(&of(version, has_these_sizes)).unwrap_or_default();
+        let said = |version, has_these_sizes| difference(version, has_these_sizes).unwrap_or_default();
         assert_eq!(said(concat!(env!("CARGO_PKG_VERSION"), ", proved by logic 1"), true), "");
         assert!(said("0.1.0, proved by logic 1", true).starts_with("the linked library is of version 0.1.0, and this"));
         assert!(said("", false).ends_with("its structs are of other sizes"));

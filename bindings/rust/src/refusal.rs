@@ -24,16 +24,14 @@ pub enum RoomError {
         /// Why.
         fault: BindingFault,
     },
-    /// A row can't be one of an opening.
+    /// A row can't be one of its table.
     NotARow {
-        /// The name of the row's table.
+        /// The table's name.
         table: String,
         /// Which row of those that were given for the table, from 0.
         row: usize,
-        /// Which value of the row, from 0.
-        column: usize,
-        /// What is wrong with the value.
-        fault: ValueFault,
+        /// Why.
+        fault: RowFault,
     },
     /// A script waits for 1 to 1,000 batches, and not for as many as this.
     NoPatience,
@@ -47,7 +45,7 @@ pub enum RoomError {
     NoSuchTable,
     /// The ticket is in a batch that isn't over, or a batch is on, since memory ran out. The next step goes on with it.
     Busy,
-    /// The tables have more than 65,536 rows together (E407). To drain tables is the cure.
+    /// The tables have more than 65,536 rows together (E407). If an epoch can't end for it, to drain tables is the cure.
     TooManyRows,
     /// The epoch has the greatest number that there is.
     NoNumber,
@@ -59,7 +57,9 @@ pub enum RoomError {
 #[derive(Clone, Copy, Debug, PartialEq, Eq, Hash)]
 #[non_exhaustive]
 pub enum BindingFault {
-    /// No script can spell the value.
+    /// No script can spell the number, which is [`i64::MIN`].
+    LeastNumber,
+    /// The text can't be a value.
     Value(ValueFault),
     /// An earlier one has the same name.
     Twice,
@@ -71,12 +71,29 @@ pub enum BindingFault {
     NoName,
 }
 
-/// Why no script can spell a value.
+/// Why a row can't be one of its table.
+#[derive(Clone, Copy, Debug, PartialEq, Eq, Hash)]
+#[non_exhaustive]
+pub enum RowFault {
+    /// There is no such table (E301).
+    NoSuchTable,
+    /// It has another number of values than the table has columns (E303).
+    OtherLength,
+    /// A value is of another kind than its column (E304).
+    OtherKind,
+    /// A text can't be a value, of whichever table.
+    Value {
+        /// Which value of the row, from 0.
+        column: usize,
+        /// What is wrong with it.
+        fault: ValueFault,
+    },
+}
+
+/// Why a text can't be a value.
 #[derive(Clone, Copy, Debug, PartialEq, Eq, Hash)]
 #[non_exhaustive]
 pub enum ValueFault {
-    /// The number is [`i64::MIN`].
-    LeastNumber,
     /// The text has more than 255 bytes.
     TooLong,
     /// A control character, U+0000 to U+001F or U+007F, stands in the text.
@@ -86,10 +103,37 @@ pub enum ValueFault {
     },
 }
 
-/// E401.
-const NO_SUCH_TABLE: Fault = Fault { code: 401, kind: FaultKind::Refused, place: None };
-/// E407.
-const TOO_MANY_ROWS: Fault = Fault { code: 407, kind: FaultKind::Refused, place: None };
+/// A refusal of this number, without a place.
+const fn refusal(code: u16) -> Fault {
+    Fault { code, kind: FaultKind::Refused, place: None }
+}
+
+const NO_TABLE_OF_ROW: Fault = refusal(301);
+const OTHER_LENGTH: Fault = refusal(303);
+const OTHER_KIND: Fault = refusal(304);
+const NO_SUCH_TABLE: Fault = refusal(401);
+const TOO_MANY_ROWS: Fault = refusal(407);
+
+impl RowFault {
+    /// The fault of a row that doesn't fit its table.
+    pub(crate) fn numbered(code: u16) -> Self {
+        match code {
+            301 => RowFault::NoSuchTable,
+            303 => RowFault::OtherLength,
+            304 => RowFault::OtherKind,
+            other => unreachable!("a row doesn't fit its table for one of three faults, and E{other} isn't one"),
+        }
+    }
+
+    fn number(self) -> Option<&'static Fault> {
+        match self {
+            RowFault::NoSuchTable => Some(&NO_TABLE_OF_ROW),
+            RowFault::OtherLength => Some(&OTHER_LENGTH),
+            RowFault::OtherKind => Some(&OTHER_KIND),
+            RowFault::Value { .. } => None,
+        }
+    }
+}
 
 impl RoomError {
     /// The fault, if it has a number.
@@ -101,6 +145,7 @@ impl RoomError {
         match self {
             RoomError::Faulty(fault) => Some(fault),
             RoomError::OutOfMemory => Some(&Fault::OUT_OF_MEMORY),
+            RoomError::NotARow { fault, .. } => fault.number(),
             RoomError::NoSuchTable => Some(&NO_SUCH_TABLE),
             RoomError::TooManyRows => Some(&TOO_MANY_ROWS),
             _ => None,
@@ -131,8 +176,11 @@ impl fmt::Display for RoomError {
                 return write!(f, "the text is refused at line {line}, column {column}");
             }
             RoomError::NotBound { variable, fault } => return write!(f, "@{variable} isn't bound: {fault}"),
-            RoomError::NotARow { table, row, column, fault } => {
-                return write!(f, "value {column} of row {row} of {table}: {fault}");
+            RoomError::NotARow { table, row, fault } => {
+                if let RowFault::Value { column, .. } = fault {
+                    write!(f, "value {column} of ")?;
+                }
+                return write!(f, "row {row} of {table}: {fault}");
             }
             RoomError::Faulty(_) => "the text is refused",
             RoomError::OutOfMemory => "memory ran out",
@@ -159,6 +207,7 @@ impl StandardError for RoomError {
 impl fmt::Display for BindingFault {
     fn fmt(&self, f: &mut fmt::Formatter<'_>) -> fmt::Result {
         f.write_str(match self {
+            BindingFault::LeastNumber => return write!(f, "no script can spell the number {}", i64::MIN),
             BindingFault::Value(fault) => return fault.fmt(f),
             BindingFault::Twice => "it is bound twice",
             BindingFault::SetByScript => "the script gives it a value itself",
@@ -168,10 +217,20 @@ impl fmt::Display for BindingFault {
     }
 }
 
+impl fmt::Display for RowFault {
+    fn fmt(&self, f: &mut fmt::Formatter<'_>) -> fmt::Result {
+        f.write_str(match self {
+            RowFault::NoSuchTable => "there is no such table",
+            RowFault::OtherLength => "it has another number of values than the table has columns",
+            RowFault::OtherKind => "a value is of another kind than its column",
+            RowFault::Value { fault, .. } => return fault.fmt(f),
+        })
+    }
+}
+
 impl fmt::Display for ValueFault {
     fn fmt(&self, f: &mut fmt::Formatter<'_>) -> fmt::Result {
         match self {
-            ValueFault::LeastNumber => write!(f, "no script can spell the number {}", i64::MIN),
             ValueFault::TooLong => f.write_str("the text has more than 255 bytes"),
             ValueFault::ControlCharacter { offset } => {
                 write!(f, "a control character stands at byte {offset} of the text")

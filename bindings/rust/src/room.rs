@@ -2,16 +2,18 @@
 
 use crate::Version;
 use crate::answer::table_in;
-use crate::call::{BoundValues, Limits, NotDone, RoomHandle, TicketPosition};
+use crate::call::room::RoomHandle;
+use crate::call::{Limits, TicketPosition};
+use crate::counted::Counted;
 use crate::fate::FutureFate;
+use crate::given::{bound, error_of_rows, error_of_values, given};
 use crate::manager::{Failure, read};
-use crate::opening::{copied, is_word, opening_of};
-use crate::refusal::{BindingFault, RoomError, ValueFault};
+use crate::refusal::RoomError;
 use crate::ticket::{Ending, Submission, Ticket, TicketState};
 use crate::value::{Row, Value};
 use crate::waits::{News, Waits};
 use std::fmt;
-use std::sync::{Arc, Mutex, MutexGuard, PoisonError};
+use std::sync::{Mutex, MutexGuard, PoisonError};
 use std::time::{Duration, Instant};
 
 /// How a room begins.
@@ -142,7 +144,7 @@ pub struct EpochReport {
 /// scripts and wait for their ends, by [`Room::wait`] or by the futures of [`Room::fate`]. Each end is told by the call
 /// that brings it; nothing polls.
 pub struct Room {
-    inner: Arc<Inner>,
+    inner: Counted<Inner>,
 }
 
 /// What a room and its futures share. Who takes both locks takes that of the room first.
@@ -160,7 +162,8 @@ pub(crate) struct Kept {
     last_ended: Option<u64>,
 }
 
-fn locked<T>(mutex: &Mutex<T>) -> MutexGuard<'_, T> {
+/// What a lock guards, once no other thread has it.
+pub(crate) fn locked<T>(mutex: &Mutex<T>) -> MutexGuard<'_, T> {
     // a thread that panicked over it has left it whole: each call leaves it so
     mutex.lock().unwrap_or_else(PoisonError::into_inner)
 }
@@ -253,42 +256,6 @@ fn state_of(position: TicketPosition) -> TicketState {
     })
 }
 
-/// The error of a call that binds these values.
-fn error_of(not_done: NotDone, values: &[(&str, Value)]) -> RoomError {
-    let (place, fault) = match not_done {
-        NotDone::Error(error) => return error,
-        NotDone::NotBound(place, fault) => (place, fault),
-    };
-    let (name, value) = &values[place];
-    let fault = match (fault, value.as_text()) {
-        (BindingFault::Value(ValueFault::ControlCharacter { .. }), Some(text)) => {
-            let offset = text.bytes().position(|byte| byte.is_ascii_control()).unwrap_or_default();
-            BindingFault::Value(ValueFault::ControlCharacter { offset })
-        }
-        (fault, _) => fault,
-    };
-    match copied(name) {
-        Ok(variable) => RoomError::NotBound { variable, fault },
-        Err(error) => error.into(),
-    }
-}
-
-/// These values as the library takes them.
-fn bound(values: &[(&str, Value)]) -> Result<BoundValues, RoomError> {
-    let mut bound = BoundValues::new();
-    for (place, (name, value)) in values.iter().enumerate() {
-        let added = match value {
-            Value::Int(number) => bound.add_int(name, *number),
-            Value::Text(text) => bound.add_text(name, text),
-        };
-        added.map_err(|not_done| match not_done {
-            NotDone::NotBound(_, fault) => error_of(NotDone::NotBound(place, fault), values),
-            NotDone::Error(error) => error,
-        })?;
-    }
-    Ok(bound)
-}
-
 impl fmt::Debug for Room {
     fn fmt(&self, f: &mut fmt::Formatter<'_>) -> fmt::Result {
         f.debug_struct("Room").finish_non_exhaustive()
@@ -312,15 +279,10 @@ impl Room {
     ///
     /// As [`Room::open`]; or that the input has more scripts than may wait.
     pub fn open_with(opening: &str, options: RoomOptions) -> Result<Self, RoomError> {
-        let RoomOptions { epoch, next_ticket, most_waiters, most_ended } = options;
-        let limits = Limits { most_waiters, most_ended };
-        let mut handle = RoomHandle::open(opening.as_bytes(), epoch, next_ticket.number(), limits)?;
-        let last_ended = handle.ended(0);
-        let kept = Mutex::new(Some(Kept { handle, most_ended, last_ended }));
-        Ok(Room { inner: Arc::new(Inner { kept, waits: Mutex::default() }) })
+        Room::open_rows(opening, &[], options)
     }
 
-    /// As [`Room::open_with`], over declarations, and rows of each table as values, as [`Room::table`] gives them.
+    /// As [`Room::open_with`], over an input and further rows of its tables, as [`Room::table`] gives them.
     ///
     /// ```
     /// use entangle::{Room, RoomOptions};
@@ -334,10 +296,18 @@ impl Room {
     ///
     /// # Errors
     ///
-    /// A value that no script can spell ([`RoomError::NotARow`]); a name that no table can have; or as
-    /// [`Room::open_with`]: places are those in the declarations and, below them, an INSERT statement a row.
-    pub fn open_rows(declarations: &str, tables: &[(&str, &[Row])], options: RoomOptions) -> Result<Self, RoomError> {
-        Room::open_with(&opening_of(declarations, tables)?, options)
+    /// The first row that can't be one of any table ([`RoomError::NotARow`]); else the first fault of the input; that
+    /// there are more than 65,536 rows together (E407); the first row that doesn't fit its table; that the input has
+    /// more scripts than may wait; or that memory ran out.
+    pub fn open_rows(opening: &str, tables: &[(&str, &[Row])], options: RoomOptions) -> Result<Self, RoomError> {
+        let RoomOptions { epoch, next_ticket, most_waiters, most_ended } = options;
+        let limits = Limits { most_waiters, most_ended };
+        let opened = RoomHandle::open(opening.as_bytes(), given(tables)?, epoch, next_ticket.number(), limits);
+        let mut handle = opened.map_err(|not_done| error_of_rows(not_done, tables))?;
+        let last_ended = handle.ended(0);
+        let kept = Mutex::new(Some(Kept { handle, most_ended, last_ended }));
+        let inner = Counted::new(Inner { kept, waits: Mutex::default() }).ok_or(RoomError::OutOfMemory)?;
+        Ok(Room { inner })
     }
 
     /// Puts the script of a text that has this script alone, with values bound to its host variables, which are named
@@ -351,7 +321,7 @@ impl Room {
         let (mut bound, stay) = (bound(values)?, patience.stay()?);
         self.inner.with(|kept| {
             let put = kept.handle.put(script.as_bytes(), &mut bound, stay);
-            put.map(Ticket::new).map_err(|not_done| error_of(not_done, values))
+            put.map(Ticket::new).map_err(|not_done| error_of_values(not_done, values))
         })
     }
 
@@ -372,19 +342,36 @@ impl Room {
         let (mut bound, stay) = (bound(values)?, patience.stay()?);
         self.inner.with(|kept| {
             let restored = kept.handle.restore(ticket.number(), script.as_bytes(), &mut bound, stay, batches);
-            restored.map_err(|not_done| error_of(not_done, values))
+            restored.map_err(|not_done| error_of_values(not_done, values))
         })
     }
 
-    /// What is said of the fault of a script, as [`explain`](crate::explain) says it of an input, in the lines of this
-    /// text. `None` if the script has no fault; a variable that nobody binds is one. Nothing is put; so ask if
-    /// [`Room::put`] answered [`RoomError::Faulty`].
+    /// What is said of the fault of a script with these values, as [`explain`](crate::explain) says it of an input, in
+    /// the lines of this text. `None` if [`Room::put`] would refuse neither the script nor its values. Nothing is put;
+    /// so ask if that answered [`RoomError::Faulty`].
+    ///
+    /// ```
+    /// use entangle::{Patience, Room};
+    ///
+    /// let room = Room::open("CREATE TABLE Flights (fno INT);")?;
+    /// let script = "BEGIN TRANSACTION;\nINSERT INTO Flight VALUES (@fno);\nCOMMIT;";
+    /// let values = [("fno", 122.into())];
+    /// assert!(room.put(script, &values, Patience::AsWritten).is_err());
+    /// let said = "E301 at 31\n\
+    ///     line 2, column 13: there is no table Flight\n  \
+    ///     INSERT INTO Flight VALUES (@fno);\n              ^^^^^^\n\
+    ///     did you mean Flights?\n";
+    /// assert_eq!(room.explain(script, &values)?.as_deref(), Some(said));
+    /// # Ok::<(), entangle::RoomError>(())
+    /// ```
     ///
     /// # Errors
     ///
-    /// The room is closed; or memory ran out.
-    pub fn explain(&self, script: &str) -> Result<Option<String>, RoomError> {
-        self.inner.with(|kept| kept.handle.explain(script.as_bytes()))
+    /// A value that no host variable can have, or a name that none can have ([`RoomError::NotBound`]); that the room is
+    /// closed; or that memory ran out.
+    pub fn explain(&self, script: &str, values: &[(&str, Value)]) -> Result<Option<String>, RoomError> {
+        let mut bound = bound(values)?;
+        self.inner.with(|kept| kept.handle.explain(script.as_bytes(), &mut bound))
     }
 
     /// A script waits no more, and will never commit.
@@ -500,7 +487,7 @@ impl Room {
         let mut names = String::new();
         for name in drained {
             // names go behind one another with spaces between: one with a space would be two
-            if !is_word(name) {
+            if name.is_empty() || name.contains(' ') {
                 return Err(RoomError::NoSuchTable);
             }
             names.try_reserve(name.len() + 1)?;

@@ -1,24 +1,55 @@
 //! Those who wait for the end of a ticket: threads and tasks. The call that ends the ticket tells each of them.
 
+use crate::counted::Counted;
 use crate::refusal::RoomError;
+use crate::room::locked;
 use crate::ticket::{Ending, Ticket};
 use std::collections::{HashMap, TryReserveError};
 use std::mem;
+use std::sync::{Condvar, Mutex, PoisonError};
 use std::task::Waker;
-use std::thread::Thread;
+use std::time::Instant;
 
 /// Who is woken once there is something to tell.
 pub(crate) enum Sleeper {
-    Thread(Thread),
+    Thread(Counted<Bed>),
     Task(Waker),
 }
 
 impl Sleeper {
     pub(crate) fn wake(self) {
         match self {
-            Sleeper::Thread(thread) => thread.unpark(),
+            Sleeper::Thread(bed) => bed.wake(),
             Sleeper::Task(waker) => waker.wake(),
         }
+    }
+}
+
+/// Where a thread sleeps until it is woken. (Rust's own way to park a thread may ask for memory, and ends the process
+/// where there is none.)
+#[derive(Default)]
+pub(crate) struct Bed {
+    is_woken: Mutex<bool>,
+    bell: Condvar,
+}
+
+impl Bed {
+    /// Sleeps until it is woken, or until this time, if there is one; whether it was woken.
+    pub(crate) fn sleep(&self, deadline: Option<Instant>) -> bool {
+        let (is_woken, sleeps) = (locked(&self.is_woken), |is_woken: &mut bool| !*is_woken);
+        let mut is_woken = match deadline {
+            None => self.bell.wait_while(is_woken, sleeps).unwrap_or_else(PoisonError::into_inner),
+            Some(deadline) => {
+                let left = deadline.saturating_duration_since(Instant::now());
+                self.bell.wait_timeout_while(is_woken, left, sleeps).unwrap_or_else(PoisonError::into_inner).0
+            }
+        };
+        mem::take(&mut *is_woken)
+    }
+
+    fn wake(&self) {
+        *locked(&self.is_woken) = true;
+        self.bell.notify_one();
     }
 }
 
@@ -161,18 +192,20 @@ mod tests {
     use std::sync::Arc;
     use std::sync::atomic::{AtomicUsize, Ordering};
     use std::task::Wake;
+    use std::thread;
+    use std::time::Duration;
 
     /// A task that counts how often it was woken.
     #[derive(Default)]
-    struct Counted(AtomicUsize);
+    struct Task(AtomicUsize);
 
-    impl Wake for Counted {
+    impl Wake for Task {
         fn wake(self: Arc<Self>) {
             self.0.fetch_add(1, Ordering::Relaxed);
         }
     }
 
-    fn sleeper(task: &Arc<Counted>) -> Sleeper {
+    fn sleeper(task: &Arc<Task>) -> Sleeper {
         Sleeper::Task(task.clone().into())
     }
 
@@ -184,7 +217,7 @@ mod tests {
 
     #[test]
     fn each_who_waits_is_told_once() {
-        let (mut waits, task, ticket) = (Waits::default(), Arc::new(Counted::default()), Ticket::new(7));
+        let (mut waits, task, ticket) = (Waits::default(), Arc::new(Task::default()), Ticket::new(7));
         let ids = [0, 1, 2].map(|_| waits.add(ticket, sleeper(&task)).expect("memory is there"));
         let other = waits.add(Ticket::new(8), sleeper(&task)).expect("memory is there");
         assert!(waits.forget(ticket, ids[1]).is_some());
@@ -201,5 +234,21 @@ mod tests {
         wake_all(&mut waits);
         assert_eq!((task.0.load(Ordering::Relaxed), waits.of_ticket.len(), waits.bell.asleep), (3, 0, 0));
         assert_eq!(Arc::strong_count(&task), 1);
+    }
+
+    #[test]
+    fn a_thread_sleeps_until_it_is_woken() {
+        let bed = Counted::new(Bed::default()).expect("memory is there");
+        bed.wake();
+        bed.wake();
+        assert!(bed.sleep(None));
+        assert!(!bed.sleep(Some(Instant::now())));
+        let deadline = Instant::now() + Duration::from_millis(20);
+        assert!(!bed.sleep(Some(deadline)) && Instant::now() >= deadline);
+        thread::scope(|scope| {
+            let sleeps = scope.spawn(|| bed.sleep(None));
+            Sleeper::Thread(bed.clone()).wake();
+            assert!(sleeps.join().expect("it is woken"));
+        });
     }
 }

@@ -1,7 +1,8 @@
 //! Where memory runs out in the library: each of its allocations for a call of a room fails in turn. The call says E900,
 //! a step goes on where it stopped, and who waits is told once. (`memory.rs` has the allocations of this crate.)
 
-use entangle::{Ending, Patience, Room, RoomError, RoomOptions, Stepped, Ticket, TicketState, Value, Verdict, Version};
+use entangle::Version;
+use entangle::{Ending, Patience, Room, RoomError, RoomOptions, Row, Stepped, Ticket, TicketState, Value, Verdict};
 use std::alloc::{GlobalAlloc, Layout};
 use std::cell::Cell;
 use std::ffi::c_void;
@@ -100,9 +101,11 @@ fn settle(room: &Room) {
 
 #[test]
 fn calls_that_find_no_memory_change_nothing() {
-    entangle::library_version();
     let (room, count) = refused(|| Room::open(TABLES));
     assert!(count > 0);
+    let rows: Vec<Row> = (0..3).map(|number| vec!["it's".into(), number.into()]).collect();
+    let (over_rows, more) = refused(|| Room::open_rows(TABLES, &[("U", &rows)], RoomOptions::default()));
+    assert!(more > count + rows.len() && over_rows.table("U").is_ok_and(|table| table == rows));
     let (ann, count) = refused(|| put(&room, "Ann", "Bob"));
     assert!(count > 0);
     let options = RoomOptions::default().next_ticket(Ticket::new(7));
@@ -111,7 +114,9 @@ fn calls_that_find_no_memory_change_nothing() {
     let values = [("a", Value::Int(5))];
     assert!(refused(|| later.restore(Ticket::new(3), script, &values, Patience::AsWritten, 0)).1 > 0);
     assert_eq!(later.waiting(), Ok(vec![Ticket::new(3)]));
-    assert!(refused(|| room.explain("BEGIN")).0.is_some());
+    assert!(refused(|| room.explain("BEGIN", &[])).0.is_some());
+    let (said, count) = refused(|| room.explain(script, &[("a", "x".into())]));
+    assert!(said.is_some_and(|said| said.starts_with("E304 at ")) && count > 0);
     assert_eq!(refused(|| room.table("T")).0, [[Value::Int(1)]]);
     assert!(refused(|| room.why(ann)).0.starts_with("waits"));
     let other = put(&room, "Eve", "Finn").expect("memory is there");
@@ -158,7 +163,6 @@ fn stepped(count: usize) -> (bool, bool) {
 
 #[test]
 fn a_step_goes_on_where_it_found_no_memory() {
-    entangle::library_version();
     let steps: Vec<_> = (0..).map(stepped).take_while(|(was_refused, _)| *was_refused).collect();
     let in_batch = steps.iter().filter(|(_, in_batch)| *in_batch).count();
     println!("{} allocations of a step, {in_batch} in the midst of a batch", steps.len());
@@ -167,7 +171,6 @@ fn a_step_goes_on_where_it_found_no_memory() {
 
 #[test]
 fn a_wait_goes_on_over_a_step_that_found_no_memory() {
-    entangle::library_version();
     let room = Room::open(TABLES).expect("the tables are right");
     let ann = put(&room, "Ann", "Bob").expect("the script is right");
     put(&room, "Bob", "Ann").expect("the script is right");

@@ -12,6 +12,7 @@ use std::future::Future;
 use std::pin::pin;
 use std::ptr::null_mut;
 use std::task::{Context, Poll, Waker};
+use std::time::Duration;
 
 thread_local! {
     /// How many allocations of this thread succeed before one fails, if one is to fail.
@@ -66,7 +67,6 @@ fn refused<T: Debug>(mut call: impl FnMut() -> Result<T, Error>) -> (T, usize) {
 
 #[test]
 fn calls_without_a_manager_tell_that_memory_ran_out() {
-    entangle::library_version();
     let input = format!("CREATE TABLE T (a INT);\n{}", "INSERT INTO T VALUES (1);\n".repeat(200));
     let (report, count) = refused(|| Ok(entangle::report(&input, Version::Two)?));
     assert!(report.ends_with("end\n") && count > 0);
@@ -78,7 +78,6 @@ fn calls_without_a_manager_tell_that_memory_ran_out() {
 
 #[test]
 fn calls_of_a_manager_tell_that_memory_ran_out() {
-    entangle::library_version();
     let mut manager = Manager::open("CREATE TABLE T (a INT, b TEXT);").expect("the table is right");
     let inserts: String = (0..20).map(|number| format!("INSERT INTO T VALUES ({number}, 'it''s');\n")).collect();
     for number in 0..5 {
@@ -114,11 +113,10 @@ fn refused_of_room<T: Debug>(mut call: impl FnMut() -> Result<T, RoomError>) -> 
 
 #[test]
 fn calls_of_a_room_tell_that_memory_ran_out() {
-    entangle::library_version();
     let tables = "CREATE TABLE T (a INT, b TEXT);";
     let rows: Vec<Row> = (0..200).map(|number| vec![Value::Int(number), "it's".into()]).collect();
-    // what the locks and the waits of a room are kept in is asked for before: Rust has no other way to make it
-    let room = Room::open_rows(tables, &[("T", &rows)], RoomOptions::default()).expect("the rows are right");
+    let (room, count) = refused_of_room(|| Room::open_rows(tables, &[("T", &rows)], RoomOptions::default()));
+    assert_eq!(count, 1); // what its owners share; the rows are kept in the library
     let values = |me: &str, friend: &str| [("me", me.into()), ("friend", friend.into())];
     let script = "BEGIN TRANSACTION; SELECT @me, a INTO ANSWER R WHERE a IN (SELECT a FROM T)
         AND (@friend, a) IN ANSWER R CHOOSE 1; COMMIT;";
@@ -140,14 +138,19 @@ fn calls_of_a_room_tell_that_memory_ran_out() {
     });
     assert!(count > 0);
     assert!(refused_of_room(|| room.waiting()).1 > 0);
+    let (waited, count) = refused_of_room(|| room.wait_timeout(bob, Duration::ZERO));
+    assert!(waited.is_none() && count > 1);
     let (stepped, count) = refused_of_room(|| room.step());
     assert_eq!((stepped, count), (Stepped::Ran, 0)); // who waits is told without memory
     let told = fate.as_mut().poll(&mut Context::from_waker(waker));
     assert!(matches!(told, Poll::Ready(Ok(Ending::Committed { .. }))), "{told:?}");
 
+    assert!(matches!(refused_of_room(|| room.wait(bob)), (Ending::Committed { .. }, 1)));
     assert!(refused_of_room(|| room.submissions(ann)).1 > 0);
     assert!(refused_of_room(|| room.why(ann)).1 > 0);
-    assert!(refused_of_room(|| room.explain("BEGIN")).0.is_some());
+    let (wrong, friends) = (script.replace("FROM T", "FROM U"), values("Ann", "Bob"));
+    let (said, count) = refused_of_room(|| room.explain(&wrong, &friends));
+    assert!(said.is_some_and(|said| said.starts_with("E301 at ")) && count > 0);
     let (table, count) = refused_of_room(|| room.table("T"));
     assert!(table == rows && count > 200);
     let (epoch, count) = refused_of_room(|| room.turn(&["T"]));
@@ -161,11 +164,14 @@ fn calls_of_a_room_tell_that_memory_ran_out() {
 
 #[test]
 fn openings_over_rows_tell_that_memory_ran_out() {
-    let rows: Vec<Row> = vec![vec!["it's".into(), i64::MIN.into()]];
-    let tables = "CREATE TABLE T (a TEXT, b INT);";
-    let opened = refused(|| match Room::open_rows(tables, &[("T", &rows)], RoomOptions::default()) {
-        Err(RoomError::OutOfMemory) => Err(Error::Fault(RoomError::OutOfMemory.fault().expect("it is E900"))),
-        other => Ok(other.map(|_| ())),
-    });
-    assert!(matches!(opened, (Err(RoomError::NotARow { row: 0, column: 1, .. }), count) if count > 3), "{opened:?}");
+    for wrong in [vec!["a\n".into(), 1.into()], vec!["a".into()]] {
+        let rows: Vec<Row> = vec![vec!["it's".into(), i64::MIN.into()], wrong];
+        let tables = "CREATE TABLE T (a TEXT, b INT);";
+        let opened = refused(|| match Room::open_rows(tables, &[("T", &rows)], RoomOptions::default()) {
+            Err(RoomError::OutOfMemory) => Err(Error::Fault(RoomError::OutOfMemory.fault().expect("it is E900"))),
+            other => Ok(other.map(|_| ())),
+        });
+        // the name of the table is copied
+        assert!(matches!(opened, (Err(RoomError::NotARow { row: 1, .. }), 1)), "{opened:?}");
+    }
 }

@@ -1,11 +1,12 @@
 //! What rooms promise.
 
 use entangle::{BindingFault, Ending, EpochReport, Failure, Fault, FaultKind, FutureFate, Patience, Place, Room};
-use entangle::{RoomError, RoomOptions, Row, Stepped, Submission, Ticket, TicketState, Value, ValueFault, Verdict};
-use entangle::{Version, check};
+use entangle::{RoomError, RoomOptions, Row, RowFault, Stepped, Submission, Ticket, TicketState, Value, ValueFault};
+use entangle::{Verdict, Version, check};
 use std::error::Error as StandardError;
 use std::future::Future;
 use std::pin::pin;
+use std::slice;
 use std::sync::Arc;
 use std::sync::atomic::{AtomicUsize, Ordering};
 use std::sync::mpsc::{Sender, channel};
@@ -116,7 +117,7 @@ fn values_that_cannot_be_bound_are_refused() {
         refused(&values)
     };
     let value = |fault| ("me".to_string(), BindingFault::Value(fault));
-    assert_eq!(with("me", i64::MIN.into()), value(ValueFault::LeastNumber));
+    assert_eq!(with("me", i64::MIN.into()), ("me".into(), BindingFault::LeastNumber));
     assert_eq!(with("me", "東".repeat(86).into()), value(ValueFault::TooLong));
     assert_eq!(with("me", "東\n\t".into()), value(ValueFault::ControlCharacter { offset: 3 }));
     assert_eq!(with("fno", 1.into()), ("fno".into(), BindingFault::SetByScript));
@@ -142,16 +143,52 @@ fn a_faulty_script_is_refused_and_explained() {
     assert_eq!((fault.code, fault.kind, fault.place), (302, FaultKind::Refused, Some(place)));
     assert_eq!(error.to_string(), "the text is refused at line 3, column 31");
     assert_eq!(error.source().map(ToString::to_string).as_deref(), Some("E302 at 56"));
-    let said = room.explain(script).expect("memory is there").expect("it has a fault");
+    let said = room.explain(script, &[]).expect("memory is there").expect("it has a fault");
     assert!(said.starts_with("E302 at 56\nline 3, column 31: Flights has no column dst\n"), "{said}");
     assert!(said.ends_with("\ndid you mean dest?\n"), "{said}");
-    assert_eq!(room.explain("BEGIN TRANSACTION; COMMIT;"), Ok(None));
+    assert_eq!(room.explain("BEGIN TRANSACTION; COMMIT;", &[]), Ok(None));
     for (script, code) in [("COMMIT;", 201), ("BEGIN TRANSACTION; COMMIT; BEGIN TRANSACTION; COMMIT;", 201)] {
         let error = room.put(script, &[], Patience::AsWritten).unwrap_err();
         assert_eq!(error.fault().map(|fault| fault.code), Some(code));
     }
     let opening = Room::open("CREATE TABLE T (a INTEGER);").unwrap_err();
     assert_eq!(opening.fault().map(|fault| fault.to_string()).as_deref(), Some("E201 at 18"));
+    assert_eq!(room.waiting(), Ok(vec![]));
+}
+
+#[test]
+fn a_script_is_explained_with_its_values() {
+    let room = room();
+    let values = trip("Mickey", "Minnie", "LA");
+    let said = |script: &str, values: &[(&str, Value)]| room.explain(script, values).expect("memory is there");
+    assert_eq!(said(TRIP, &values), None);
+    let misspelt = TRIP.replace("dest =", "dst =");
+    let wrong_kind = [("me", "Mickey".into()), ("friend", "Minnie".into()), ("dest", 5.into())];
+    for (script, values, code, place, words) in [
+        (misspelt.as_str(), &values[..], 302, misspelt.find("dst"), "Flights has no column dst"),
+        (TRIP, &values[..2], 306, TRIP.find("@dest"), "@dest"),
+        (TRIP, &wrong_kind[..], 304, TRIP.find("@dest"), "TEXT"),
+    ] {
+        let fault = room.put(script, values, Patience::AsWritten).unwrap_err().fault().expect("it is of the script");
+        assert_eq!((fault.code, fault.place.map(|place| place.offset)), (code, place));
+        let said = said(script, values).expect("it has a fault");
+        assert!(said.starts_with(&format!("{fault}\nline 3, column ")) && said.contains(words), "{said}");
+    }
+    for (values, unbound) in [(&values[..0], "@dest"), (&values[2..], "@me")] {
+        let said = said(TRIP, values).expect("a variable that nobody binds is a fault");
+        assert!(said.starts_with(&format!("E306 at {}\n", TRIP.find(unbound).expect("it is there"))), "{said}");
+    }
+    for (name, why) in [
+        ("nobody", "isn't used by the script, so no value is bound to it"),
+        ("fno", "is set by the script itself, so no value is bound to it"),
+        ("me", "is bound twice"),
+    ] {
+        let said = said(TRIP, &[&values[..], &[(name, 1.into())]].concat());
+        assert_eq!(said, Some(format!("@{name} {why}\n")));
+    }
+    for (name, value) in [("me", "a\nb".into()), ("me", i64::MIN.into()), ("@me", 1.into())] {
+        assert!(matches!(room.explain(TRIP, &[(name, value)]), Err(RoomError::NotBound { .. })), "{name}");
+    }
     assert_eq!(room.waiting(), Ok(vec![]));
 }
 
@@ -326,20 +363,94 @@ fn tables_with_too_many_rows_are_drained() {
 
 #[test]
 fn rows_are_given_as_values() {
-    let rows = [row("it's", 1), row("東", -i64::MAX), row("", 0)];
-    let tables = "CREATE TABLE T (a TEXT, b INT); CREATE TABLE U (a INT); -- and no more";
-    let room = Room::open_rows(tables, &[("T", &rows), ("U", &[])], RoomOptions::default()).expect("all is right");
-    assert_eq!(room.table("T"), Ok(vec![rows[2].clone(), rows[0].clone(), rows[1].clone()]));
-    let again = room.table("T").expect("there is this table");
-    assert!(Room::open_rows(tables, &[("T", &again)], RoomOptions::default()).is_ok());
-    let refused = |row: Row| Room::open_rows(tables, &[("T", &[row])], RoomOptions::default()).unwrap_err();
-    let fault = |row: Row| refused(row).fault().map(|fault| fault.code);
-    assert_eq!(fault(vec![1.into(), 1.into()]), Some(304));
-    assert_eq!(fault(vec!["a".into()]), Some(303));
-    let newline = refused(row("a\nb", 1));
-    assert_eq!(newline.to_string(), "value 0 of row 0 of T: a control character stands at byte 1 of the text");
-    let absent = Room::open_rows(tables, &[("V", &rows)], RoomOptions::default()).unwrap_err();
-    assert_eq!(absent.fault().map(|fault| fault.code), Some(301));
+    let mut rows = vec![row("it's", 1), row("東", i64::MIN), row("", 0), row("'); DELETE FROM U; --", i64::MAX)];
+    rows.extend([row("東\u{1f600}\u{85}", 7), row(&"東".repeat(85), 3), row(&"'".repeat(255), 4)]);
+    let tables = "CREATE TABLE T (a TEXT, b INT); CREATE TABLE U (a INT); INSERT INTO U VALUES (6); -- and no more";
+    let numbers = [5, 6].map(|number| vec![Value::Int(number)]);
+    let given: [(&str, &[Row]); 2] = [("T", &rows), ("U", &numbers)];
+    let room = Room::open_rows(tables, &given, RoomOptions::default()).expect("all is right");
+    rows.sort();
+    assert_eq!((room.table("T"), room.table("U")), (Ok(rows.clone()), Ok(numbers.to_vec())));
+    let again = Room::open_rows(tables, &[("T", &rows), ("U", &[])], RoomOptions::default()).expect("all is right");
+    assert_eq!((again.table("T"), again.table("U")), (Ok(rows), Ok(vec![vec![Value::Int(6)]])));
+}
+
+#[test]
+fn rows_may_have_more_bytes_than_an_input() {
+    let rows: Vec<Row> = (0..65_536).map(|number| vec![format!("{number:0255}").into()]).collect();
+    let tables = "CREATE TABLE T (a TEXT); CREATE TABLE U (a INT);";
+    let opened = |tables: &str, given: &[(&str, &[Row])]| Room::open_rows(tables, given, RoomOptions::default());
+    let room = opened(tables, &[("T", &rows)]).expect("there are just few enough");
+    assert!(room.table("T").is_ok_and(|table| table == rows));
+    let one = [vec![Value::Int(1)]];
+    assert_eq!(opened(tables, &[("U", &one), ("T", &rows)]).unwrap_err(), RoomError::TooManyRows);
+    let inserted = format!("{tables} INSERT INTO U VALUES (1);");
+    assert_eq!(opened(&inserted, &[("T", &rows)]).unwrap_err(), RoomError::TooManyRows);
+}
+
+/// The error of an opening over two tables, and rows of them.
+fn refused(tables: &[(&str, &[Row])]) -> RoomError {
+    let declarations = "CREATE TABLE T (a TEXT, b INT); CREATE TABLE U (a INT);";
+    Room::open_rows(declarations, tables, RoomOptions::default()).unwrap_err()
+}
+
+#[test]
+fn rows_that_do_not_fit_their_tables_are_refused() {
+    let int = |number| vec![Value::Int(number)];
+    let (good, two) = ([row("a", 1)], [int(5), int(6)]);
+    let not_a_row = |table: &str, row, fault| RoomError::NotARow { table: table.into(), row, fault };
+    let kind = RowFault::OtherKind;
+    assert_eq!(refused(&[("T", &[row("a", 1), vec![1.into(), 1.into()]])]), not_a_row("T", 1, kind));
+    assert_eq!(refused(&[("U", &two), ("T", &[row("a", 1), vec!["b".into(), "2".into()]])]), not_a_row("T", 1, kind));
+    let length = RowFault::OtherLength;
+    assert_eq!(refused(&[("T", &good), ("U", &[int(1), row("b", 3), int(2)])]), not_a_row("U", 1, length));
+    assert_eq!(refused(&[("T", &[]), ("U", &two), ("U", &[int(7), vec![]])]), not_a_row("U", 1, length));
+    assert_eq!(refused(&[("U", &[vec![Value::Int(0); 17]])]), not_a_row("U", 0, length));
+    let absent = RowFault::NoSuchTable;
+    assert_eq!(refused(&[("T", &good), ("V", &good), ("U", &[vec![]])]), not_a_row("V", 0, absent));
+    for name in ["", "T U", "T VALUES ('x', 1); --", "1T", "_T", "T-", "Tä", &"T".repeat(64)] {
+        assert_eq!(refused(&[("T", &good), (name, &good)]), not_a_row(name, 0, absent), "{name}");
+    }
+    for (fault, code, sentence) in [
+        (absent, 301, "row 2 of T: there is no such table"),
+        (length, 303, "row 2 of T: it has another number of values than the table has columns"),
+        (kind, 304, "row 2 of T: a value is of another kind than its column"),
+    ] {
+        let error = not_a_row("T", 2, fault);
+        assert_eq!((error.to_string().as_str(), error.fault().map(|fault| fault.code)), (sentence, Some(code)));
+        assert_eq!(error.source().and_then(|source| source.downcast_ref()), error.fault().as_ref());
+    }
+}
+
+#[test]
+fn rows_with_values_that_no_table_can_have_are_refused() {
+    let fault = |text: &str| match refused(&[("U", &[]), ("T", &[row("a", 1), vec![7.into(), text.into()]])]) {
+        RoomError::NotARow { table, row: 1, fault: RowFault::Value { column: 1, fault } } if table == "T" => fault,
+        other => panic!("{other:?}"),
+    };
+    assert_eq!(fault(&"a".repeat(256)), ValueFault::TooLong);
+    assert_eq!(fault(&"東".repeat(86)), ValueFault::TooLong);
+    for (text, offset) in [("\n", 0), ("a\r\n", 1), ("東\u{7f}", 3), ("a\0", 1), ("'\t", 1)] {
+        assert_eq!(fault(text), ValueFault::ControlCharacter { offset }, "{text:?}");
+    }
+    let error = refused(&[("T", &[row("a\nb", 1)])]);
+    assert_eq!(error.to_string(), "value 0 of row 0 of T: a control character stands at byte 1 of the text");
+    assert!(error.source().is_none() && error.fault().is_none());
+}
+
+#[test]
+fn an_opening_is_refused_for_its_first_fault() {
+    let opened = |input: &str, rows: &[Row], options| Room::open_rows(input, &[("T", rows)], options).unwrap_err();
+    let (options, text) = (RoomOptions::default(), vec![Value::from("x")]);
+    let faulty = opened("CREATE TABLE T (a INTEGER);", slice::from_ref(&text), options);
+    assert_eq!(faulty.fault().map(|fault| fault.to_string()).as_deref(), Some("E201 at 18"));
+    let tables = "CREATE TABLE T (a INT);";
+    let many: Vec<Row> = (0..65_537).map(|_| text.clone()).collect();
+    assert_eq!(opened(tables, &many, options), RoomError::TooManyRows);
+    let scripts = format!("{tables} BEGIN TRANSACTION; COMMIT; BEGIN TRANSACTION; COMMIT;");
+    let options = options.most_waiters(1);
+    assert!(matches!(opened(&scripts, &[text], options), RoomError::NotARow { row: 0, .. }));
+    assert_eq!(opened(&scripts, &[vec![Value::Int(1)]], options), RoomError::Full);
 }
 
 #[test]
@@ -581,7 +692,7 @@ fn a_closed_room_ends_all_waits() {
     });
     assert_eq!((room.state(mickey), room.wait(mickey)), (Err(RoomError::Closed), Err(RoomError::Closed)));
     assert_eq!((room.table("Flights"), room.waiting()), (Err(RoomError::Closed), Err(RoomError::Closed)));
-    assert_eq!((room.explain("BEGIN"), room.why(mickey)), (Err(RoomError::Closed), Err(RoomError::Closed)));
+    assert_eq!((room.explain("BEGIN", &[]), room.why(mickey)), (Err(RoomError::Closed), Err(RoomError::Closed)));
     assert_eq!(room.report(Version::Two), Err(RoomError::Closed));
     assert_eq!(RoomError::Closed.to_string(), "the room is closed");
 }
