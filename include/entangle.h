@@ -122,7 +122,7 @@ enum entangle_room_refusal {
     ENTANGLE_ROOM_BUSY,                /* the ticket is in a batch that isn't over; a batch is on */
     ENTANGLE_ROOM_TOO_MANY_ROWS,       /* E407: the tables have more than 65,536 rows together: those that aren't
                                           drained; or those of an input with the given ones */
-    ENTANGLE_ROOM_NO_NUMBER,           /* the epoch has the greatest number that there is */
+    ENTANGLE_ROOM_NO_NUMBER,           /* the epoch, or the next group, has the greatest number that there is */
     ENTANGLE_ROOM_NOT_A_ROW,           /* a given row doesn't fit: there is no such table (E301), it has another number
                                           of values than that has columns (E303), or a value of another kind (E304);
                                           `told->offset` is which row it is, from 0, and no place is told */
@@ -199,7 +199,7 @@ enum entangle_move {
     ENTANGLE_END_RUN        /* the run ends, if nothing can move in it */
 };
 
-/* The reply to a move; docs/SCENARIOS.md lists them. The last three are refusals, which change nothing. */
+/* The reply to a move; docs/TESTING.md lists them. The last three are refusals, which change nothing. */
 enum entangle_reply {
     ENTANGLE_REPLY_STARTED = 1,
     ENTANGLE_REPLY_BLOCKED,     /* it doesn't move: another transaction blocks it */
@@ -286,8 +286,8 @@ int32_t ent_c_rows_int(entangle_rows **rows, int64_t number, uint32_t *refusal);
 int32_t ent_c_rows_text(entangle_rows **rows, const uint8_t *text, size_t length, uint32_t *refusal);
 void ent_c_rows_free(entangle_rows **rows);
 int32_t ent_c_room_open(entangle_room **room, const uint8_t *input, size_t length, entangle_rows **rows,
-                        uint64_t epoch, uint64_t next, const entangle_limits *limits, uint32_t *refusal,
-                        entangle_told *told);
+                        uint64_t epoch, uint64_t next, uint64_t next_group, const entangle_limits *limits,
+                        uint32_t *refusal, entangle_told *told);
 int32_t ent_c_room_put(entangle_room **room, const uint8_t *script, size_t length, entangle_values **values,
                        int64_t stay, uint64_t *ticket, uint32_t *refusal, entangle_told *told);
 int32_t ent_c_room_explain(entangle_room **room, const uint8_t *script, size_t length, entangle_values **values,
@@ -302,6 +302,10 @@ int32_t ent_c_room_why(entangle_room **room, uint64_t ticket, uint8_t *buffer, s
 int32_t ent_c_room_waiting(entangle_room **room, uint64_t from, uint64_t *ticket);
 int32_t ent_c_room_ended(entangle_room **room, uint64_t back, uint64_t *ticket);
 int32_t ent_c_room_submission(entangle_room **room, uint64_t ticket, uint64_t place, entangle_submission *submission);
+int32_t ent_c_room_groups(entangle_room **room, uint64_t number, uint8_t *buffer, size_t capacity,
+                          entangle_told *told);
+int32_t ent_c_room_next_group(entangle_room **room, uint64_t *number);
+int32_t ent_c_room_settled_through(entangle_room **room, uint64_t number);
 int32_t ent_c_room_table(entangle_room **room, const uint8_t *name, size_t length, uint8_t *buffer, size_t capacity,
                          entangle_told *told);
 int32_t ent_c_room_epoch(entangle_room **room, uint64_t *epoch);
@@ -450,22 +454,22 @@ static inline void entangle_rows_free(entangle_rows **rows) {
 
 /* Opens a room over an input: makes its tables, loads their rows, and puts its scripts, if it has any, in order; each
  * waits for as many batches as its WITHIN says. `rows` is the address of rows that stand behind those of the input, in
- * order, or of a null pointer if there are none. The first epoch has the number `epoch`, and the first script the
- * ticket `next`: tickets below it are of an earlier process, and may come back by entangle_room_restore. The room's
- * pointer has to be null.
+ * order, or of a null pointer if there are none. The first epoch has the number `epoch`, the first script the ticket
+ * `next`, and the first group the number `next_group`. Tickets and groups below these are of an earlier process: such
+ * tickets may come back by entangle_room_restore. The room's pointer has to be null.
  *
  * ENTANGLE_DONE: the room is open. ENTANGLE_REFUSED, ENTANGLE_OUT_OF_MEMORY: the room's pointer is still null, and the
  * first fault is told: of the input (FAULTY); else TOO_MANY_ROWS, E407; else the first row that doesn't fit
  * (NOT_A_ROW); else more scripts stand there than may wait (FULL). In all these cases the rows are taken, and their
  * pointer is null. ENTANGLE_MISUSED: the room's pointer wasn't null, and stays as it was, and so do the rows. */
 static inline int32_t entangle_room_open(entangle_room **room, const void *input, size_t length, entangle_rows **rows,
-                                         uint64_t epoch, uint64_t next, const entangle_limits *limits,
-                                         uint32_t *refusal, entangle_told *told) {
+                                         uint64_t epoch, uint64_t next, uint64_t next_group,
+                                         const entangle_limits *limits, uint32_t *refusal, entangle_told *told) {
     uint8_t none = 0;
     if (!room || !rows || !limits || !refusal) return ENTANGLE_MISUSED;
     if (entangle_is_misused(input, length, &none, 0, told)) return ENTANGLE_MISUSED;
-    return ent_c_room_open(room, input ? (const uint8_t *)input : &none, length, rows, epoch, next, limits, refusal,
-                           told);
+    return ent_c_room_open(room, input ? (const uint8_t *)input : &none, length, rows, epoch, next, next_group, limits,
+                           refusal, told);
 }
 
 /* Puts a script into a room: the text of one script, from its BEGIN TRANSACTION on, and nothing else. It waits from
@@ -530,11 +534,12 @@ static inline int32_t entangle_room_withdraw(entangle_room **room, uint64_t tick
 }
 
 /* Makes a step: at most two runs, first of ordinary scripts that wait, then of meetings, each to its end. Who has no
- * fate then waits again, or gives up. If memory ran out in the step before, it goes on there, and does no more.
+ * fate then waits again, or gives up. What it did is told by entangle_room_groups. If memory ran out in the step
+ * before, it goes on there, and does no more.
  *
  * ENTANGLE_DONE: `*step` says what it did, an enum entangle_step. ENTANGLE_REFUSED: the epoch has to end first, and
- * can't: TOO_MANY_ROWS, or NO_NUMBER. ENTANGLE_OUT_OF_MEMORY: what was done stays done, and another call goes on from
- * there. */
+ * can't: TOO_MANY_ROWS, or NO_NUMBER; or a group has no number left (NO_NUMBER), and then what was done stays done, and
+ * isn't told. ENTANGLE_OUT_OF_MEMORY: what was done stays done, and another call goes on from there. */
 static inline int32_t entangle_room_step(entangle_room **room, uint32_t *step, uint32_t *refusal) {
     if (!room || !step || !refusal) return ENTANGLE_MISUSED;
     return ent_c_room_step(room, step, refusal);
@@ -581,6 +586,42 @@ static inline int32_t entangle_room_submission(entangle_room **room, uint64_t ti
                                                entangle_submission *submission) {
     if (!room || !submission) return ENTANGLE_MISUSED;
     return ent_c_room_submission(room, ticket, place, submission);
+}
+
+/* Gives the groups from a number on that are kept, in order, each in a line of JSON with its LF. A group is what a
+ * database takes in as one transaction: scripts that committed together, and what they changed in the tables as a
+ * whole; or it tells of scripts that ended without a commit. Groups count up by one, over epochs too. A step that is
+ * done has told all that it did, and what a step did that isn't done is told by a later one. A withdrawal is in no
+ * group, nor are rows that a turn drains.
+ *
+ * {"group":7,"epoch":1,"commits":[{"ticket":12,"number":3,"answers":[{"answer":{"Trip":["Mickey",122]}},{"count":1}]}],
+ *  "changes":{"Bookings":{"removed":[],"added":[["Mickey",122]]}},"ended":[]}
+ *
+ * stands in one line. A commit has its number in the epoch, and of each statement an answer: `count`, `set` (a value),
+ * `rows`, or `answer`, which has the statement's row in each of its answer relations. `changes` has the tables in which
+ * a row went or came, and these rows, ascending; none is both removed and added. An ending is `rolled back`, `gave up`
+ * or `failed`: {"ticket":9,"ending":"failed","failure":"F1"}, or F2. If memory ran out in a step, its commits may all
+ * stand in one group. Groups are kept until entangle_room_settled_through, also those that nobody asks for.
+ *
+ * ENTANGLE_DONE: the text is these lines. ENTANGLE_OUT_OF_MEMORY: E900 is told. */
+static inline int32_t entangle_room_groups(entangle_room **room, uint64_t number, void *buffer, size_t capacity,
+                                           entangle_told *told) {
+    uint8_t none = 0;
+    if (!room || entangle_is_misused(&none, 0, buffer, capacity, told)) return ENTANGLE_MISUSED;
+    return ent_c_room_groups(room, number, buffer ? (uint8_t *)buffer : &none, capacity, told);
+}
+
+/* Tells the number of the next group. ENTANGLE_DONE: `*number` is it. */
+static inline int32_t entangle_room_next_group(entangle_room **room, uint64_t *number) {
+    if (!room || !number) return ENTANGLE_MISUSED;
+    return ent_c_room_next_group(room, number);
+}
+
+/* Says that the caller has the groups up to this number: they are kept no longer, and their memory is freed. Numbers go
+ * on as before. ENTANGLE_DONE. */
+static inline int32_t entangle_room_settled_through(entangle_room **room, uint64_t number) {
+    if (!room) return ENTANGLE_MISUSED;
+    return ent_c_room_settled_through(room, number);
 }
 
 /* Gives the rows of a table, in the lines of a report: a line with its name and how many rows it has, and a line for

@@ -1,10 +1,19 @@
 -- Acts behind acts.
 use Rattle.std.proofs.Common.{◌≡◌, ◌∙◌, ℕ, zero, suc, refl, sym, ap, subst, inl, inr, Some, Bool, true, false, cond, Option}
-use Rattle.std.proofs.Common.{⊎_elim}
+use Rattle.std.proofs.Common.{◌<◌, ◌++◌, ◌∷◌, [], List, length, nat_lt, arith, ⊎_elim}
+use Rattle.std.proofs.lemmas.Bool.Decides.{nat_tests}
 use Rattle.std.proofs.lemmas.Bool.{cases_Bool}
 use Rattle.std.specs.BTreeMap.{is_at}
+use Rattle.std.specs.BTreeSet.{BTreeSet, contains}
 use Rattle.std.specs.Ordering.{nat_cmp}
 use Rattle.ent_epoch.specs.Epoch.{Epoch}
+use Rattle.ent_commit_notes.specs.Telling.{IsToldTo}
+use Rattle.ent_feed.specs.Feed.{behind}
+use Rattle.ent_feed.specs.Group.{AreNumbered}
+use Rattle.ent_feed.specs.declared.group.EndedTicket.{EndedTicket}
+use Rattle.ent_feed.specs.declared.group.Group.{Group}
+use Rattle.ent_protocol.specs.Reached.{CanClose}
+use Rattle.ent_protocol.specs.State.{State}
 use Rattle.ent_waiting.specs.Waiter.{is_idle}
 use Rattle.ent_waiting.specs.WaitingList.{Onward, UpdatesAt, WaitingList, is_stationed, moved, waiter_of, waits_idle}
 use Rattle.ent_waiting.specs.declared.queues.Station.TheVariants.{Batch}
@@ -13,8 +22,9 @@ use Rattle.ent_waiting.specs.declared.waiter.Place.TheVariants.{Chosen, Queued, 
 use Rattle.ent_waiting.specs.declared.waiter.Waiter.{Waiter}
 use Rattle.ent_waiting.specs.Queues.{stands_in}
 use Rattle.ent_admission.specs.Acts.{Acts, Advances, LeadsOn, OnlyShifts, Plans, Turns}
-use Rattle.ent_admission.specs.Admission.{Admission, IsAtRest}
-use Rattle.ent_admission.specs.Moves.{Chain, Goes, Moves, Runs}
+use Rattle.ent_admission.specs.Admission.{Admission, IsAllTold, IsAtRest, IsOver, endings_due}
+use Rattle.ent_admission.specs.Moves.{Chain, Goes, Moves, Runs, TellsCommits, TellsEndings}
+use Rattle.ent_admission.proofs.Appending.{appends_nowhere, appends_on, appends_same, goes_append}
 use Rattle.ent_admission.proofs.Changes.{onward_nowhere, onward_on}
 use Rattle.ent_admission.proofs.Going.{goes_on, goes_once, joined}
 use Rattle.ent_admission.proofs.Calls.{idle, still}
@@ -35,12 +45,19 @@ by_moves (suc n) first last goes = (goes.0, by_moves n first goes.0 goes.1, inr 
 -- ---- advances
 
 pub advances_nowhere : (a : Admission) → Advances a a
-advances_nowhere a = record { leads = leads_nowhere a; onward = onward_nowhere a.list; tables = refl }
+advances_nowhere a =
+    record {
+      leads = leads_nowhere a;
+      feed = appends_nowhere a.feed;
+      onward = onward_nowhere a.list;
+      tables = refl;
+    }
 
 pub advances_on : (first between last : Admission) → Advances first between → Advances between last → Advances first last
 advances_on first between last one two =
     record {
       leads = leads_on first between last one.leads two.leads;
+      feed = appends_on first.feed between.feed last.feed one.feed two.feed;
       onward = onward_on first.list between.list last.list one.onward two.onward;
       tables = two.tables ∙ one.tables;
     }
@@ -48,7 +65,12 @@ advances_on first between last one two =
 pub goes_advances : (first last : Admission) → Goes first last → Onward first.list last.list
     → last.epoch.core.opening ≡ first.epoch.core.opening → Advances first last
 goes_advances first last goes onward same =
-    record { leads = (goes.0, by_moves goes.0 first last goes.1); onward = onward; tables = ap (λ o. o.tables) same }
+    record {
+      leads = (goes.0, by_moves goes.0 first last goes.1);
+      feed = goes_append first last goes;
+      onward = onward;
+      tables = ap (λ o. o.tables) same;
+    }
 
 pub plans_advance : (first last : Admission) → Plans first last → Advances first last
 plans_advance first last plans =
@@ -56,6 +78,7 @@ plans_advance first last plans =
     (let x : Admission = record first { coming = last.coming; again = last.again } in
     record {
       leads = leads_once first x (inl (record { at_rest = plans.at_rest; batch = plans.batch; is = refl }));
+      feed = appends_nowhere first.feed;
       onward = onward_nowhere first.list;
       tables = refl;
     })
@@ -64,6 +87,7 @@ pub turns_advance : (first last : Admission) → Turns first last → Advances f
 turns_advance first last turns =
     record {
       leads = leads_once first last (inr (inr (inl turns)));
+      feed = appends_same first.feed last.feed turns.feed;
       onward = subst (λ (l : WaitingList). Onward first.list l) (sym turns.list) (onward_nowhere first.list);
       tables = turns.renewed.declarations;
     }
@@ -77,6 +101,8 @@ shifts_nowhere a =
       epoch = refl;
       coming = refl;
       again = refl;
+      feed = refl;
+      news = refl;
       onward = onward_nowhere a.list;
       at_rest = λ h. h;
     }
@@ -89,6 +115,8 @@ shifts_on first between last one two =
       epoch = two.epoch ∙ one.epoch;
       coming = two.coming ∙ one.coming;
       again = two.again ∙ one.again;
+      feed = two.feed ∙ one.feed;
+      news = two.news ∙ one.news;
       onward = onward_on first.list between.list last.list one.onward two.onward;
       at_rest = λ h. two.at_rest (one.at_rest h);
     }
@@ -97,6 +125,7 @@ pub shifts_advance : (old new : Admission) → OnlyShifts old new → Advances o
 shifts_advance old new shifts =
     record {
       leads = shifts.leads;
+      feed = appends_same old.feed new.feed shifts.feed;
       onward = shifts.onward;
       tables = ap (λ (e : Epoch). e.core.opening.tables) shifts.epoch;
     }
@@ -127,9 +156,9 @@ module _ (a : Admission) (list : WaitingList) (ticket : ℕ) (place : Place) (fr
       ⊎_elim
       (λ yes. let w = idle (waiter_of a.list ticket) yes in
       ap (is_stationed Batch) (updates w.0 w.1 w.2 t)
-      ∙ either (is_at (nat_cmp ticket) t) place w.0 (waiter_of a.list t) free (rest.idle t))
+      ∙ either (is_at (nat_cmp ticket) t) place w.0 (waiter_of a.list t) free (rest.over.idle t))
       (λ no. let same : list ≡ a.list = is ∙ still (waiter_of a.list ticket) ticket place a.list no in
-      ap (λ (l : WaitingList). is_stationed Batch (waiter_of l t)) same ∙ rest.idle t)
+      ap (λ (l : WaitingList). is_stationed Batch (waiter_of l t)) same ∙ rest.over.idle t)
       (cases_Bool (waits_idle (waiter_of a.list ticket)))
 
   pub shifts_only : OnlyShifts a shifted
@@ -144,8 +173,13 @@ module _ (a : Admission) (list : WaitingList) (ticket : ℕ) (place : Place) (fr
         epoch = refl;
         coming = refl;
         again = refl;
+        feed = refl;
+        news = refl;
         onward = onward;
-        at_rest = λ rest. record { coming = rest.coming; closes = rest.closes; idle = still_idle rest };
+        at_rest = λ rest. record {
+          over = record { coming = rest.over.coming; closes = rest.over.closes; idle = still_idle rest };
+          told = record { commits = rest.told.commits; endings = rest.told.endings };
+        };
       }
 
 -- ---- a batch goes on
@@ -174,3 +208,97 @@ gone_run first last runs same =
 
 pub gone_advances : (first last : Admission) → Gone first last → Advances first last
 gone_advances first last gone = goes_advances first last gone.goes gone.onward gone.opening
+
+-- what is told of a batch
+pub gone_told : (first last : Admission) → Goes first last → last.list ≡ first.list
+    → last.epoch.core ≡ first.epoch.core → Gone first last
+gone_told first last goes list core =
+    record {
+      goes = goes;
+      onward = subst (λ (l : WaitingList). Onward first.list l) (sym list) (onward_nowhere first.list);
+      opening = ap (λ (s : State). s.opening) core;
+    }
+
+-- ---- what is told
+
+-- no batch is on, also once what came of the last one is told
+pub at_rest_told : (over told : Admission) → IsOver over → told.coming ≡ over.coming
+    → told.epoch.core ≡ over.epoch.core → told.list ≡ over.list → IsAllTold told → IsAtRest told
+at_rest_told over told is coming core list all =
+    record {
+      over = record {
+        coming = λ t. ap (λ (s : BTreeSet ℕ). contains nat_cmp s t) coming ∙ is.coming t;
+        closes = subst (λ (s : State). CanClose s) (sym core) is.closes;
+        idle = λ t. ap (λ (l : WaitingList). is_stationed Batch (waiter_of l t)) list ∙ is.idle t;
+      };
+      told = all;
+    }
+
+pub commits_told : (old new : Admission) → TellsCommits old new → IsToldTo new.epoch.telling new.epoch.core
+commits_told old new tells =
+    subst (λ (e : Epoch). IsToldTo e.telling e.core) (sym tells.publishes.all_told)
+    (let s : State = old.epoch.core in record { entries = refl; tables = refl })
+
+pub commits_all_told : (old new : Admission) → TellsCommits old new → new.news ≡ [] → IsAllTold new
+commits_all_told old new tells none = record { commits = commits_told old new tells; endings = none }
+
+pub endings_all_told : (old new : Admission) → TellsEndings old new → IsToldTo old.epoch.telling old.epoch.core
+    → IsAllTold new
+endings_all_told old new tells told =
+    record {
+      commits = subst (λ (a : Admission). IsToldTo a.epoch.telling a.epoch.core) (sym tells.is) told;
+      endings = ap (λ (a : Admission). a.news) tells.is;
+    }
+
+pub goes_telling : (first between last : Admission) → TellsCommits first between → TellsEndings between last
+    → Goes first last
+goes_telling first between last commits endings =
+    goes_on first between last (goes_once first between (inr (inr (inr (inr (inl commits))))))
+    (goes_once between last (inr (inr (inr (inr (inr endings))))))
+
+pub goes_telling_commits : (first last : Admission) → TellsCommits first last → Goes first last
+goes_telling_commits first last commits = goes_once first last (inr (inr (inr (inr (inl commits)))))
+
+pub goes_still : (first last : Admission) → last ≡ first → Goes first last
+goes_still first last same = (zero, same)
+
+pub one_due : (news : List EndedTicket) → 0 < length news → endings_due news ≡ 1
+one_due [] some = absurd (omega (arith, some))
+one_due (one ∷ more) some = refl
+
+pub none_of : {X : Type 0} (xs : List X) → length xs ≡ 0 → xs ≡ []
+none_of [] e = refl
+none_of (x ∷ xs) e = absurd (omega (arith, e))
+
+-- ---- groups that are kept no longer
+
+all_behind : (number first next : ℕ) (groups : List Group) → AreNumbered first groups next → number < first
+    → behind number groups ≡ groups
+all_behind number first next [] numbered low = refl
+all_behind number first next (group ∷ more) numbered low =
+    let is : nat_lt number group.number ≡ true =
+    let same = numbered.0 in grind (arith, nat_tests) in
+    ap (λ (b : Bool). cond b (group ∷ behind number more) (behind number more)) is
+    ∙ ap (λ (gs : List Group). group ∷ gs) (all_behind number (suc first) next more numbered.1 (omega (arith, low)))
+
+-- the first ones are those up to a number
+pub first_settled : (number first next : ℕ) (groups : List Group) → AreNumbered first groups next
+    → (some : List Group) × (some ++ behind number groups ≡ groups)
+first_settled number first next [] numbered = ([], refl)
+first_settled number first next (group ∷ more) numbered =
+    by (nat_lt number group.number) refl (first_settled number (suc first) next more numbered.1)
+  where
+    by : (later : Bool) → nat_lt number group.number ≡ later
+        → ((some : List Group) × (some ++ behind number more ≡ more))
+        → (some : List Group) × (some ++ behind number (group ∷ more) ≡ group ∷ more)
+    by true is rest =
+        let low : number < group.number = grind (arith, nat_tests) in (
+          [],
+          all_behind number group.number next (group ∷ more)
+              (refl, subst (λ (n : ℕ). AreNumbered (suc n) more next) (sym numbered.0) numbered.1) low,
+        )
+    by false is rest = (
+      group ∷ rest.0,
+      ap (λ (b : Bool). group ∷ (rest.0 ++ cond b (group ∷ behind number more) (behind number more))) is
+          ∙ ap (λ (gs : List Group). group ∷ gs) rest.1,
+    )

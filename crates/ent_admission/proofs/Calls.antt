@@ -1,5 +1,5 @@
 -- What an admission keeps through each kind of call.
-use Rattle.std.proofs.Common.{◌≡◌, ◌∙◌, ◌<◌, ◌≤◌, ◌+◌, ◌∷◌, [], ℕ, suc, Bool, true, false, cond, List, Option, Some, None, length}
+use Rattle.std.proofs.Common.{◌≡◌, ◌∙◌, ◌<◌, ◌≤◌, ◌+◌, ◌++◌, ◌∷◌, [], append-nil, ℕ, suc, Bool, true, false, cond, List, Option, Some, None, length}
 use Rattle.std.proofs.Common.{refl, sym, ap, subst, arith, IsSome, Ok, nat_lt, ⊎_elim, if◌then◌else◌}
 use Rattle.std.proofs.lemmas.Bool.{cases_Bool}
 use Rattle.std.proofs.lemmas.Grind.{common_steps}
@@ -10,6 +10,9 @@ use Rattle.std.specs.Ordering.{nat_cmp}
 use Rattle.ent_meetings.specs.Waiting.{ChangesAt, Waiting, named, party_at}
 use Rattle.ent_parties.specs.declared.party.Party.{Party}
 use Rattle.ent_parties.specs.Party.{party_of}
+use Rattle.ent_commit_notes.specs.Telling.{Telling}
+use Rattle.ent_feed.specs.Feed.{Feed}
+use Rattle.ent_feed.specs.declared.group.EndedTicket.{EndedTicket}
 use Rattle.ent_protocol.specs.State.{State}
 use Rattle.ent_semantics.specs.Serial.{numbered}
 use Rattle.ent_tree.specs.declared.declaration.Opening.{Opening}
@@ -27,7 +30,8 @@ use Rattle.ent_admission.specs.Admission.{Admission, HasRoomFor, IsFormed, IsInd
 use Rattle.ent_admission.specs.Admission.{is_chosen, waits_before}
 use Rattle.ent_admission.proofs.Keeping.{Changed, at, here, indexed_at, indexed_same, kept_changed, party_in}
 use Rattle.ent_admission.specs.Admission.{IsAtRest, IsBatch, waits_chosen}
-use Rattle.ent_admission.specs.Moves.{WaitsAgain, submission_at, submission_in}
+use Rattle.ent_admission.specs.Moves.{WaitsAgain, ended_with, news_of, submission_at, submission_in}
+use Rattle.ent_waiting.specs.declared.ended.Ending.TheVariants.{GaveUp}
 use Rattle.ent_admission.specs.declared.batch.Again.{Again}
 use Rattle.ent_admission.proofs.Numbers.{all_keys, numbered_kept, numbered_last}
 use Rattle.ent_form.specs.Catalogue.{schemas_of}
@@ -254,11 +258,38 @@ module _ (a : Admission) (index : Waiting) (kept : IsKept a index) (new : Admiss
       kept_changed a new ticket (Some value) c index kept index
       (indexed_same a new ticket (Some value) c index kept waiter value refl waits refl)
 
+-- what is told, and who is to be told, is no part of it
+pub kept_news : (a : Admission) (index : Waiting) (news : List EndedTicket) → IsKept a index
+    → IsKept (record a { news = news }) index
+kept_news a index news kept =
+    record {
+      formed = kept.formed;
+      indexed = kept.indexed;
+      linked = kept.linked;
+      before = kept.before;
+      chosen = kept.chosen;
+      room = kept.room;
+    }
+
+pub kept_told : (a : Admission) (index : Waiting) (telling : Telling) (feed : Feed) (news : List EndedTicket)
+    → IsKept a index
+    → IsKept (record a { epoch = record a.epoch { telling = telling }; feed = feed; news = news }) index
+kept_told a index telling feed news kept =
+    record {
+      formed = kept.formed;
+      indexed = kept.indexed;
+      linked = kept.linked;
+      before = kept.before;
+      chosen = kept.chosen;
+      room = λ t h. let old = kept.room t h in
+          record { no_run = old.no_run; members = old.members; scripts = old.scripts };
+    }
+
 -- a run is made
-pub kept_run : (a : Admission) (index : Waiting) (core : State) → IsKept a index → core.opening ≡ a.epoch.core.opening
-    → ((t : ℕ) → contains nat_cmp a.coming t ≡ false)
-    → IsKept (record a { epoch = record a.epoch { core = core } }) index
-kept_run a index core kept same none =
+pub kept_run : (a : Admission) (index : Waiting) (core : State) (telling : Telling) → IsKept a index
+    → core.opening ≡ a.epoch.core.opening → ((t : ℕ) → contains nat_cmp a.coming t ≡ false)
+    → IsKept (record a { epoch = record a.epoch { core = core; telling = telling } }) index
+kept_run a index core telling kept same none =
     record {
       formed = λ t waiter h.
           subst (λ (o : Opening). IsFormed o waiter.script) (sym same) (kept.formed t waiter h);
@@ -270,9 +301,9 @@ kept_run a index core kept same none =
     }
 
 -- nobody waits yet
-pub kept_fresh : (number : ℕ) (opening : Opening) (next most_waiters most_ended : ℕ)
-    → IsKept (fresh number opening next most_waiters most_ended) []
-kept_fresh number opening next most_waiters most_ended =
+pub kept_fresh : (number : ℕ) (opening : Opening) (next next_group most_waiters most_ended : ℕ)
+    → IsKept (fresh number opening next next_group most_waiters most_ended) []
+kept_fresh number opening next next_group most_waiters most_ended =
     record {
       formed = λ t waiter h. absurd cc;
       indexed = λ t. refl;
@@ -400,6 +431,26 @@ back_others again old new ticket waiter waits other apart =
     waits.updates other
     ∙ ap (λ (b : Bool). cond b (back_or_gone again.rank again.counts again.alone waiter) (waiter_of old other)) apart
 
+-- who waited again or gave up is to be told where it gave up
+news_by : (over : Bool) (ticket : ℕ) (again : Again) (waiter : Waiter) (found : Option Waiter)
+    (older newer : List EndedTicket)
+    → found ≡ (if over then None else Some (back_in again.rank again.counts again.alone waiter))
+    → (found ≡ None → newer ≡ older ++ news_of ticket (Some GaveUp))
+    → ((own : Waiter) → found ≡ Some own → newer ≡ older)
+    → newer ≡ older ++ news_of ticket (if over then Some GaveUp else None)
+news_by true ticket again waiter found older newer is gone stays = gone is
+news_by false ticket again waiter found older newer is gone stays = stays _ is ∙ sym (append-nil older)
+
+pub news_again : (old new : WaitingList) (ticket : ℕ) (again : Again) (waiter : Waiter) (older newer : List EndedTicket)
+    → UpdatesAt ticket (back_or_gone again.rank again.counts again.alone waiter) old.waiters new.waiters
+    → (waiter_of new ticket ≡ None → newer ≡ older ++ news_of ticket (Some GaveUp))
+    → ((own : Waiter) → waiter_of new ticket ≡ Some own → newer ≡ older)
+    → newer ≡ older ++ news_of ticket (ended_with None again waiter)
+news_again old new ticket again waiter older newer updates gone stays =
+    let value = back_or_gone again.rank again.counts again.alone waiter in
+    news_by (is_over waiter.patience (with_batch again.counts waiter.batches)) ticket again waiter (waiter_of new ticket)
+    older newer (updates ticket ∙ ap (λ (b : Bool). cond b value (waiter_of old ticket)) (here ticket)) gone stays
+
 -- ---- a batch is made up
 
 idle_before : (found : Option Waiter) → waits_idle found ≡ true → waits_before found ≡ true
@@ -433,11 +484,11 @@ kept_planned a index set kept rest batch room again =
       before = λ t h.
           idle_before (waiter_of a.list t) (all_keys (λ (k : ℕ). waits_idle (waiter_of a.list k) ≡ true) set t batch.waits h);
       chosen = λ t h.
-          absurd (let e = sym (rest.idle t) ∙ chosen_busy (waiter_of a.list t) h in cc);
+          absurd (let e = sym (rest.over.idle t) ∙ chosen_busy (waiter_of a.list t) h in cc);
       room = λ t h.
-          let none : length a.epoch.core.dormant ≡ 0 = ap length rest.closes.1 in
+          let none : length a.epoch.core.dormant ≡ 0 = ap length rest.over.closes.1 in
           let few = batch.few in
-          record { no_run = rest.closes.0; members = omega (arith, none, few); scripts = room };
+          record { no_run = rest.over.closes.0; members = omega (arith, none, few); scripts = room };
     }
 
 -- ---- an epoch turns
@@ -452,10 +503,10 @@ kept_turned a index epoch kept rest same =
       indexed = kept.indexed;
       linked = λ t waiter submission h place.
           absurd
-          (let e = sym (rest.idle t) ∙ ap (is_stationed Batch) h ∙ ap (stands_in Batch) place in cc);
-      before = λ t h. absurd (let e = sym (rest.coming t) ∙ h in cc);
-      chosen = λ t h. absurd (let e = sym (rest.idle t) ∙ chosen_busy (waiter_of a.list t) h in cc);
-      room = λ t h. absurd (let e = sym (rest.coming t) ∙ h in cc);
+          (let e = sym (rest.over.idle t) ∙ ap (is_stationed Batch) h ∙ ap (stands_in Batch) place in cc);
+      before = λ t h. absurd (let e = sym (rest.over.coming t) ∙ h in cc);
+      chosen = λ t h. absurd (let e = sym (rest.over.idle t) ∙ chosen_busy (waiter_of a.list t) h in cc);
+      room = λ t h. absurd (let e = sym (rest.over.coming t) ∙ h in cc);
     }
 
 pub is_some_by : (found : Option Waiter) (own : Waiter) → found ≡ Some own → IsSome found

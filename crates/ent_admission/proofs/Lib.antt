@@ -2,6 +2,8 @@ pub mod Going
 pub mod Keeping
 pub mod Changes
 pub mod Numbers
+pub mod Appending
 pub mod Calls
 pub mod Acting
 pub mod Submitting
+pub mod Told

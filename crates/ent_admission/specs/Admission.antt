@@ -1,5 +1,5 @@
--- Who waits, and who of them is in the core.
-use Rattle.std.specs.Prelude.{◌≡◌, ◌≤◌, ◌+◌, ◌||◌, ℕ, Bool, true, false, [], All, List, length, Option, Some, None, Ok}
+-- Who waits, who of them is in the core, and what is told of it.
+use Rattle.std.specs.Prelude.{◌≡◌, ◌≤◌, ◌+◌, ◌∷◌, ◌^◌, ◌||◌, ℕ, Bool, true, false, [], All, List, length, Option, Some, None, Ok}
 use Rattle.std.specs.Prelude.{option_map}
 use Rattle.std.specs.BTreeSet.{BTreeSet, contains}
 use Rattle.std.specs.List.{filter_map}
@@ -12,6 +12,9 @@ use Rattle.ent_meetings.specs.Waiting.{Waiting, party_at}
 use Rattle.ent_parties.specs.Meeting.{IsClosed}
 use Rattle.ent_parties.specs.Party.{party_of}
 use Rattle.ent_parties.specs.declared.party.Party.{Party}
+use Rattle.ent_commit_notes.specs.Telling.{IsToldTo, groups_due}
+use Rattle.ent_feed.specs.Feed.{Feed}
+use Rattle.ent_feed.specs.declared.group.EndedTicket.{EndedTicket}
 use Rattle.ent_protocol.specs.Reached.{CanClose}
 use Rattle.ent_semantics.specs.Serial.{numbered}
 use Rattle.ent_tree.specs.declared.declaration.Opening.{Opening}
@@ -35,15 +38,26 @@ pub record Admission : Type 0 where
   pub coming : BTreeSet ℕ
   -- how those of it wait again who have no fate of their own after it
   pub again : Again
+  -- the groups that tell what committed, and who ended otherwise
+  pub feed : Feed
+  -- who ended otherwise, and isn't told yet
+  pub news : List EndedTicket
 
--- an epoch of this number over an opening, before which nobody waits
-abbrev pub fresh : ℕ → Opening → ℕ → ℕ → ℕ → Admission
-fresh number opening next most_waiters most_ended =
+-- a feed of no group, whose first one will have this number
+abbrev pub no_groups : ℕ → Feed
+no_groups number = record { first = number; next = number; groups = [] }
+
+-- an epoch of this number over an opening, before which nobody waits; the first ticket and the first group have these
+-- numbers
+abbrev pub fresh : ℕ → Opening → ℕ → ℕ → ℕ → ℕ → Admission
+fresh number opening next next_group most_waiters most_ended =
     record {
       epoch = begun number opening;
       list = nobody next most_waiters most_ended;
       coming = record { keys = [] };
       again = record { rank = Woken; counts = true; alone = false };
+      feed = no_groups next_group;
+      news = [];
     }
 
 -- a script that a core over these declarations takes
@@ -69,11 +83,30 @@ pub record IsBatch (a : Admission) (tickets : List ℕ) : Type 0 where
 abbrev pub is_in_batch : Admission → ℕ → Bool
 is_in_batch a ticket = contains nat_cmp a.coming ticket || is_stationed Batch (waiter_of a.list ticket)
 
+-- the groups of the feed tell all that committed, up to the settled tables; and nobody else is to be told
+pub record IsAllTold (a : Admission) : Type 0 where
+  pub commits : IsToldTo a.epoch.telling a.epoch.core
+  pub endings : a.news ≡ []
+
 -- no batch is on: nobody is to come, nobody is submitted, no run is on, and nobody waits in the core
-pub record IsAtRest (a : Admission) : Type 0 where
+pub record IsOver (a : Admission) : Type 0 where
   pub coming : (ticket : ℕ) → contains nat_cmp a.coming ticket ≡ false
   pub closes : CanClose a.epoch.core
   pub idle : (ticket : ℕ) → is_stationed Batch (waiter_of a.list ticket) ≡ false
+
+-- no batch is on, and all is told
+pub record IsAtRest (a : Admission) : Type 0 where
+  pub over : IsOver a
+  pub told : IsAllTold a
+
+-- how many groups tell who ended otherwise
+abbrev pub endings_due : List EndedTicket → ℕ
+endings_due [] = 0
+endings_due (first ∷ more) = 1
+
+-- the groups of all that isn't told need more numbers than there are
+abbrev pub LacksNumbers : Admission → Type 0
+LacksNumbers a = 2 ^ 64 ≤ a.feed.next + groups_due a.epoch.telling + endings_due a.news
 
 -- ---- what an admission keeps
 

@@ -1,3 +1,4 @@
 pub mod Admission
 pub mod Moves
+pub mod Groups
 pub mod Acts

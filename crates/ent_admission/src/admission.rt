@@ -2,10 +2,11 @@
 ghost use Rattle.std.specs.Prelude.{◌≡◌, false, true};
 ghost use Rattle.ent_value.specs.Refusal.{Gives};
 ghost use Rattle.ent_form.specs.OpeningFault.{opening_fault, unless};
-ghost use Rattle.ent_admission.specs.Admission.{IsAtRest, IsIndexed, fresh, is_in_batch};
+ghost use Rattle.ent_admission.specs.Admission.{IsAllTold, IsAtRest, IsIndexed, fresh, is_in_batch};
 
 use crate::batch::Again;
 use ent_epoch::Epoch;
+use ent_feed::{EndedTicket, Feed};
 use ent_form::FormFault;
 use ent_meetings::Index;
 use ent_tree::Opening;
@@ -15,8 +16,9 @@ use std::alloc::Global;
 use std::collections::BTreeSet;
 use std::marker::Model;
 
-/// Who waits, the present epoch, and the batch that is on. Contracts see the list, the epoch, who of
-/// the batch wasn't submitted yet, and how those of it wait again who have no fate.
+/// Who waits, the present epoch, the batch that is on, and the groups that tell what came of those before. Contracts see
+/// the list, the epoch, who of the batch wasn't submitted yet, how those of it wait again who have no fate, the feed, and
+/// who ended otherwise than by a commit and isn't told yet.
 #[derive(Drop)]
 pub struct Admission {
     pub(crate) alloc: Global,
@@ -25,6 +27,8 @@ pub struct Admission {
     pub(crate) index: Index,
     pub(crate) coming: BTreeSet<u64>,
     pub(crate) again: Again,
+    pub(crate) feed: Feed,
+    pub(crate) news: Vec<EndedTicket>,
 }
 
 impl Model for Admission {
@@ -41,6 +45,8 @@ impl Model for Admission {
       list = a.list;
       coming = a.coming;
       again = a.again;
+      feed = a.feed;
+      news = a.news.items;
     } };
 
     ghost invariant = { λ a. IsKept (record {
@@ -48,21 +54,25 @@ impl Model for Admission {
       list = a.list;
       coming = a.coming;
       again = a.again;
+      feed = a.feed;
+      news = a.news.items;
     }) a.index };
 }
 
 impl Admission {
     /// An epoch of this number over an opening, before which nobody waits; or the opening's first fault of form. The
-    /// first script that is put gets the ticket `next`; those below it are of an earlier process.
+    /// first script that is put gets the ticket `next`, and the first group of the feed the number `next_group`; those
+    /// below them are of an earlier process.
     pub fn open(
         alloc: Global,
         opening: Opening,
         number: u64,
         next: Ticket,
+        next_group: u64,
         limits: Limits,
     ) -> Result<Self, Refusal<FormFault>>
-        ensures { Gives (λ admission. admission) result
-            (unless (opening_fault opening) (fresh number opening next limits.most_waiters limits.most_ended)) }
+        ensures { Gives (λ admission. admission) result (unless (opening_fault opening)
+            (fresh number opening next next_group limits.most_waiters limits.most_ended)) }
     {
         let epoch = Epoch::open(alloc, number, opening)?;
         Ok(Admission {
@@ -76,6 +86,8 @@ impl Admission {
                 counts: true,
                 alone: false,
             },
+            feed: Feed::new(alloc, next_group),
+            news: Vec::new(alloc),
         })
     }
 
@@ -100,7 +112,19 @@ impl Admission {
         &self.index
     }
 
-    /// Whether no batch is on. One stays on only where memory ran out in its midst.
+    /// Whether all that committed is told, and who ended otherwise.
+    fn is_all_told(&self) -> bool
+        ensures told { result ≡ true → IsAllTold self.now }
+        ensures untold { result ≡ false → ¬ IsAllTold self.now }
+    {
+        if !self.epoch.is_told() {
+            return false;
+        }
+        self.news.is_empty()
+    }
+
+    /// Whether no batch is on, and all is told. One stays on only where memory ran out in its midst, or where the feed
+    /// has no number left.
     pub fn is_at_rest(&self) -> bool
         ensures at_rest { result ≡ true → IsAtRest self.now }
         ensures busy { result ≡ false → ¬ IsAtRest self.now }
@@ -112,7 +136,10 @@ impl Admission {
         if let Some(_ticket) = self.list.first_from(station, Ticket::new(0)) {
             return false;
         }
-        self.epoch.is_over()
+        if !self.epoch.is_over() {
+            return false;
+        }
+        self.is_all_told()
     }
 
     /// Whether the script of a ticket is of the batch that is on, be it submitted or not.

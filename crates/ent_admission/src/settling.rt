@@ -1,21 +1,27 @@
 //! A batch is over, and those of it end or wait again.
-ghost use Rattle.std.specs.Prelude.{◌≡◌, ◌<◌, ℕ, IsSome, None, OnErr, OnOk, Some, false, true};
+ghost use Rattle.std.specs.Prelude.{◌≡◌, ◌<◌, ◌++◌, ℕ, IfErr, IsSome, None, OnErr, OnOk, Some, false, true};
+ghost use Rattle.std.specs.Prelude.{vec_capacity, vec_len};
 ghost use Rattle.std.specs.BTreeMap.{is_at};
 ghost use Rattle.std.specs.BTreeSet.{contains};
 ghost use Rattle.std.specs.Ordering.{nat_cmp};
 ghost use Rattle.ent_protocol.specs.Reached.{CanClose};
 ghost use Rattle.ent_admission.specs.Acts.{Advances};
-ghost use Rattle.ent_admission.specs.Admission.{IsAtRest};
-ghost use Rattle.ent_admission.specs.Moves.{Goes, Runs, Settles, WaitsAgain, ending_with, submission_at};
+ghost use Rattle.ent_admission.specs.Admission.{IsAtRest, IsOver, LacksNumbers};
+ghost use Rattle.ent_admission.specs.Moves.{Goes, Runs, Settles, WaitsAgain, ended_with, ending_with, news_of, other_ending};
+ghost use Rattle.ent_admission.specs.Moves.{submission_at};
 ghost use Rattle.ent_meetings.specs.Waiting.{ChangesAt};
+ghost use Rattle.ent_value.specs.declared.refusal.Refusal.TheVariants.{Fault};
 ghost use Rattle.ent_waiting.specs.WaitingList.{IsSubmitted, Onward, UpdatesAt, ending_as, is_stationed, waiter_of};
+ghost use Rattle.ent_waiting.specs.declared.ended.Ending.TheVariants.{GaveUp};
 ghost use Rattle.ent_waiting.specs.declared.waiter.Waiter.{Waiter as WaiterSeen};
 ghost use Rattle.ent_waiting.specs.declared.queues.Station.TheVariants.{Batch};
 
 use crate::admission::Admission;
 use crate::batch::Again;
+use ent_feed::{EndedTicket, NoNumber, OtherEnding};
 use ent_meetings::Index;
 use ent_semantics::Fate;
+use ent_value::Refusal;
 use ent_waiting::{Ending, Place, Station, Submission, Ticket, WaitingList};
 use std::alloc::AllocError;
 
@@ -34,13 +40,40 @@ fn ending_of(submission: Submission, fate: Option<Fate>) -> Option<Ending>
     }
 }
 
-/// Who waits no more under a ticket goes from the index too.
-fn keep_up(index: &mut Index, list: &WaitingList, ticket: Ticket)
+/// An ending that no commit tells.
+fn other_ending(ending: Ending) -> Option<OtherEnding>
+    ensures { result ≡ other_ending ending }
+{
+    match ending {
+        Ending::RolledBack => Some(OtherEnding::RolledBack),
+        Ending::Failed(failure) => Some(OtherEnding::Failed(failure)),
+        Ending::GaveUp => Some(OtherEnding::GaveUp),
+        Ending::Committed { .. } | Ending::Withdrawn => None,
+    }
+}
+
+/// Notes how a ticket ended, where no commit tells it.
+fn note(news: &mut Vec<EndedTicket>, ticket: Ticket, ending: Ending)
+    requires room { vec_len news.old < vec_capacity news.old }
+    ensures { news.new.items ≡ news.old.items ++ news_of ticket (Some ending) }
+{
+    if let Some(ending) = other_ending(ending) {
+        news.push_reserved(EndedTicket { ticket, ending });
+    }
+}
+
+/// Who waits no more under a ticket goes from the index too, and is noted: it gave up.
+fn keep_up(index: &mut Index, news: &mut Vec<EndedTicket>, list: &WaitingList, ticket: Ticket)
+    requires room { vec_len news.old < vec_capacity news.old }
     ensures gone { waiter_of list.now ticket ≡ None → ChangesAt ticket None index.old index.new }
     ensures stays { IsSome (waiter_of list.now ticket) → index.new ≡ index.old }
+    ensures noted { waiter_of list.now ticket ≡ None
+        → news.new.items ≡ news.old.items ++ news_of ticket (Some GaveUp) }
+    ensures not_noted { IsSome (waiter_of list.now ticket) → news.new.items ≡ news.old.items }
 {
     if list.waiter(ticket).is_none() {
         index.remove(ticket.number());
+        note(news, ticket, Ending::GaveUp);
     }
 }
 
@@ -77,14 +110,19 @@ impl Admission {
             → waiter_of self.old.list ticket ≡ Some waiter
             → self.new.list ≡ ending_as ticket ending true waiter self.old.list) }
         ensures updates { OnOk result (UpdatesAt ticket None self.old.list.waiters self.new.list.waiters) }
+        ensures news { OnOk result (self.new.news ≡ self.old.news ++ news_of ticket (Some ending)) }
         ensures epoch { self.new.epoch ≡ self.old.epoch }
         ensures coming { self.new.coming ≡ self.old.coming }
         ensures again { self.new.again ≡ self.old.again }
+        ensures feed { self.new.feed ≡ self.old.feed }
         ensures err { OnErr result (self.new ≡ self.old) }
         ensures onward { Onward self.old.list self.new.list }
     {
-        self.list.end(Ticket::new(ticket), ending)?;
+        self.news.reserve(1)?;
+        let own = Ticket::new(ticket);
+        self.list.end(own, ending)?;
         self.index.remove(ticket);
+        note(&mut self.news, own, ending);
         Ok(())
     }
 
@@ -96,9 +134,13 @@ impl Admission {
         ensures ok { OnOk result ((waiter : WaiterSeen)
             → waiter_of self.old.list ticket ≡ Some waiter
             → WaitsAgain self.old.again ticket waiter self.old.list self.new.list) }
+        ensures news { OnOk result ((waiter : WaiterSeen)
+            → waiter_of self.old.list ticket ≡ Some waiter
+            → self.new.news ≡ self.old.news ++ news_of ticket (ended_with None self.old.again waiter)) }
         ensures epoch { self.new.epoch ≡ self.old.epoch }
         ensures coming { self.new.coming ≡ self.old.coming }
         ensures again { self.new.again ≡ self.old.again }
+        ensures feed { self.new.feed ≡ self.old.feed }
         ensures err { OnErr result (self.new ≡ self.old) }
         ensures onward { Onward self.old.list self.new.list }
     {
@@ -108,8 +150,9 @@ impl Admission {
             counts,
             alone,
         } = self.again;
+        self.news.reserve(1)?;
         self.list.wait_again(own, rank, counts, alone)?;
-        keep_up(&mut self.index, &self.list, own);
+        keep_up(&mut self.index, &mut self.news, &self.list, own);
         Ok(())
     }
 
@@ -126,6 +169,7 @@ impl Admission {
         ensures epoch { self.new.epoch ≡ self.old.epoch }
         ensures coming { self.new.coming ≡ self.old.coming }
         ensures again { self.new.again ≡ self.old.again }
+        ensures feed { self.new.feed ≡ self.old.feed }
         ensures err { OnErr result (self.new ≡ self.old) }
         ensures opening { self.new.epoch.core.opening ≡ self.old.epoch.core.opening }
         ensures onward { Onward self.old.list self.new.list }
@@ -146,7 +190,7 @@ impl Admission {
         requires over { CanClose self.old.epoch.core }
         requires all_in { (ticket : ℕ) → contains nat_cmp self.old.coming ticket ≡ false }
         ensures goes { Goes self.old self.new }
-        ensures ok { OnOk result (IsAtRest self.new) }
+        ensures over { OnOk result (IsOver self.new) }
         ensures opening { self.new.epoch.core.opening ≡ self.old.epoch.core.opening }
         ensures onward { Onward self.old.list self.new.list }
     {
@@ -158,19 +202,34 @@ impl Admission {
         Ok(())
     }
 
-    /// Goes on with the batch to its end: all of it are submitted, their run is made, and each of them ends or waits
-    /// again. Where no batch is on nothing happens. Where memory runs out what was done stands, and the next call goes on
-    /// there.
-    pub fn go_on(&mut self) -> Result<(), AllocError>
+    /// Goes on with the batch to its end, up to what is told of it: all of it are submitted, their run is made, and each
+    /// of them ends or waits again. Where memory runs out, what was done stands.
+    fn finish(&mut self) -> Result<(), AllocError>
         ensures goes { Goes self.old self.new }
-        ensures ok { OnOk result (IsAtRest self.new) }
-        ensures advances { Advances self.old self.new }
+        ensures over { OnOk result (IsOver self.new) }
         ensures opening { self.new.epoch.core.opening ≡ self.old.epoch.core.opening }
         ensures onward { Onward self.old.list self.new.list }
     {
         self.enter_all()?;
         self.run()?;
         self.settle_all()?;
+        Ok(())
+    }
+
+    /// Goes on with the batch to its end: all of it are submitted, their run is made, and each of them ends or waits
+    /// again. The feed then tells it: each group that committed, and behind them, in one group, who ended otherwise.
+    /// Where no batch is on and all is told nothing happens. Where memory runs out, or the feed has no number left, what
+    /// was done stands, and the next call goes on there.
+    pub fn go_on(&mut self) -> Result<(), Refusal<NoNumber>>
+        ensures goes { Goes self.old self.new }
+        ensures ok { OnOk result (IsAtRest self.new) }
+        ensures advances { Advances self.old self.new }
+        ensures opening { self.new.epoch.core.opening ≡ self.old.epoch.core.opening }
+        ensures onward { Onward self.old.list self.new.list }
+        ensures no_number { IfErr result (λ refusal. refusal ≡ Fault (record {}) → LacksNumbers self.new) }
+    {
+        self.finish()?;
+        self.tell()?;
         Ok(())
     }
 }

@@ -30,6 +30,8 @@ impl Admission {
         ensures list { self.new.list ≡ self.old.list }
         ensures coming { self.new.coming ≡ self.old.coming }
         ensures again { self.new.again ≡ self.old.again }
+        ensures feed { self.new.feed ≡ self.old.feed }
+        ensures news { self.new.news ≡ self.old.news }
         ensures advances { Advances self.old self.new }
         ensures err { OnErr result (self.new ≡ self.old) }
         ensures busy { IfErr result (λ refusal. refusal ≡ Fault Busy → ¬ IsAtRest self.old) }

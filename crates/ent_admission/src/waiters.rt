@@ -37,6 +37,8 @@ impl Admission {
         ensures epoch { self.new.epoch ≡ self.old.epoch }
         ensures coming { self.new.coming ≡ self.old.coming }
         ensures again { self.new.again ≡ self.old.again }
+        ensures feed { self.new.feed ≡ self.old.feed }
+        ensures news { self.new.news ≡ self.old.news }
         ensures err { OnErr result (self.new ≡ self.old) }
         ensures full { IfErr result (λ refusal. (fault : FullSeen) → refusal ≡ Fault fault → IsFull self.old.list) }
         ensures onward { Onward self.old.list self.new.list }
@@ -70,6 +72,8 @@ impl Admission {
         ensures epoch { self.new.epoch ≡ self.old.epoch }
         ensures coming { self.new.coming ≡ self.old.coming }
         ensures again { self.new.again ≡ self.old.again }
+        ensures feed { self.new.feed ≡ self.old.feed }
+        ensures news { self.new.news ≡ self.old.news }
         ensures err { OnErr result (self.new ≡ self.old) }
         ensures full { IfErr result (λ refusal. refusal ≡ Fault NoRoom → IsFull self.old.list) }
         ensures used { IfErr result (λ refusal. refusal ≡ Fault Used → ¬ MayComeBack self.old.list ticket) }
@@ -100,6 +104,8 @@ impl Admission {
         ensures epoch { self.new.epoch ≡ self.old.epoch }
         ensures coming { self.new.coming ≡ self.old.coming }
         ensures again { self.new.again ≡ self.old.again }
+        ensures feed { self.new.feed ≡ self.old.feed }
+        ensures news { self.new.news ≡ self.old.news }
         ensures err { OnErr result (self.new ≡ self.old) }
         ensures absent { IfErr result (λ refusal. refusal ≡ Fault Absent → waiter_of self.old.list ticket ≡ None) }
         ensures in_batch { IfErr result (λ refusal. refusal ≡ Fault InBatch

@@ -25,14 +25,14 @@ use Rattle.ent_text.specs.declared.token.TokenKind.TheVariants.{Number}
 use Rattle.ent_semantics.specs.Database.{Database, Environment, Name, Rows}
 use Rattle.ent_semantics.specs.Entangled.{Valuation, is_grounding, written_variables}
 use Rattle.ent_semantics.specs.Term.{no_value}
-use Rattle.ent_closed.specs.Closing.{membership_over, term_over}
-use Rattle.ent_closed.specs.Form.{is_form_grounding, known_worth, membership_holds, term_worth}
-use Rattle.ent_closed.specs.declared.entangled.Entangled.{Entangled}
-use Rattle.ent_closed.specs.declared.entangled.Membership.{Membership}
-use Rattle.ent_closed.specs.declared.entangled.Term.{Term}
-use Rattle.ent_closed.specs.declared.entangled.Term.TheVariants as terms
-use Rattle.ent_closed.specs.declared.operand.Known.{Known}
-use Rattle.ent_closed.specs.declared.statement.Statement.TheVariants as forms
+use Rattle.ent_semantics.specs.Closing.{membership_over, term_over}
+use Rattle.ent_semantics.specs.Form.{is_form_grounding, known_worth, membership_holds, term_worth}
+use Rattle.ent_semantics.specs.declared.entangled.Entangled.{Entangled}
+use Rattle.ent_semantics.specs.declared.entangled.Membership.{Membership}
+use Rattle.ent_semantics.specs.declared.entangled.Term.{Term}
+use Rattle.ent_semantics.specs.declared.entangled.Term.TheVariants as terms
+use Rattle.ent_semantics.specs.declared.operand.Known.{Known}
+use Rattle.ent_semantics.specs.declared.statement.Statement.TheVariants as forms
 use Rattle.ent_form.specs.Catalogue.{schemas_of}
 use Rattle.ent_form.specs.Entangled.{entangled_in, heads_from, members_from, membership_in, memberships_from, no_offer}
 use Rattle.ent_form.specs.Entangled.{offer_from, others_from, variables_of}

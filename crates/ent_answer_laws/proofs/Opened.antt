@@ -3,7 +3,7 @@ use Rattle.std.proofs.Common.{◌≡◌, true, false, List, [], map, sym, ap, su
 use Rattle.std.proofs.Common.{None}
 use Rattle.std.specs.List.{filter}
 use Rattle.std.proofs.lemmas.List.{length-map}
-use Rattle.ent_set.specs.Sets as set
+use Rattle.ent_lists.specs.Sets as set
 use Rattle.ent_value.specs.Value.{kinds_of, row_cmp}
 use Rattle.ent_value.specs.declared.value.Value.{Value}
 use Rattle.ent_tree.specs.declared.declaration.Column.{Column}
@@ -18,7 +18,7 @@ use Rattle.ent_form_laws.proofs.Steps.{nothing_first}
 use Rattle.ent_rules.specs.Formed.{is_declared}
 use Rattle.ent_lists.specs.Elements.{In, any_in, clash, contains_in, filter_empty, in_flat, index_pairs, not_so}
 use Rattle.ent_lists.specs.Elements.{of_all, of_map, shorter}
-use Rattle.ent_set.specs.Laws.{len-from_list}
+use Rattle.ent_lists.specs.Laws.{len-from_list}
 use Rattle.ent_value.specs.Order.{exact_rows, rows_total}
 use Rattle.ent_semantics.specs.Database.{Name, opening_database, row_of, same_name, rows_named}
 use Rattle.ent_semantics.proofs.EachRow.{each_listed}

@@ -1,9 +1,9 @@
 -- Sets of rows, in order and counted.
 use Rattle.std.proofs.Common.{◌≡◌, ◌≤◌, Bool, List, sym, ap, ◌∙◌, arith}
 use Rattle.std.specs.List.{filter}
-use Rattle.ent_set.specs.Sets as set
-use Rattle.ent_set.specs.Laws.{from_list-ascending, len-from_list}
-use Rattle.ent_set.specs.Laws.{from_list-filter}
+use Rattle.ent_lists.specs.Sets as set
+use Rattle.ent_lists.specs.Laws.{from_list-ascending, len-from_list}
+use Rattle.ent_lists.specs.Laws.{from_list-filter}
 use Rattle.ent_value.specs.Order.{exact_rows, rows_total}
 use Rattle.ent_value.specs.Value.{row_cmp}
 use Rattle.ent_value.specs.declared.value.Value.{Value}

@@ -3,13 +3,13 @@ use Rattle.std.proofs.Common.{◌≡◌, ◌≤◌, Bool, true, false, ◌||◌,
 use Rattle.std.proofs.Common.{◌∙◌, arith, inl, inr, None}
 use Rattle.std.specs.Prelude.{if◌then◌else◌}
 use Rattle.std.proofs.lemmas.List.{length-map}
-use Rattle.ent_set.specs.Sets as set
-use Rattle.ent_set.specs.Laws.{contains-empty, len-empty}
+use Rattle.ent_lists.specs.Sets as set
+use Rattle.ent_lists.specs.Laws.{contains-empty, len-empty}
 use Rattle.ent_value.specs.Value.{row_cmp}
 use Rattle.ent_value.specs.declared.value.Value.{Value}
 use Rattle.ent_tree.specs.declared.declaration.Column.{Column}
 use Rattle.ent_tree.specs.declared.declaration.Create.{Create}
-use Rattle.ent_closed.specs.Form.{Tables}
+use Rattle.ent_semantics.specs.Form.{Tables}
 use Rattle.ent_semantics.specs.Database.{Database, Name, Rows, columns_of, same_name}
 use Rattle.ent_semantics.specs.Names.{equal_names}
 use Rattle.ent_form.specs.Catalogue.{schemas_of}

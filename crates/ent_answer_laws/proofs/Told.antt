@@ -1,7 +1,7 @@
 -- Members and tables that a report shows.
 use Rattle.std.proofs.Common.{◌≡◌, ◌≤◌, List, [], ◌∷◌, map, length, refl, sym, ap, subst, ◌∙◌, arith, inl, inr}
 use Rattle.std.proofs.Common.{Contains, Option, Some, Ok, Result}
-use Rattle.ent_set.specs.Sets as set
+use Rattle.ent_lists.specs.Sets as set
 use Rattle.ent_value.specs.Value.{kinds_of}
 use Rattle.ent_value.specs.declared.value.Value.{Value}
 use Rattle.ent_tree.specs.declared.declaration.Column.{Column}
@@ -13,8 +13,8 @@ use Rattle.ent_semantics.specs.Database.{Database, Name}
 use Rattle.ent_semantics.specs.Entangled.{written_variables}
 use Rattle.ent_semantics.specs.Joint.{member_of}
 use Rattle.ent_semantics.specs.Serial.{ReadView, Turn, numbered}
-use Rattle.ent_closed.specs.declared.operand.Known.{Known}
-use Rattle.ent_closed.specs.declared.statement.Statement.{Statement}
+use Rattle.ent_semantics.specs.declared.operand.Known.{Known}
+use Rattle.ent_semantics.specs.declared.statement.Statement.{Statement}
 use Rattle.ent_form.specs.Catalogue.{schemas_of}
 use Rattle.ent_form.specs.Form.{script_in}
 use Rattle.ent_form.specs.declared.fault.FormFault.{FormFault}

@@ -1,7 +1,7 @@
 -- Tables and host variables whose values can be told.
 use Rattle.std.specs.Prelude.{◌≡◌, ◌≤◌, true, false, Contains, List, Some, map}
 use Rattle.std.specs.List.{AllByRecursion}
-use Rattle.ent_set.specs.Sets as set
+use Rattle.ent_lists.specs.Sets as set
 use Rattle.ent_value.specs.Value.{kinds_of}
 use Rattle.ent_value.specs.declared.limits.TheConstants.{MOST_ROWS}
 use Rattle.ent_value.specs.declared.value.Value.{Value}
@@ -9,8 +9,8 @@ use Rattle.ent_tree.specs.declared.declaration.Create.{Create}
 use Rattle.ent_tree.specs.declared.script.Statement.{Statement as TreeStatement}
 use Rattle.ent_semantics.specs.Database.{Database, Environment, Name}
 use Rattle.ent_semantics.specs.Entangled.{Valuation}
-use Rattle.ent_closed.specs.declared.operand.Known.{Known}
-use Rattle.ent_closed.specs.declared.statement.Statement.{Statement}
+use Rattle.ent_semantics.specs.declared.operand.Known.{Known}
+use Rattle.ent_semantics.specs.declared.statement.Statement.{Statement}
 use Rattle.ent_form.specs.Kinds.{Bound}
 use Rattle.ent_form_laws.specs.Kinds.{AnswersInKind, HasKinds}
 use Rattle.ent_form_laws.specs.Tables.{Answers}

@@ -6,12 +6,12 @@ use Rattle.ent_tree.specs.declared.script.Script.{Script}
 use Rattle.ent_tree.specs.declared.select.Select.{Select as TreeSelect}
 use Rattle.ent_semantics.specs.Database.{Environment}
 use Rattle.ent_semantics.specs.Selection.{select_rows}
-use Rattle.ent_closed.specs.Closing.{closed_entangled}
-use Rattle.ent_closed.specs.Form.{Tables, form_rows, known_worth}
-use Rattle.ent_closed.specs.declared.entangled.Entangled.{Entangled}
-use Rattle.ent_closed.specs.declared.operand.Known.{Known}
-use Rattle.ent_closed.specs.declared.statement.Select.{Select}
-use Rattle.ent_closed.specs.declared.statement.Statement.TheVariants as statements
+use Rattle.ent_semantics.specs.Closing.{closed_entangled}
+use Rattle.ent_semantics.specs.Form.{Tables, form_rows, known_worth}
+use Rattle.ent_semantics.specs.declared.entangled.Entangled.{Entangled}
+use Rattle.ent_semantics.specs.declared.operand.Known.{Known}
+use Rattle.ent_semantics.specs.declared.statement.Select.{Select}
+use Rattle.ent_semantics.specs.declared.statement.Statement.TheVariants as statements
 use Rattle.ent_form.specs.AllFaults.{fault_of, head_of}
 use Rattle.ent_form.specs.Catalogue.{schemas_of}
 use Rattle.ent_form.specs.Form.{script_in}

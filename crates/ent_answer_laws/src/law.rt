@@ -5,10 +5,10 @@ ghost use Rattle.ent_answer_laws.specs.Answered.{AreGrounded, CanBeCounted, CanR
 ghost use Rattle.ent_answer_laws.specs.Held.{CanAnswer, HoldsRowsOf, HoldsValuesOf};
 ghost use Rattle.ent_answer_laws.specs.Laws.{Laws};
 ghost use Rattle.ent_answer_laws.specs.Runs.{ReadViewsAreTold, RunsAreAnswered, RunsHoldRows};
-ghost use Rattle.ent_closed.specs.declared.entangled.Entangled.{Entangled};
-ghost use Rattle.ent_closed.specs.declared.operand.Known.{Known};
-ghost use Rattle.ent_closed.specs.declared.statement.Statement.{Statement};
-ghost use Rattle.ent_closed.specs.declared.statement.Statement.TheVariants as forms;
+ghost use Rattle.ent_semantics.specs.declared.entangled.Entangled.{Entangled};
+ghost use Rattle.ent_semantics.specs.declared.operand.Known.{Known};
+ghost use Rattle.ent_semantics.specs.declared.statement.Statement.{Statement};
+ghost use Rattle.ent_semantics.specs.declared.statement.Statement.TheVariants as forms;
 ghost use Rattle.ent_form.specs.Catalogue.{schemas_of};
 ghost use Rattle.ent_form.specs.Entangled.{entangled_in};
 ghost use Rattle.ent_form.specs.Form.{script_in, statement_in};
@@ -26,7 +26,7 @@ ghost use Rattle.ent_semantics.specs.Effect.{Effect};
 ghost use Rattle.ent_semantics.specs.Entangled.{Valuation, is_grounding};
 ghost use Rattle.ent_semantics.specs.Serial.{Run, Turn, script_run, script_read_views};
 ghost use Rattle.ent_semantics.specs.Statement.{statement_meaning};
-ghost use Rattle.ent_set.specs.Sets as set;
+ghost use Rattle.ent_lists.specs.Sets as set;
 ghost use Rattle.ent_tree.specs.declared.declaration.Create.{Create};
 ghost use Rattle.ent_tree.specs.declared.declaration.Opening.{Opening};
 ghost use Rattle.ent_tree.specs.declared.entangled.Entangled.{Entangled as TreeEntangled};
@@ -35,7 +35,6 @@ ghost use Rattle.ent_tree.specs.declared.script.Statement.{Statement as TreeStat
 ghost use Rattle.ent_tree.specs.declared.script.Statement.TheVariants as trees;
 ghost use Rattle.ent_value.specs.declared.limits.TheConstants.{MOST_ROWS};
 
-use ent_closed::closing_keeps_the_meaning;
 use ent_form_laws::{
     declared_columns_are_distinct, effects_keep_kinds, first_fault_is_first,
     groundings_are_of_their_kinds, kinded_tables_are_wide, resolved_grounds_the_same,
@@ -43,6 +42,7 @@ use ent_form_laws::{
     resolved_statements_fit, variables_are_the_written_ones,
 };
 use ent_offer_laws::resolved_variables_are_ranged;
+use ent_semantics::closing_keeps_the_meaning;
 
 /// What a statement means, its form does; and that keeps kinds.
 pub(crate) fn forms_run_as_statements()

@@ -1,7 +1,7 @@
 -- The tables of a book, as the database that they are.
 use Rattle.std.specs.Prelude.{List, [], ◌∷◌, if◌then◌else◌}
 use Rattle.std.specs.Arc.{arc_value}
-use Rattle.ent_set.specs.Sets as set
+use Rattle.ent_lists.specs.Sets as set
 use Rattle.ent_semantics.specs.declared.book.Book.{Book}
 use Rattle.ent_semantics.specs.Database.{Database, same_name}
 use Rattle.ent_book.specs.declared.table.NamedTable.{NamedTable}

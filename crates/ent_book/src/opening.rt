@@ -1,6 +1,6 @@
 //! The text of an opening: tables as they are at first.
 ghost use Rattle.std.specs.Prelude.{◌≡◌, ◌++◌, IfOk, OnOk, length};
-ghost use Rattle.ent_set.specs.Sets as set;
+ghost use Rattle.ent_lists.specs.Sets as set;
 ghost use Rattle.ent_semantics.specs.Database.{opening_database};
 ghost use Rattle.ent_book.specs.Report.{rows_text};
 ghost use Rattle.ent_book.specs.Report2.{column_text, columns_text, declared_columns, kind_text, more_columns_text};

@@ -1,6 +1,6 @@
 //! The tables of a book, and their text.
 ghost use Rattle.std.specs.Prelude.{◌≡◌, ◌++◌, IfOk, MatchOption, OnErr, OnOk};
-ghost use Rattle.ent_set.specs.Sets as set;
+ghost use Rattle.ent_lists.specs.Sets as set;
 ghost use Rattle.ent_book.specs.Report.{names_by_bytes, table_text, tables_text};
 ghost use Rattle.ent_book.specs.Tables.{tables_database};
 

@@ -26,26 +26,11 @@ pub(crate) const CLIENTS: [(&str, &str); 4] = [
 fn seated<L: Naming>(alloc: Global, sessions: Vec<Session<L>>) -> Option<Vec<Client<L>>> {
     let mut clients = Vec::new(alloc);
     for (place, session) in sessions.into_iter().enumerate() {
-        let (name, wish) = *CLIENTS.get(place)?;
-        clients
-            .push(Client {
-                name,
-                wish,
-                session,
-            })
-            .ok()?;
+        let (_, wish) = *CLIENTS.get(place)?;
+        let scripts = parse_input(alloc, wish).ok()?.scripts.into_vec();
+        clients.push(Client { scripts, session }).ok()?;
     }
     Some(clients)
-}
-
-/// The sessions of clients, in order.
-fn sessions_of<L: Naming>(alloc: Global, clients: Vec<Client<L>>) -> Option<Vec<Session<L>>> {
-    let mut sessions = Vec::new(alloc);
-    for client in clients {
-        let Client { session, .. } = client;
-        sessions.push(session).ok()?;
-    }
-    Some(sessions)
 }
 
 /// Four clients book at once, each in a thread of its own, and the manager is closed: the report. Nobody works before
@@ -65,16 +50,15 @@ fn report_of<L: Naming + Send + Sync, R: Threads + Wait + Sync>(
         .context("the opening can't be read")?;
     let opened = Manager::<L, Open>::open(alloc, blank, input, Open, 4).ok();
     let (manager, sessions) = opened.context("the manager can't be opened")?;
-    let clients = seated(alloc, sessions).context("out of memory")?;
+    let clients = seated(alloc, sessions).context("the clients' scripts can't be read")?;
     let shared = &manager;
-    let submit = |client: Client<L>| -> Client<L> { submit_all(rt, alloc, shared, client) };
-    let clients = thread::map_vec(rt, clients, &submit)?;
-    let work = |client: Client<L>| -> Client<L> { work_on(rt, shared, client) };
-    let mut clients = thread::map_vec(rt, clients, &work)?;
-    if let Some(first) = clients.first_mut() {
+    let submit = |client: Client<L>| -> Session<L> { submit_all(rt, shared, client) };
+    let sessions = thread::map_vec(rt, clients, &submit)?;
+    let work = |session: Session<L>| -> Session<L> { work_on(rt, shared, session) };
+    let mut sessions = thread::map_vec(rt, sessions, &work)?;
+    if let Some(first) = sessions.first_mut() {
         work_out(rt, shared, first);
     }
-    let sessions = sessions_of(alloc, clients).context("out of memory")?;
     let (book, sessions) = manager
         .close(sessions)
         .ok()

@@ -10,3 +10,4 @@ pub mod Rooms
 pub mod Looks
 pub mod Bound
 pub mod Given
+pub mod Feeds

@@ -118,11 +118,11 @@ IsNoRoom bytes rows next limits fault =
 
 -- a handle that was null has a room over the input and these rows, or it is told why not; one that wasn't null is
 -- misused
-abbrev pub OpensRoom : List ℕ → List GivenRow → ℕ → ℕ → Limits → Held → Held → Type 0 → ℕ → Told → ℤ → Type 0
-OpensRoom bytes rows number next limits (Some room) new Same refusal told status =
+abbrev pub OpensRoom : List ℕ → List GivenRow → ℕ → ℕ → ℕ → Limits → Held → Held → Type 0 → ℕ → Told → ℤ → Type 0
+OpensRoom bytes rows number next next_group limits (Some room) new Same refusal told status =
     IsMisused (Some room) new status Same
-OpensRoom bytes rows number next limits None new Same refusal told status =
-    ((room : Room) × Opens bytes rows number next limits room × (new ≡ Some room) × (told ≡ told_of_text 0)
+OpensRoom bytes rows number next next_group limits None new Same refusal told status =
+    ((room : Room) × Opens bytes rows number next next_group limits room × (new ≡ Some room) × (told ≡ told_of_text 0)
     × TellsDone refusal status)
     ⊎ ((fault : RoomFault) × IsNoRoom bytes rows next limits fault × (new ≡ None) × TellsRoom fault bytes told
     × TellsNumber fault refusal status)
@@ -140,6 +140,7 @@ Puts bytes variables stay old ticket new =
     (ticket ≡ old.admission.list.next)
     × putting.Puts old.admission bytes variables stay new.admission.list
     × (new.admission.epoch ≡ old.admission.epoch) × (new.admission.coming ≡ old.admission.coming)
+    × (new.admission.feed ≡ old.admission.feed) × (new.admission.news ≡ old.admission.news)
     × (new.last ≡ old.last) × Onward old.admission.list new.admission.list
 
 -- the text, the values or the form has this first fault, or there is no room for one more; or memory ran out
@@ -162,6 +163,7 @@ PutsBack ticket bytes variables stay batches old new =
     ¬ IsUsed old.admission.list ticket
     × putting.Restores old.admission ticket bytes variables stay batches new.admission.list
     × (new.admission.epoch ≡ old.admission.epoch) × (new.admission.coming ≡ old.admission.coming)
+    × (new.admission.feed ≡ old.admission.feed) × (new.admission.news ≡ old.admission.news)
     × (new.last ≡ old.last) × Onward old.admission.list new.admission.list
 
 -- the same, or the ticket can't come back
@@ -187,6 +189,7 @@ Withdraws ticket old new =
     → new.admission.list ≡ ending_as ticket Withdrawn false waiter old.admission.list)
     × (waiter_of new.admission.list ticket ≡ None)
     × (new.admission.epoch ≡ old.admission.epoch) × (new.admission.coming ≡ old.admission.coming)
+    × (new.admission.feed ≡ old.admission.feed) × (new.admission.news ≡ old.admission.news)
     × (new.last ≡ old.last) × Onward old.admission.list new.admission.list
 
 -- nobody waits under the ticket, or it is in a batch; or memory ran out

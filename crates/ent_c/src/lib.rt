@@ -20,6 +20,7 @@ mod moving;
 mod position;
 mod report;
 mod room;
+mod room_feed;
 mod room_handle;
 mod room_look;
 mod room_said;
@@ -56,6 +57,7 @@ pub use room::{
     Limits, ent_c_room_free, ent_c_room_open, ent_c_room_put, ent_c_room_restore, ent_c_room_step,
     ent_c_room_turn, ent_c_room_withdraw,
 };
+pub use room_feed::{ent_c_room_groups, ent_c_room_next_group, ent_c_room_settled_through};
 pub use room_handle::RoomHandle;
 pub use room_look::{
     ent_c_room_ended, ent_c_room_epoch, ent_c_room_state, ent_c_room_submission, ent_c_room_waiting,

@@ -36,16 +36,19 @@ fn room_over(
     rows: &[GivenRow],
     epoch: u64,
     next: u64,
+    next_group: u64,
     limits: &Limits,
 ) -> Result<Box<Room>, RoomFault>
-    ensures opened { IfOk result (λ room. Opens input.now rows.now epoch next (limits_of limits.now) room.value) }
+    ensures opened { IfOk result (λ room.
+        Opens input.now rows.now epoch next next_group (limits_of limits.now) room.value) }
     ensures refused { IfErr result (λ fault. IsNoRoom input.now rows.now next (limits_of limits.now) fault) }
 {
     let limits = ListLimits {
         most_waiters: limits.most_waiters as usize,
         most_ended: limits.most_ended as usize,
     };
-    match Room::read(alloc, input, rows, epoch, Ticket::new(next), limits) {
+    let ticket = Ticket::new(next);
+    match Room::read(alloc, input, rows, epoch, ticket, next_group, limits) {
         Ok(room) => Ok(Box::new(alloc, room)?),
         Err(refusal) => Err(RoomFault::from(refusal)),
     }
@@ -58,17 +61,21 @@ fn room_of(
     rows: &mut RowsHandle,
     epoch: u64,
     next: u64,
+    next_group: u64,
     limits: &Limits,
 ) -> Result<Box<Room>, RoomFault>
     ensures opened { IfOk result (λ room.
-        Opens input.now (given_in rows.old.held) epoch next (limits_of limits.now) room.value) }
+        Opens input.now (given_in rows.old.held) epoch next next_group (limits_of limits.now) room.value) }
     ensures refused { IfErr result (λ fault.
         IsNoRoom input.now (given_in rows.old.held) next (limits_of limits.now) fault) }
     ensures taken { rows.new.held ≡ None }
 {
     match rows.take(alloc) {
-        Some(given) => room_over(alloc, input, given.as_slice(), epoch, next, limits),
-        None => room_over(alloc, input, &[], epoch, next, limits),
+        Some(given) => {
+            let all = given.as_slice();
+            room_over(alloc, input, all, epoch, next, next_group, limits)
+        }
+        None => room_over(alloc, input, &[], epoch, next, next_group, limits),
     }
 }
 
@@ -82,19 +89,20 @@ pub extern "C" fn ent_c_room_open(
     rows: &mut RowsHandle,
     epoch: u64,
     next: u64,
+    next_group: u64,
     limits: &Limits,
     refusal: &mut u32,
     told: &mut Told,
 ) -> i32
-    ensures room { OpensRoom input.now (given_in rows.old.held) epoch next (limits_of limits.now) handle.old.held
-        handle.new.held (IsKept refusal.old refusal.new told.old told.new) refusal.new told.new result }
+    ensures room { OpensRoom input.now (given_in rows.old.held) epoch next next_group (limits_of limits.now)
+        handle.old.held handle.new.held (IsKept refusal.old refusal.new told.old told.new) refusal.new told.new result }
     ensures rows { TakesRows handle.old.held rows.old.held rows.new.held }
 {
     if let Some(room) = handle.take(alloc) {
         handle.put(room);
         return MISUSED;
     }
-    match room_of(alloc, input, rows, epoch, next, limits) {
+    match room_of(alloc, input, rows, epoch, next, next_group, limits) {
         Ok(room) => {
             handle.put(room);
             *refusal = 0;

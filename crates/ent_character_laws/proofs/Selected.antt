@@ -1,7 +1,7 @@
 -- The rows of a SELECT's result have values with the property.
 use Rattle.std.proofs.Common.{ℤ, List, [], ◌∷◌, ◌++◌, map, sym, subst}
 use Rattle.std.specs.List.{AllByRecursion, filter}
-use Rattle.ent_set.specs.Sets as set
+use Rattle.ent_lists.specs.Sets as set
 use Rattle.ent_value.specs.declared.value.Value.{Value}
 use Rattle.ent_value.specs.declared.value.Value.TheVariants.{Int}
 use Rattle.ent_tree.specs.declared.declaration.Create.{Create}

@@ -18,9 +18,9 @@ use Rattle.ent_print.specs.Reading.{CanBeRead}
 use Rattle.ent_print.specs.Spelling.{binding_spelling, comma_list, condition_spelling, end_word}
 use Rattle.ent_print.specs.Spelling.{entangled_item_spelling, line_spelling, relation_spelling, script_spelling}
 use Rattle.ent_print.specs.Spelling.{sign, statement_spelling, term_spelling, where_clause, word}
-use Rattle.ent_closed.specs.declared.operand.Known.{Known}
-use Rattle.ent_closed.specs.declared.statement.Statement.{Statement as Resolved}
-use Rattle.ent_closed.specs.declared.statement.Statement.TheVariants as resolved
+use Rattle.ent_semantics.specs.declared.operand.Known.{Known}
+use Rattle.ent_semantics.specs.declared.statement.Statement.{Statement as Resolved}
+use Rattle.ent_semantics.specs.declared.statement.Statement.TheVariants as resolved
 use Rattle.ent_form.specs.declared.catalogue.TableSchema.{TableSchema}
 use Rattle.ent_form.specs.Catalogue.{schemas_of}
 use Rattle.ent_form.specs.Form.{script_in}

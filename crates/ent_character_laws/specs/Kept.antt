@@ -1,7 +1,7 @@
 -- What it means that openings, statements, groundings and runs keep to values with a property.
 use Rattle.std.specs.Prelude.{◌≡◌, true, Contains, List, [], Ok, Some}
 use Rattle.std.specs.List.{AllByRecursion}
-use Rattle.ent_set.specs.Sets as set
+use Rattle.ent_lists.specs.Sets as set
 use Rattle.ent_value.specs.declared.value.Value.{Value}
 use Rattle.ent_tree.specs.declared.declaration.Create.{Create}
 use Rattle.ent_tree.specs.declared.declaration.Opening.{Opening}

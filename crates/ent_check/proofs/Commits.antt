@@ -1,5 +1,5 @@
 -- The transactions that have committed, in order.
-use Rattle.std.proofs.Common.{◌≡◌, ℕ, zero, suc, ◌+◌, ◌<◌, ◌≤◌, Bool, true, false, ◌==◌, cond, List, [], ◌∷◌, ◌++◌}
+use Rattle.std.proofs.Common.{◌≡◌, ℕ, zero, suc, ◌+◌, ◌<◌, ◌≤◌, Bool, true, false, cond, List, [], ◌∷◌, ◌++◌}
 use Rattle.std.proofs.Common.{length, drop, take, refl, sym, ap, subst, ◌∙◌, arith, Option, Some, None, flat_map, min}
 use Rattle.std.proofs.Common.{slice_get, slice_index_or, append-nil, IfSome, inl}
 use Rattle.std.specs.BTreeMap.{BTreeMap, IsEmpty, get, is_at}
@@ -18,7 +18,7 @@ use Rattle.ent_rules.specs.Journal.{journal_findings}
 use Rattle.ent_rules.specs.Verdict.{first_of}
 use Rattle.ent_rules.specs.declared.finding.Finding.{Finding}
 use Rattle.ent_rules.proofs.Commits.{NotSame, numbered_if_none}
-use Rattle.ent_lists.specs.Elements.{In, Pairs, filter_empty, not_so, pairs_across, same_number, all_joined}
+use Rattle.ent_lists.specs.Elements.{Pairs, filter_empty, not_so, pairs_across, same_number, all_joined}
 use Rattle.ent_check.specs.Order.{AreBelow, AreNumbered, accounts_at}
 use Rattle.ent_check.proofs.Accounts.{account_of, accounts_behind, behind_some, nothing_behind}
 

@@ -1,6 +1,6 @@
 -- The rule of postconditions, on the way through joint answers.
-use Rattle.std.proofs.Common.{◌≡◌, ℕ, suc, ◌+◌, ◌<◌, ◌≤◌, Bool, true, false, not, ◌||◌, ◌&&◌, ◌==◌, cond, List, [], ◌∷◌}
-use Rattle.std.proofs.Common.{◌++◌, length, map, drop, refl, sym, ap, subst, ◌∙◌, arith, Option, Some, None}
+use Rattle.std.proofs.Common.{◌≡◌, ℕ, suc, ◌+◌, ◌<◌, ◌≤◌, Bool, true, false, not, ◌||◌, ◌==◌, cond, List, [], ◌∷◌}
+use Rattle.std.proofs.Common.{◌++◌, length, drop, refl, sym, ap, subst, ◌∙◌, arith, Some, None}
 use Rattle.std.proofs.Common.{append_assoc, slice_index_or}
 use Rattle.std.specs.BTreeMap.{get}
 use Rattle.std.specs.List.{AllByRecursion, list_all, list_any}
@@ -21,15 +21,13 @@ use Rattle.ent_rules.specs.declared.finding.Rule.TheVariants as rule
 use Rattle.ent_rules.specs.declared.finding.Thing.TheVariants as thing
 use Rattle.ent_rules.proofs.Found.{unless_holds}
 use Rattle.ent_rules.proofs.Joints.{stands_there}
-use Rattle.ent_lists.specs.Elements.{all_by, and_both, any_some, clash, not_so, number_itself, other_number, turned}
+use Rattle.ent_lists.specs.Elements.{and_both, any_some, clash, not_so, number_itself, other_number, turned}
 use Rattle.ent_rules.proofs.Lists.{every, none_first, none_second}
 use Rattle.ent_check.proofs.Found.{first_behind, first_here}
-use Rattle.ent_check.specs.Offers.{joint_of, offer_of}
+use Rattle.ent_check.specs.Offers.{joint_of}
 use Rattle.ent_check.specs.Seats.{AreSeatsOf, place_cmp, seat_of}
-use Rattle.ent_check.specs.declared.offer.Offer.{Offer}
-use Rattle.ent_check.proofs.Joints.{all_low, members_in, members_joined, members_low, placed_high}
+use Rattle.ent_check.proofs.Joints.{all_low, members_in, members_joined, placed_high}
 use Rattle.ent_check.proofs.Lists.{here, none_behind}
-use Rattle.ent_check.proofs.Posts.{is_content_by, met_over_offers}
 use Rattle.ent_check.proofs.Taken.{SeatMap, answers_told, members_told}
 
 -- ---- the joint answer of a seat

@@ -1,7 +1,7 @@
 -- The rule of joint answers, on the way through them.
 use Rattle.std.proofs.Common.{◌≡◌, ℕ, suc, ◌+◌, ◌<◌, ◌≤◌, Bool, true, false, not, ◌||◌, ◌&&◌, cond, List, [], ◌∷◌}
 use Rattle.std.proofs.Common.{◌++◌, length, map, drop, refl, sym, ap, subst, ◌∙◌, arith, rules, Option, Some, None}
-use Rattle.std.proofs.Common.{append_assoc, append-nil, slice_index_or, nat_lt, is_some}
+use Rattle.std.proofs.Common.{append_assoc, slice_index_or, nat_lt}
 use Rattle.std.specs.BTreeMap.{get}
 use Rattle.std.specs.List.{AllByRecursion, list_all, list_any}
 use Rattle.std.specs.Option.{option_map}

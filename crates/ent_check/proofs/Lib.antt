@@ -1,6 +1,8 @@
 pub mod Accounts
 pub mod Commits
 pub mod Demands
+pub mod Gathered
+pub mod HeadsPut
 pub mod Joints
 pub mod LeftOut
 pub mod Lists
@@ -8,6 +10,7 @@ pub mod Members
 pub mod Numbers
 pub mod Posts
 pub mod Seats
+pub mod Shown
 pub mod Sums
 pub mod Taken
 pub mod Found

@@ -1,7 +1,7 @@
 -- Tables under their numbers.
 use Rattle.std.proofs.Common.{◌≡◌, ℕ, zero, suc, List, [], ◌∷◌, length, map, refl, ap, slice_index_or}
-use Rattle.ent_set.specs.Laws.{ascending-from_list}
-use Rattle.ent_set.specs.Sets as set
+use Rattle.ent_lists.specs.Laws.{ascending-from_list}
+use Rattle.ent_lists.specs.Sets as set
 use Rattle.ent_value.specs.Order.{exact_rows, rows_total}
 use Rattle.ent_value.specs.Value.{row_cmp}
 use Rattle.ent_rel.specs.Relation.{Relation}

@@ -1,82 +1,31 @@
 -- The rule of postconditions, on the way through joint answers and offers.
-use Rattle.std.proofs.Common.{◌≡◌, ℕ, zero, suc, ◌+◌, ◌<◌, ◌≤◌, Bool, true, false, not, ◌||◌, ◌&&◌, ◌==◌, cond, List}
-use Rattle.std.proofs.Common.{[], ◌∷◌, ◌++◌, length, map, drop, refl, sym, ap, subst, ◌∙◌, arith, Option, Some, None}
-use Rattle.std.proofs.Common.{append_assoc, slice_index_or, flat_map, filter, min}
-use Rattle.std.specs.BTreeMap.{get}
-use Rattle.std.specs.List.{AllByRecursion, list_all, list_any}
-use Rattle.std.specs.Option.{option_map}
+use Rattle.std.proofs.Common.{◌≡◌, ℕ, zero, suc, ◌<◌, Bool, true, false, not, ◌||◌, ◌&&◌, ◌==◌, cond, List}
+use Rattle.std.proofs.Common.{[], ◌∷◌, ◌++◌, length, map, refl, sym, ap, ◌∙◌, arith}
+use Rattle.std.proofs.Common.{slice_index_or, flat_map, filter}
+use Rattle.std.specs.List.{list_all, list_any}
 use Rattle.ent_semantics.specs.declared.answer.Fact.{Fact}
-use Rattle.ent_semantics.specs.declared.book.JointAnswer.{JointAnswer}
 use Rattle.ent_semantics.specs.declared.book.Member.{Member}
 use Rattle.ent_semantics.specs.Joint.{read_view_heads, read_view_posts}
 use Rattle.ent_semantics.specs.Serial.{ReadView}
 use Rattle.ent_rules.specs.Alike.{same_fact}
 use Rattle.ent_rules.specs.Joint.{stands_among}
 use Rattle.ent_rules.specs.Post.{are_met, is_offered, read_views_of}
-use Rattle.ent_check.specs.Offers.{offer_of}
+use Rattle.ent_check.specs.Offers.{offer_of, offers_of}
 use Rattle.ent_check.specs.declared.offer.Offer.{Offer}
-use Rattle.ent_check.proofs.Lists.{here, none_behind}
+use Rattle.ent_check.proofs.Lists.{all_same, and_assoc, any_same, or_assoc}
 
--- ---- tests of elements from an index on
-
-module _ {X : Type 0} (p : X → Bool) (xs : List X) where
-  abbrev pub AnyBehind : ℕ → Type 0
-  AnyBehind i = list_any p xs ≡ list_any p (drop i xs)
-
-  abbrev pub AllBehind : ℕ → Type 0
-  AllBehind i = list_all p xs ≡ list_all p (drop i xs)
-
-  module _ (i : ℕ) (x : X) (low : i < length xs) (at : x ≡ slice_index_or xs i x) where
-    pub any_here : p x ≡ true → AnyBehind i → list_any p xs ≡ true
-    any_here is behind =
-        behind ∙ ap (list_any p) (here xs i x low at) ∙ ap (λ b. b || list_any p (drop (suc i) xs)) is
-
-    pub any_more : p x ≡ false → AnyBehind i → AnyBehind (i + 1)
-    any_more is behind =
-        let n : suc i ≡ i + 1 = omega arith in
-        subst AnyBehind n
-        (behind ∙ ap (list_any p) (here xs i x low at) ∙ ap (λ b. b || list_any p (drop (suc i) xs)) is)
-
-    pub all_not : p x ≡ false → AllBehind i → list_all p xs ≡ false
-    all_not is behind =
-        behind ∙ ap (list_all p) (here xs i x low at) ∙ ap (λ b. b && list_all p (drop (suc i) xs)) is
-
-    pub all_more : p x ≡ true → AllBehind i → AllBehind (i + 1)
-    all_more is behind =
-        let n : suc i ≡ i + 1 = omega arith in
-        subst AllBehind n
-        (behind ∙ ap (list_all p) (here xs i x low at) ∙ ap (λ b. b && list_all p (drop (suc i) xs)) is)
-
-  pub any_none : (i : ℕ) → length xs ≤ i → AnyBehind i → list_any p xs ≡ false
-  any_none i over behind = behind ∙ ap (list_any p) (none_behind xs i over)
-
-  pub all_all : (i : ℕ) → length xs ≤ i → AllBehind i → list_all p xs ≡ true
-  all_all i over behind = behind ∙ ap (list_all p) (none_behind xs i over)
+-- ---- lists
 
 pub some_there : {X : Type 0} (xs : List X) (i : ℕ) → i < length xs → (x : X) × (x ≡ slice_index_or xs i x)
 some_there [] i low = absurd (omega (arith, low))
 some_there (x ∷ xs) zero low = (x, refl)
 some_there (x ∷ xs) (suc i) low = some_there xs i (omega (arith, low))
 
-pub mapped_at : {X Y : Type 0} (f : X → Y) (xs : List X) (i : ℕ) (x : X) (y : Y) → i < length xs
-    → slice_index_or (map f xs) i y ≡ f (slice_index_or xs i x)
-mapped_at f [] i x y low = absurd (omega (arith, low))
-mapped_at f (z ∷ zs) zero x y low = refl
-mapped_at f (z ∷ zs) (suc i) x y low = mapped_at f zs i x y (omega (arith, low))
-
 pub mapped_many : {X Y : Type 0} (f : X → Y) (xs : List X) → length (map f xs) ≡ length xs
 mapped_many f [] = refl
 mapped_many f (x ∷ xs) = ap (λ k. suc k) (mapped_many f xs)
 
 -- ---- tests over lists that are made of others
-
-any_same : {X : Type 0} (p q : X → Bool) (xs : List X) → ((x : X) → p x ≡ q x) → list_any p xs ≡ list_any q xs
-any_same p q [] same = refl
-any_same p q (x ∷ xs) same = (λ i. same x i || any_same p q xs same i)
-
-all_same : {X : Type 0} (p q : X → Bool) (xs : List X) → ((x : X) → p x ≡ q x) → list_all p xs ≡ list_all q xs
-all_same p q [] same = refl
-all_same p q (x ∷ xs) same = (λ i. same x i && all_same p q xs same i)
 
 any_mapped : {X Y : Type 0} (f : X → Y) (p : Y → Bool) (xs : List X)
     → list_any p (map f xs) ≡ list_any (λ x. p (f x)) xs
@@ -87,14 +36,6 @@ all_mapped : {X Y : Type 0} (f : X → Y) (p : Y → Bool) (xs : List X)
     → list_all p (map f xs) ≡ list_all (λ x. p (f x)) xs
 all_mapped f p [] = refl
 all_mapped f p (x ∷ xs) = ap (λ b. p (f x) && b) (all_mapped f p xs)
-
-or_assoc : (a b c : Bool) → ((a || b) || c) ≡ (a || (b || c))
-or_assoc true b c = refl
-or_assoc false b c = refl
-
-and_assoc : (a b c : Bool) → ((a && b) && c) ≡ (a && (b && c))
-and_assoc true b c = refl
-and_assoc false b c = refl
 
 any_joined : {X : Type 0} (p : X → Bool) (xs ys : List X) → list_any p (xs ++ ys) ≡ (list_any p xs || list_any p ys)
 any_joined p [] ys = refl
@@ -129,6 +70,26 @@ all_made {X} {Y} f b p (x ∷ xs) = by (b x) (all_made f b p xs)
         → list_all p (flat_map f (cond t (x ∷ filter b xs) (filter b xs)))
         ≡ ((not t || list_all p (f x)) && list_all (λ z. not (b z) || list_all p (f z)) xs)
     by true rest = all_joined p (f x) (flat_map f (filter b xs)) ∙ ap (λ c. list_all p (f x) && c) rest
+    by false rest = rest
+
+-- of those of a list that pass a test
+any_passing : {X : Type 0} (b p : X → Bool) (xs : List X) → list_any p (filter b xs) ≡ list_any (λ x. b x && p x) xs
+any_passing b p [] = refl
+any_passing {X} b p (x ∷ xs) = by (b x) (any_passing b p xs)
+  where
+    by : (t : Bool) → list_any p (filter b xs) ≡ list_any (λ z. b z && p z) xs
+        → list_any p (cond t (x ∷ filter b xs) (filter b xs)) ≡ ((t && p x) || list_any (λ z. b z && p z) xs)
+    by true rest = ap (λ c. p x || c) rest
+    by false rest = rest
+
+all_passing : {X : Type 0} (b p : X → Bool) (xs : List X)
+    → list_all p (filter b xs) ≡ list_all (λ x. not (b x) || p x) xs
+all_passing b p [] = refl
+all_passing {X} b p (x ∷ xs) = by (b x) (all_passing b p xs)
+  where
+    by : (t : Bool) → list_all p (filter b xs) ≡ list_all (λ z. not (b z) || p z) xs
+        → list_all p (cond t (x ∷ filter b xs) (filter b xs)) ≡ ((not t || p x) && list_all (λ z. not (b z) || p z) xs)
+    by true rest = ap (λ c. p x && c) rest
     by false rest = rest
 
 -- ---- a joint answer over a run and over its offers
@@ -176,15 +137,25 @@ module _ (run : List ReadView) (own : Offer → ℕ) (number : ℕ) (members : L
       (λ read_view. is_content_by own number (map offer_of run) (offer_of read_view)) run content
       ∙ sym (all_mapped offer_of (is_content_by own number (map offer_of run)) run)
 
--- ---- offers, and beside them the numbers of their joint answers
+-- ---- the offers of one joint answer alone
 
-module _ (own : Offer → ℕ) (offers : List Offer) (joints : List ℕ) where
-  pub joint_there : (i : ℕ) (offer : Offer) → i < length offers → offer ≡ slice_index_or offers i offer
-      → joints ≡ map own offers → own offer ≡ slice_index_or joints i 0
-  joint_there i offer low at are =
-      sym (ap (λ xs. slice_index_or xs i 0) are ∙ mapped_at own offers i offer 0 low ∙ ap own (sym at))
+-- a fact is a head of one of these offers
+abbrev pub is_met_among : List Offer → Fact → Bool
+is_met_among offers post = list_any (λ offer. is_offered offer.heads post) offers
 
-  pub whole_offers : (i : ℕ) → joints ≡ map own offers → min (length offers) (length joints) ≤ i → length offers ≤ i
-  whole_offers i are over =
-      let many : length joints ≡ length offers = ap length are ∙ mapped_many own offers in
-      grind (arith, many, over)
+-- the posts of an offer are met among these
+abbrev pub is_content_among : List Offer → Offer → Bool
+is_content_among offers offer = list_all (is_met_among offers) offer.posts
+
+module _ (own : Offer → ℕ) (number : ℕ) (offers : List Offer) where
+  abbrev those : List Offer
+  those = offers_of own number offers
+
+  pub met_alone : list_all (is_content_among those) those ≡ list_all (is_content_by own number offers) offers
+  met_alone =
+      all_passing (λ (offer : Offer). own offer == number) (is_content_among those) offers
+      ∙ all_same (λ offer. not (own offer == number) || is_content_among those offer)
+      (is_content_by own number offers) offers
+      (λ offer. ap (λ b. not (own offer == number) || b)
+      (all_same (is_met_among those) (is_met_by own number offers) offer.posts
+      (λ post. any_passing (λ (other : Offer). own other == number) (λ other. is_offered other.heads post) offers)))

@@ -1,5 +1,9 @@
 -- What the entangled statements of a run offer and demand.
-use Rattle.std.specs.Prelude.{ℕ, Option, Some, None}
+use Rattle.std.specs.Prelude.{◌≡◌, ℕ, ◌==◌, List, [], Option, Some, None}
+use Rattle.std.specs.BTreeMap.{BTreeMap, get}
+use Rattle.std.specs.List.{filter}
+use Rattle.std.specs.Ordering.{nat_cmp}
+use Rattle.ent_check.specs.Seats.{place_cmp}
 use Rattle.ent_check.specs.declared.offer.Offer.{Offer}
 use Rattle.ent_semantics.specs.Joint.{read_view_heads, read_view_posts}
 use Rattle.ent_semantics.specs.Serial.{ReadView}
@@ -17,3 +21,21 @@ offer_of read_view = record {
 abbrev pub joint_of : Option (ℕ × ℕ) → ℕ
 joint_of (Some seat) = seat.0
 joint_of None = 0
+
+-- the number of the joint answer that the statement of an offer is a member of
+abbrev pub joint_in : BTreeMap (ℕ × ℕ) (ℕ × ℕ) → Offer → ℕ
+joint_in seats offer = joint_of (get place_cmp seats (offer.tx, offer.place))
+
+-- those of some offers that are of the joint answer of a number
+abbrev pub offers_of : (Offer → ℕ) → ℕ → List Offer → List Offer
+offers_of own number offers = filter (λ offer. own offer == number) offers
+
+-- the offers that stand under a number
+abbrev pub offers_there : Option (List Offer) → List Offer
+offers_there (Some offers) = offers
+offers_there None = []
+
+-- under each number stand the offers of its joint answer, in order
+abbrev pub AreJoined : (Offer → ℕ) → List Offer → BTreeMap ℕ (List Offer) → Type 0
+AreJoined own offers joined =
+    (number : ℕ) → offers_there (get nat_cmp joined number) ≡ offers_of own number offers

@@ -14,7 +14,7 @@ pub(crate) fn same_rows(first: &[Row], second: &[Row]) -> bool
 }
 
 /// Whether two facts are the same.
-pub(crate) fn same_fact(first: &Fact, second: &Fact) -> bool
+fn same_fact(first: &Fact, second: &Fact) -> bool
     ensures { result ≡ same_fact first.now second.now }
 {
     first.relation == second.relation && first.values == second.values

@@ -1,11 +1,10 @@
 //! What an entangled statement offers, demands and binds under a grounding.
 ghost use Rattle.std.specs.Prelude.{◌≡◌, IfOk, map};
-ghost use Rattle.ent_closed.specs.Form.{atom_fact, form_bound};
+ghost use Rattle.ent_semantics.specs.Form.{atom_fact, form_bound};
 ghost use Rattle.ent_select.specs.Worth.{itself};
 
 use crate::term::{term_value, terms_row};
-use ent_closed::{Atom, Entangled};
-use ent_semantics::Fact;
+use ent_semantics::{Atom, Entangled, Fact};
 use ent_tree::Duplicate;
 use ent_value::{Name, Sequence, Value};
 use std::alloc::{AllocError, Global};

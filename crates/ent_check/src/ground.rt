@@ -1,22 +1,26 @@
 //! Groundings, tested.
-ghost use Rattle.std.specs.Prelude.{◌≡◌, ◌<◌, IfOk, length, map, slice_index_or};
+ghost use Rattle.std.specs.Prelude.{◌≡◌, ◌<◌, List, IfOk, length, map, slice_index_or};
 ghost use Rattle.std.specs.Arc.{arc_value};
 ghost use Rattle.std.specs.List.{AllByRecursion, list_all};
-ghost use Rattle.ent_set.specs.Sets as set;
-ghost use Rattle.ent_closed.specs.Form.{is_form_grounding, membership_holds, term_worth};
-ghost use Rattle.ent_closed.specs.Kinds.{tables_named};
-ghost use Rattle.ent_closed.specs.declared.statement.Statement.TheVariants as statements;
+ghost use Rattle.ent_lists.specs.Sets as set;
+ghost use Rattle.ent_semantics.specs.Form.{is_form_grounding, membership_holds, term_worth};
+ghost use Rattle.ent_semantics.specs.FormKinds.{tables_named};
+ghost use Rattle.ent_semantics.specs.declared.statement.Statement.TheVariants as statements;
+ghost use Rattle.ent_semantics.specs.declared.operand.Operand.TheVariants.{Known};
+ghost use Rattle.ent_check.specs.Shown.{is_shown};
 ghost use Rattle.ent_rel.specs.Numbered.{relation_of};
 ghost use Rattle.ent_select.specs.Tables.{no_table, rows_in};
 ghost use Rattle.ent_select.specs.Worth.{itself};
+ghost use Rattle.ent_semantics.specs.Database.{Rows};
 ghost use Rattle.ent_semantics.specs.Selection.{holds};
+ghost use Rattle.ent_tree.specs.declared.operand.Comparison.TheVariants.{Equal};
 ghost use Rattle.ent_value.specs.Value.{row_cmp};
 
 use crate::term::{terms_row, test_holds};
-use ent_closed::{Entangled, Membership, Term};
 use ent_rel::{NumberedTable, Table};
 use ent_select::{all, table_at};
-use ent_tree::Test;
+use ent_semantics::{Entangled, Membership, Operand, Select, Term};
+use ent_tree::{Comparison, Duplicate, MOST_PARTS, Test};
 use ent_value::{Row, Value, rows_are_ordered};
 use std::alloc::{AllocError, Global};
 use std::sync::Arc;
@@ -59,6 +63,45 @@ fn is_among(rows: &[Row], row: &Row) -> bool
     rows.contains(row)
 }
 
+/// The test that an operand has a value.
+fn has_value(
+    alloc: Global,
+    operand: &Operand<Value>,
+    value: &Value,
+) -> Result<Test<Operand<Value>>, AllocError>
+    ensures { IfOk result (λ test. test
+        ≡ record { left = operand.now; comparison = Equal; right = Known value.now }) }
+{
+    Ok(Test {
+        left: operand.copy(alloc)?,
+        comparison: Comparison::Equal,
+        right: Operand::Known(value.copy(alloc)?),
+    })
+}
+
+/// A SELECT with this row in its result where a given SELECT has it in its own, and with few rows else: as many tests
+/// as there is room for say that an item has the row's value.
+fn narrowed(
+    alloc: Global,
+    select: &Select<Value>,
+    row: &[Value],
+) -> Result<Select<Value>, AllocError>
+    ensures sources { IfOk result (λ narrowed. narrowed.sources ≡ select.now.sources) }
+    ensures holds { IfOk result (λ narrowed. (sources : List Rows)
+        → is_shown narrowed sources row.now ≡ is_shown select.now sources row.now) }
+{
+    let mut narrowed = select.copy(alloc)?;
+    let items = select.items.as_slice();
+    let many = items.len().min(row.len());
+    for index in 0..many {
+        if narrowed.tests.len() < MOST_PARTS {
+            let test = has_value(alloc, &items[index], &row[index])?;
+            narrowed.tests.push(test)?;
+        }
+    }
+    Ok(narrowed)
+}
+
 /// Whether a tuple is a row of its sub-select's result.
 fn membership_holds(
     alloc: Global,
@@ -71,8 +114,9 @@ fn membership_holds(
         ≡ membership_holds itself (rows_in (map arc_value tables.now)) grounding.now membership.now) }
 {
     let sources = sources_of(alloc, tables, membership.select.sources.as_slice())?;
-    let rows = all(alloc, &membership.select, sources.as_slice())?;
     let row = terms_row(alloc, grounding, &membership.terms)?;
+    let select = narrowed(alloc, &membership.select, row.values())?;
+    let rows = all(alloc, &select, sources.as_slice())?;
     Ok(is_among(rows.as_slice(), &row))
 }
 
@@ -106,7 +150,7 @@ fn tests_hold(grounding: &[Value], tests: &[Test<Term<Value>>]) -> bool
 
 /// Whether values are a grounding of a closed entangled statement over tables, in the order of their declaration: one
 /// for each written variable, under which each tuple is a row of its sub-select's result and each test is true. It is
-/// tested, and nothing is searched for.
+/// tested, and nothing is searched for; of a sub-select's result only the tuple's own row is made.
 pub fn is_grounding(
     alloc: Global,
     statement: &Entangled<Value>,

@@ -10,6 +10,8 @@ mod alike;
 mod facts;
 mod ground;
 mod groundings;
+mod heads;
+mod joined;
 mod joint;
 mod journal;
 mod line;

@@ -1,7 +1,7 @@
 //! The rule of tables.
 ghost use Rattle.std.specs.Prelude.{◌≡◌, ◌<◌, IfOk, length, map, slice_index_or};
 ghost use Rattle.std.specs.Arc.{arc_value};
-ghost use Rattle.ent_set.specs.Sets as set;
+ghost use Rattle.ent_lists.specs.Sets as set;
 ghost use Rattle.ent_form_laws.specs.Tables.{database_of};
 ghost use Rattle.ent_rules.specs.Table.{tables_findings};
 ghost use Rattle.ent_rules.specs.Verdict.{first_of};

@@ -17,7 +17,7 @@ ghost use Rattle.ent_semantics.specs.Book.{all_members};
 ghost use Rattle.ent_semantics.specs.Database.{opening_database};
 
 use ent_check::{Seats, joint_finding, journal_finding, post_finding, seats_of, tables_finding};
-use ent_check_run::replay;
+use ent_check_run::{Replayed, replay};
 use ent_history::History;
 use ent_rules::Finding;
 use std::alloc::{AllocError, Global};
@@ -45,19 +45,23 @@ fn run_finding(
         ++ (post_findings (told_read_views declared (placed joints) (in_commit_order all) first) 1 joints
         ++ end_findings (told_end declared (placed joints) (in_commit_order all) first) history.now.tables))) }
 {
-    let replayed = replay(alloc, history, seats)?;
-    if replayed.finding.is_some() {
-        return Ok(replayed.finding);
+    let Replayed {
+        finding,
+        tables,
+        offers,
+    } = replay(alloc, history, seats)?;
+    if finding.is_some() {
+        return Ok(finding);
     }
     let joints = history.joint_answers.as_slice();
-    let post = post_finding(alloc, seats, joints, replayed.offers.as_slice())?;
+    let post = post_finding(alloc, seats, joints, offers)?;
     if post.is_some() {
         return Ok(post);
     }
     tables_finding(
         alloc,
         history.opening.tables.as_slice(),
-        replayed.tables.as_slice(),
+        tables.as_slice(),
         history.tables.as_slice(),
     )
 }

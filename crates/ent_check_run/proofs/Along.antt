@@ -20,12 +20,12 @@ use Rattle.ent_semantics.specs.Effect.{Effect}
 use Rattle.ent_semantics.specs.Serial.{Operation, Run, ReadView, after, answered_first, is_entangled, run, seen}
 use Rattle.ent_semantics.specs.Serial.{seen_after}
 use Rattle.ent_semantics.specs.Serial.{read_views}
-use Rattle.ent_closed.specs.Closing.{closed}
-use Rattle.ent_closed.specs.Form.{Tables, closed_worth, form_meaning}
-use Rattle.ent_closed.specs.Kinds.{Fits, tables_named}
-use Rattle.ent_closed.specs.declared.operand.Known.{Known}
-use Rattle.ent_closed.specs.declared.statement.Statement.{Statement}
-use Rattle.ent_closed.specs.declared.statement.Statement.TheVariants as forms
+use Rattle.ent_semantics.specs.Closing.{closed}
+use Rattle.ent_semantics.specs.Form.{Tables, closed_worth, form_meaning}
+use Rattle.ent_semantics.specs.FormKinds.{Fits, tables_named}
+use Rattle.ent_semantics.specs.declared.operand.Known.{Known}
+use Rattle.ent_semantics.specs.declared.statement.Statement.{Statement}
+use Rattle.ent_semantics.specs.declared.statement.Statement.TheVariants as forms
 use Rattle.ent_form.specs.Catalogue.{schemas_of}
 use Rattle.ent_form.specs.Entangled.{entangled_in}
 use Rattle.ent_form.specs.Form.{script_in, statement_in, statements_from}

@@ -15,11 +15,11 @@ use Rattle.ent_rel.specs.Relation.{Relation}
 use Rattle.ent_history.specs.declared.history.Told.{Told}
 use Rattle.ent_semantics.specs.declared.answer.Answer.{Answer}
 use Rattle.ent_semantics.specs.Database.{Database, Environment}
-use Rattle.ent_closed.specs.Closing.{closed}
-use Rattle.ent_closed.specs.Form.{closed_worth, form_meaning}
-use Rattle.ent_closed.specs.Kinds.{tables_named}
-use Rattle.ent_closed.specs.declared.operand.Known.{Known}
-use Rattle.ent_closed.specs.declared.statement.Statement.{Statement}
+use Rattle.ent_semantics.specs.Closing.{closed}
+use Rattle.ent_semantics.specs.Form.{closed_worth, form_meaning}
+use Rattle.ent_semantics.specs.FormKinds.{tables_named}
+use Rattle.ent_semantics.specs.declared.operand.Known.{Known}
+use Rattle.ent_semantics.specs.declared.statement.Statement.{Statement}
 use Rattle.ent_form_laws.specs.Tables.{database_of, HaveDistinctColumns}
 use Rattle.ent_rules.specs.Placed.{Placed, member_at}
 use Rattle.ent_rules.specs.Replay.{later}

@@ -4,7 +4,7 @@ use Rattle.std.proofs.Common.{◌∙◌, subst, arith, true, false, cond, Option
 use Rattle.std.specs.Prelude.{nat_le, slice_get, slice_index_or, slice_set}
 use Rattle.std.specs.List.{AllByRecursion}
 use Rattle.std.proofs.lemmas.List.{map-set}
-use Rattle.ent_set.specs.Sets as set
+use Rattle.ent_lists.specs.Sets as set
 use Rattle.ent_value.specs.declared.limits.TheConstants.{MOST_ROWS}
 use Rattle.ent_value.specs.declared.value.Kind.{Kind}
 use Rattle.ent_value.specs.declared.value.Value.{Value}
@@ -20,14 +20,14 @@ use Rattle.ent_semantics.specs.declared.answer.Answer.{Answer}
 use Rattle.ent_semantics.specs.declared.answer.Answer.TheVariants as answers
 use Rattle.ent_semantics.specs.declared.answer.Failure.{Failure}
 use Rattle.ent_semantics.specs.declared.answer.Failure.TheVariants.{TableFull}
-use Rattle.ent_closed.specs.Form.{Tables, closed_worth, form_meaning, operand_worth, table_numbered}
-use Rattle.ent_closed.specs.Kinds.{Fits, tables_named}
-use Rattle.ent_closed.specs.declared.statement.Statement.{Statement}
-use Rattle.ent_closed.specs.declared.statement.Statement.TheVariants as statements
-use Rattle.ent_eval.specs.Change.{IsApplicable}
-use Rattle.ent_eval.specs.Meant.{CanBeApplied, IsMeant, changed_number, effect_of}
-use Rattle.ent_eval.specs.declared.outcome.Outcome.{Outcome}
-use Rattle.ent_eval.specs.declared.outcome.Outcome.TheVariants as outcomes
+use Rattle.ent_semantics.specs.Form.{Tables, closed_worth, form_meaning, operand_worth, table_numbered}
+use Rattle.ent_semantics.specs.FormKinds.{Fits, tables_named}
+use Rattle.ent_semantics.specs.declared.statement.Statement.{Statement}
+use Rattle.ent_semantics.specs.declared.statement.Statement.TheVariants as statements
+use Rattle.ent_effect.specs.Change.{IsApplicable}
+use Rattle.ent_effect.specs.Meant.{CanBeApplied, IsMeant, changed_number, effect_of}
+use Rattle.ent_effect.specs.declared.outcome.Outcome.{Outcome}
+use Rattle.ent_effect.specs.declared.outcome.Outcome.TheVariants as outcomes
 use Rattle.ent_select.specs.Tables.{kinds_in, no_table, rows_in}
 use Rattle.ent_check.proofs.Places.{rows_of_numbers, rows_at}
 use Rattle.ent_check_run.specs.Sorts.{IsOrdinary, IsSet}

@@ -11,8 +11,8 @@ use Rattle.ent_semantics.specs.Effect.{Effect}
 use Rattle.ent_semantics.specs.Entangled.{Valuation}
 use Rattle.ent_semantics.specs.Serial.{Operation, is_entangled, seen}
 use Rattle.ent_semantics.specs.Statement.{statement_meaning}
-use Rattle.ent_closed.specs.Form.{Tables, closed_worth, form_meaning}
-use Rattle.ent_closed.specs.declared.statement.Statement.{Statement}
+use Rattle.ent_semantics.specs.Form.{Tables, closed_worth, form_meaning}
+use Rattle.ent_semantics.specs.declared.statement.Statement.{Statement}
 use Rattle.ent_form.specs.Catalogue.{schemas_of}
 use Rattle.ent_form.specs.Kinds.{Bound}
 use Rattle.ent_form_laws.specs.Kinds.{AreKinded, HasKinds}

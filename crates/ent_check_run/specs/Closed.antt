@@ -9,9 +9,9 @@ use Rattle.ent_semantics.specs.declared.answer.Failure.{Failure}
 use Rattle.ent_semantics.specs.Database.{Environment}
 use Rattle.ent_semantics.specs.Effect.{Effect}
 use Rattle.ent_semantics.specs.Entangled.{Valuation}
-use Rattle.ent_closed.specs.Form.{Tables, closed_worth, form_heads, form_meaning, form_posts, is_form_grounding}
-use Rattle.ent_closed.specs.declared.statement.Statement.{Statement}
-use Rattle.ent_closed.specs.declared.statement.Statement.TheVariants as statements
+use Rattle.ent_semantics.specs.Form.{Tables, closed_worth, form_heads, form_meaning, form_posts, is_form_grounding}
+use Rattle.ent_semantics.specs.declared.statement.Statement.{Statement}
+use Rattle.ent_semantics.specs.declared.statement.Statement.TheVariants as statements
 use Rattle.ent_rules.specs.Alike.{same_answer}
 use Rattle.ent_rules.specs.Journal.{unless}
 use Rattle.ent_rules.specs.Placed.{Placed, grounding_of}

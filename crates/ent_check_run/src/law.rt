@@ -5,10 +5,10 @@ ghost use Rattle.ent_tree.specs.declared.script.Statement.{Statement as TreeStat
 ghost use Rattle.ent_check_run.specs.Alike.{IsAlike};
 ghost use Rattle.ent_check_run.specs.Closed.{IsSeated};
 ghost use Rattle.ent_check_run.specs.Laws.{Laws};
-ghost use Rattle.ent_closed.specs.Closing.{closed};
-ghost use Rattle.ent_closed.specs.Form.{Tables};
-ghost use Rattle.ent_closed.specs.declared.operand.Known.{Known};
-ghost use Rattle.ent_closed.specs.declared.statement.Statement.{Statement};
+ghost use Rattle.ent_semantics.specs.Closing.{closed};
+ghost use Rattle.ent_semantics.specs.Form.{Tables};
+ghost use Rattle.ent_semantics.specs.declared.operand.Known.{Known};
+ghost use Rattle.ent_semantics.specs.declared.statement.Statement.{Statement};
 ghost use Rattle.ent_form.specs.Catalogue.{schemas_of};
 ghost use Rattle.ent_form.specs.Form.{statement_in};
 ghost use Rattle.ent_form.specs.Kinds.{Bound};
@@ -18,12 +18,12 @@ ghost use Rattle.ent_rules.specs.Placed.{Placed, member_at};
 ghost use Rattle.ent_semantics.specs.Database.{Environment};
 ghost use Rattle.ent_semantics.specs.declared.answer.Answer.{Answer};
 
-use ent_closed::closing_keeps_the_meaning;
 use ent_form_laws::{
     effects_keep_kinds, groundings_are_of_their_kinds, kinded_tables_are_wide,
     resolved_grounds_the_same, resolved_means_the_same, resolved_offers_and_demands_the_same,
     resolved_statements_fit, variables_are_the_written_ones,
 };
+use ent_semantics::closing_keeps_the_meaning;
 
 /// What a resolved statement comes to, its statement does; and it keeps kinds.
 pub(crate) fn forms_run_as_statements()

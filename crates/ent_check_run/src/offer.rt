@@ -1,10 +1,10 @@
 //! What entangled statements offer and demand.
 ghost use Rattle.std.specs.Prelude.{◌≡◌, IfOk};
-ghost use Rattle.ent_closed.specs.Form.{form_heads, form_posts};
+ghost use Rattle.ent_semantics.specs.Form.{form_heads, form_posts};
 ghost use Rattle.ent_select.specs.Worth.{itself};
 
 use ent_check::{Offer, facts_of};
-use ent_closed::Entangled;
+use ent_semantics::Entangled;
 use ent_value::Value;
 use std::alloc::{AllocError, Global};
 

@@ -4,7 +4,7 @@ ghost use Rattle.ent_closing.specs.Environment.{environment_of};
 
 use crate::closing::{Closing, closed_list};
 use crate::environment::Environment;
-use ent_closed::{Atom, Binding, Entangled, Known, Membership};
+use ent_semantics::{Atom, Binding, Entangled, Known, Membership};
 use ent_tree::Duplicate;
 use ent_value::Value;
 use std::alloc::{AllocError, Global};
@@ -12,8 +12,8 @@ use std::alloc::{AllocError, Global};
 impl Closing for Atom<Known> {
     type Closed = Atom<Value>;
 
-    ghost use Rattle.ent_closed.specs.Closing.{atom_over};
-    ghost use Rattle.ent_closed.specs.Form.{known_worth};
+    ghost use Rattle.ent_semantics.specs.Closing.{atom_over};
+    ghost use Rattle.ent_semantics.specs.Form.{known_worth};
 
     ghost closing = { λ environment atom. atom_over (known_worth environment) atom };
 
@@ -27,8 +27,8 @@ impl Closing for Atom<Known> {
 impl Closing for Membership<Known> {
     type Closed = Membership<Value>;
 
-    ghost use Rattle.ent_closed.specs.Closing.{membership_over};
-    ghost use Rattle.ent_closed.specs.Form.{known_worth};
+    ghost use Rattle.ent_semantics.specs.Closing.{membership_over};
+    ghost use Rattle.ent_semantics.specs.Form.{known_worth};
 
     ghost closing = { λ environment membership. membership_over (known_worth environment) membership };
 
@@ -46,8 +46,8 @@ impl Closing for Membership<Known> {
 impl Closing for Binding<Known> {
     type Closed = Binding<Value>;
 
-    ghost use Rattle.ent_closed.specs.Closing.{binding_over};
-    ghost use Rattle.ent_closed.specs.Form.{known_worth};
+    ghost use Rattle.ent_semantics.specs.Closing.{binding_over};
+    ghost use Rattle.ent_semantics.specs.Form.{known_worth};
 
     ghost closing = { λ environment binding. binding_over (known_worth environment) binding };
 
@@ -65,8 +65,8 @@ impl Closing for Binding<Known> {
 impl Closing for Entangled<Known> {
     type Closed = Entangled<Value>;
 
-    ghost use Rattle.ent_closed.specs.Closing.{entangled_over};
-    ghost use Rattle.ent_closed.specs.Form.{known_worth};
+    ghost use Rattle.ent_semantics.specs.Closing.{entangled_over};
+    ghost use Rattle.ent_semantics.specs.Form.{known_worth};
 
     ghost closing = { λ environment entangled. entangled_over (known_worth environment) entangled };
 

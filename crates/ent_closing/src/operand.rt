@@ -1,12 +1,12 @@
 //! Values, operands and terms, and what is made of them.
 ghost use Rattle.std.specs.Prelude.{◌≡◌, IfOk};
 ghost use Rattle.ent_semantics.specs.Term.{no_value};
-ghost use Rattle.ent_closed.specs.Form.{known_worth};
+ghost use Rattle.ent_semantics.specs.Form.{known_worth};
 ghost use Rattle.ent_closing.specs.Environment.{environment_of};
 
 use crate::closing::Closing;
 use crate::environment::Environment;
-use ent_closed::{Known, Operand, Term};
+use ent_semantics::{Known, Operand, Term};
 use ent_tree::{Boxed, Expression, Test};
 use ent_value::Value;
 use std::alloc::{AllocError, Global};
@@ -14,7 +14,7 @@ use std::alloc::{AllocError, Global};
 impl Closing for Known {
     type Closed = Value;
 
-    ghost use Rattle.ent_closed.specs.Form.{known_worth};
+    ghost use Rattle.ent_semantics.specs.Form.{known_worth};
 
     ghost closing = { known_worth };
 
@@ -33,8 +33,8 @@ impl Closing for Known {
 impl Closing for Operand<Known> {
     type Closed = Operand<Value>;
 
-    ghost use Rattle.ent_closed.specs.Closing.{operand_over};
-    ghost use Rattle.ent_closed.specs.Form.{known_worth};
+    ghost use Rattle.ent_semantics.specs.Closing.{operand_over};
+    ghost use Rattle.ent_semantics.specs.Form.{known_worth};
 
     ghost closing = { λ environment operand. operand_over (known_worth environment) operand };
 
@@ -53,8 +53,8 @@ impl Closing for Operand<Known> {
 impl Closing for Term<Known> {
     type Closed = Term<Value>;
 
-    ghost use Rattle.ent_closed.specs.Closing.{term_over};
-    ghost use Rattle.ent_closed.specs.Form.{known_worth};
+    ghost use Rattle.ent_semantics.specs.Closing.{term_over};
+    ghost use Rattle.ent_semantics.specs.Form.{known_worth};
 
     ghost closing = { λ environment term. term_over (known_worth environment) term };
 
@@ -69,7 +69,7 @@ impl Closing for Term<Known> {
 impl<T: Closing> Closing for Test<T> {
     type Closed = Test<T::Closed>;
 
-    ghost use Rattle.ent_closed.specs.Closing.{test_over};
+    ghost use Rattle.ent_semantics.specs.Closing.{test_over};
 
     ghost closing = { λ environment test. test_over (T.closing environment) test };
 
@@ -91,7 +91,7 @@ impl<T: Closing> Closing for Test<T> {
 impl<T: Closing> Closing for Expression<T> {
     type Closed = Expression<T::Closed>;
 
-    ghost use Rattle.ent_closed.specs.Closing.{expression_over};
+    ghost use Rattle.ent_semantics.specs.Closing.{expression_over};
 
     ghost closing = { λ environment expression. expression_over (T.closing environment) expression };
 

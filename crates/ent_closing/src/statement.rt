@@ -1,13 +1,13 @@
 //! Statements.
 ghost use Rattle.std.specs.Prelude.{◌≡◌, IfOk};
 ghost use Rattle.ent_semantics.specs.Entangled.{Valuation};
-ghost use Rattle.ent_closed.specs.Form.{Tables, known_worth, closed_worth, form_meaning};
-ghost use Rattle.ent_closed.specs.Closing.{closed};
+ghost use Rattle.ent_semantics.specs.Form.{Tables, known_worth, closed_worth, form_meaning};
+ghost use Rattle.ent_semantics.specs.Closing.{closed};
 ghost use Rattle.ent_closing.specs.Environment.{environment_of};
 
 use crate::closing::{Closing, closed_list, closed_sequence};
 use crate::environment::Environment;
-use ent_closed::{Known, Select, Statement, closing_keeps_the_meaning};
+use ent_semantics::{Known, Select, Statement, closing_keeps_the_meaning};
 use ent_tree::Duplicate;
 use ent_value::Value;
 use std::alloc::{AllocError, Global};
@@ -15,8 +15,8 @@ use std::alloc::{AllocError, Global};
 impl Closing for Select<Known> {
     type Closed = Select<Value>;
 
-    ghost use Rattle.ent_closed.specs.Closing.{select_over};
-    ghost use Rattle.ent_closed.specs.Form.{known_worth};
+    ghost use Rattle.ent_semantics.specs.Closing.{select_over};
+    ghost use Rattle.ent_semantics.specs.Form.{known_worth};
 
     ghost closing = { λ environment select. select_over (known_worth environment) select };
 
@@ -39,8 +39,8 @@ impl Closing for Select<Known> {
 impl Closing for Statement<Known> {
     type Closed = Statement<Value>;
 
-    ghost use Rattle.ent_closed.specs.Closing.{statement_over};
-    ghost use Rattle.ent_closed.specs.Form.{known_worth};
+    ghost use Rattle.ent_semantics.specs.Closing.{statement_over};
+    ghost use Rattle.ent_semantics.specs.Form.{known_worth};
 
     ghost closing = { λ environment statement. statement_over (known_worth environment) statement };
 

@@ -3,7 +3,7 @@
 use crate::command::said;
 use crate::ending::Ending;
 use crate::words::AskedRun;
-use ent_engine::{RunFault, read_whole, run_watched, run_workers};
+use ent_engine::{MOST_SESSIONS, RunFault, read_whole, run_watched, run_workers};
 use ent_fault_text::{InputFault, explain_fault, valid_text};
 use ent_reasons::Reasons;
 use ent_trace::Trace;
@@ -160,7 +160,7 @@ where
         rt.alloc(),
         &mut reader,
         &mut writer,
-        workers,
+        workers.min(MOST_SESSIONS),
         options.report,
     )
 }

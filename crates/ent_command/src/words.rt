@@ -2,11 +2,8 @@
 
 use clap::builder::ValueParser;
 use clap::{Arg, ArgAction, ArgMatches, Command};
-use ent_engine::{DEFAULT_TRIES, ReportVersion, RunOptions, VERSION};
+use ent_engine::{DEFAULT_TRIES, MOST_SESSIONS, ReportVersion, RunOptions, VERSION};
 use std::alloc::{AllocError, Global};
-
-/// The most workers; with none the scripts are run on one thread.
-const MOST_WORKERS: u64 = 64;
 
 /// The highest version of the report.
 const HIGHEST_REPORT: u64 = 2;
@@ -90,7 +87,7 @@ fn workers<'a>(alloc: Global) -> Arg<'a> {
     Arg::new(alloc, "workers")
         .long("workers")
         .value_name("N")
-        .value_parser(ValueParser::unsigned(0, MOST_WORKERS))
+        .value_parser(ValueParser::unsigned(0, MOST_SESSIONS as u64))
         .default_value("0")
         .help(
             "How many threads run the scripts, 0 to 64; 0 takes the main one. More pay where single joins take long",

@@ -7,7 +7,7 @@ use Rattle.std.specs.declared.cmp.Ordering.TheVariants.{Less, Equal, Greater}
 use Rattle.std.proofs.lemmas.Cmp.{lists_total}
 use Rattle.ent_value.specs.Order.{rows_total, exact_rows}
 use Rattle.ent_semantics.specs.Entangled.{Valuation}
-use Rattle.ent_closed.specs.Form.{Tables}
+use Rattle.ent_semantics.specs.Form.{Tables}
 use Rattle.ent_coordination.specs.Choice.{choice_cmp, IsLeastChoiceIfAny}
 use Rattle.ent_coordination.specs.Pool.{Posted}
 

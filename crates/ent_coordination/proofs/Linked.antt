@@ -2,7 +2,7 @@
 use Rattle.std.proofs.Common.{◌≡◌, ◌⊎◌, inl, inr, ℕ, zero, suc, List, Some, refl, sym, subst}
 use Rattle.std.specs.Prelude.{◌↔◌, Contains, slice_get}
 use Rattle.ent_value.specs.declared.value.Value.{Value}
-use Rattle.ent_closed.specs.declared.entangled.Atom.{Atom}
+use Rattle.ent_semantics.specs.declared.entangled.Atom.{Atom}
 use Rattle.ent_coordination.specs.Component.{SetOfTransactions, IsIn, IsSupported, IsInRemainder, AreJoined}
 use Rattle.ent_coordination.specs.Component.{AreLinkedIn, AreLinked, IsComponent}
 use Rattle.ent_coordination.specs.Pool.{Posted, CanMeet}

@@ -7,8 +7,8 @@ use Rattle.ent_value.specs.Value.{row_cmp, kinds_of}
 use Rattle.ent_value.specs.declared.value.Value.{Value}
 use Rattle.ent_semantics.specs.declared.answer.Fact.{Fact}
 use Rattle.ent_semantics.specs.Entangled.{Valuation}
-use Rattle.ent_closed.specs.declared.entangled.Entangled.{Entangled}
-use Rattle.ent_closed.specs.Form.{Tables, form_heads, form_posts, is_form_grounding}
+use Rattle.ent_semantics.specs.declared.entangled.Entangled.{Entangled}
+use Rattle.ent_semantics.specs.Form.{Tables, form_heads, form_posts, is_form_grounding}
 use Rattle.ent_coordination.specs.Pool.{Posted}
 
 -- a grounding of a statement over the tables, each value being of its variable's kind

@@ -1,7 +1,7 @@
 -- The remainder of a pool, and its components.
 use Rattle.std.specs.Prelude.{◌≡◌, ◌<◌, ◌⊎◌, ◌↔◌, ℕ, zero, suc, Bool, true, List, AllPairs, Contains, Some, slice_get}
 use Rattle.ent_value.specs.declared.value.Value.{Value}
-use Rattle.ent_closed.specs.declared.entangled.Atom.{Atom}
+use Rattle.ent_semantics.specs.declared.entangled.Atom.{Atom}
 use Rattle.ent_coordination.specs.Pool.{Posted, CanMeet}
 
 -- transactions, by whether they are in it

@@ -8,9 +8,9 @@ use Rattle.ent_value.specs.declared.value.Value.{Value}
 use Rattle.ent_semantics.specs.declared.answer.Fact.{Fact}
 use Rattle.ent_semantics.specs.Entangled.{Valuation}
 use Rattle.ent_semantics.specs.Kinds.{IsOfKind}
-use Rattle.ent_closed.specs.Form.{atom_fact}
-use Rattle.ent_closed.specs.declared.entangled.Atom.{Atom}
-use Rattle.ent_closed.specs.declared.entangled.Entangled.{Entangled}
+use Rattle.ent_semantics.specs.Form.{atom_fact}
+use Rattle.ent_semantics.specs.declared.entangled.Atom.{Atom}
+use Rattle.ent_semantics.specs.declared.entangled.Entangled.{Entangled}
 
 -- A transaction's statement that was posted, of this attempt and at this place, its host variables replaced by their
 -- values. What pools and choices are doesn't read the attempt and the place.

@@ -2,8 +2,8 @@
 ghost use Rattle.std.specs.Prelude.{◌≡◌, ◌↔◌, ℕ, Contains, List, Option, Some, slice_get};
 ghost use Rattle.ent_value.specs.declared.value.Value.{Value};
 ghost use Rattle.ent_semantics.specs.Entangled.{Valuation};
-ghost use Rattle.ent_closed.specs.Form.{Tables};
-ghost use Rattle.ent_closed.specs.declared.entangled.Atom.{Atom};
+ghost use Rattle.ent_semantics.specs.Form.{Tables};
+ghost use Rattle.ent_semantics.specs.declared.entangled.Atom.{Atom};
 ghost use Rattle.ent_coordination.specs.Choice.{IsLeastChoiceIfAny};
 ghost use Rattle.ent_coordination.specs.Component.{IsComponent, IsIn, IsInRemainder, IsSupported};
 ghost use Rattle.ent_coordination.specs.Component.{SetOfTransactions};

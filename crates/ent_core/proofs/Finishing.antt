@@ -5,12 +5,12 @@ use Rattle.std.specs.Prelude.{All, Contains, IsSome, slice_get, slice_index_or}
 use Rattle.std.specs.List.{AllByRecursion, filter}
 use Rattle.std.proofs.lemmas.Bool.Decides.{nat_tests}
 use Rattle.std.proofs.lemmas.Option.{slice_get_within}
-use Rattle.ent_set.specs.Sets as set
+use Rattle.ent_lists.specs.Sets as set
 use Rattle.ent_value.specs.declared.value.Value.{Value}
-use Rattle.ent_closed.specs.Kinds.{changed_tables}
-use Rattle.ent_closed.specs.declared.statement.Statement.{Statement}
-use Rattle.ent_closed.specs.declared.statement.Statement.TheVariants as statements
-use Rattle.ent_eval.specs.Change.{IsApplicable}
+use Rattle.ent_semantics.specs.FormKinds.{changed_tables}
+use Rattle.ent_semantics.specs.declared.statement.Statement.{Statement}
+use Rattle.ent_semantics.specs.declared.statement.Statement.TheVariants as statements
+use Rattle.ent_effect.specs.Change.{IsApplicable}
 use Rattle.ent_job.specs.Work.{AreUsed, IsOne, IsWork, StandAtNumbers}
 use Rattle.ent_eval.specs.Result.{CanBeMade, answer_of}
 use Rattle.ent_form.specs.declared.fault.FormFault.{FormFault}

@@ -5,7 +5,7 @@ use Rattle.std.specs.Prelude.{AllPairs, IfSome}
 use Rattle.std.specs.List.{AllByRecursion, IsDistinct}
 use Rattle.std.proofs.lemmas.Bool.Decides.{nat_tests}
 use Rattle.ent_semantics.specs.Entangled.{Valuation}
-use Rattle.ent_closed.specs.Form.{Tables}
+use Rattle.ent_semantics.specs.Form.{Tables}
 use Rattle.ent_coordination.specs.Choice.{AreGroundings, IsLeastChoiceIfAny}
 use Rattle.ent_coordination.specs.Pool.{Posted}
 use Rattle.ent_form.specs.declared.fault.FormFault.{FormFault}

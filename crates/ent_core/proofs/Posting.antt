@@ -4,7 +4,7 @@ use Rattle.std.proofs.Common.{subst, ◌∙◌, map, Contains, Result, Ok, Err, 
 use Rattle.std.specs.List.{filter}
 use Rattle.std.specs.Prelude.{IfOk, IsSome}
 use Rattle.ent_value.specs.declared.value.Value.{Value}
-use Rattle.ent_closed.specs.declared.entangled.Entangled.{Entangled}
+use Rattle.ent_semantics.specs.declared.entangled.Entangled.{Entangled}
 use Rattle.ent_coordination.specs.Pool.{IsFirstUnsafe, IsSafe, Posted, Unsafe}
 use Rattle.ent_form.specs.declared.fault.FormFault.{FormFault}
 use Rattle.ent_lists.specs.Elements.{In, clash, contains_in, in_contains, in_either, in_first, in_second, index_pairs}

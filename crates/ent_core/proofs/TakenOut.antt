@@ -6,7 +6,7 @@ use Rattle.std.specs.List.{AllByRecursion, IsDistinct, cons_option, filter, filt
 use Rattle.std.proofs.lemmas.List.{length-map, map-append}
 use Rattle.ent_lists.specs.Elements.{all_joined}
 use Rattle.ent_tree.specs.declared.declaration.Opening.{Opening}
-use Rattle.ent_closed.specs.Form.{Tables}
+use Rattle.ent_semantics.specs.Form.{Tables}
 use Rattle.ent_form.specs.declared.catalogue.TableSchema.{TableSchema}
 use Rattle.ent_members.specs.declared.run_attempts.RunAttempt.{RunAttempt}
 use Rattle.ent_members.specs.RunAttempts.{run_attempt_of, numbers_in, run_attempts_in}

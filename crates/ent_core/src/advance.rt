@@ -1,18 +1,17 @@
 //! A member goes on with the outcome of its statement.
 ghost use Rattle.std.specs.Prelude.{◌≡◌, [], IfOk, IsSome, OnErr, OnOk};
 ghost use Rattle.std.specs.List.{AllByRecursion};
-ghost use Rattle.ent_closed.specs.Kinds.{changed_tables};
+ghost use Rattle.ent_semantics.specs.FormKinds.{changed_tables};
 ghost use Rattle.ent_core.specs.Advance.{MayChange, binding, changing};
 ghost use Rattle.ent_run.specs.Places.{Changes, found};
 ghost use Rattle.ent_protocol.specs.Finish.{stepped, variable_of, with_bound};
 ghost use Rattle.ent_semantics.specs.declared.answer.Answer.TheVariants as answers;
 
-use ent_closed::Statement;
 use ent_group::Tx;
 use ent_job::Single;
 use ent_rel::Delta;
 use ent_run::Run;
-use ent_semantics::Answer;
+use ent_semantics::{Answer, Statement};
 use ent_tables::StoredTables;
 use ent_tree::Duplicate;
 use ent_value::{Name, Row, Sequence, Value};

@@ -21,7 +21,6 @@ use crate::commit::commit;
 use crate::reply::Reply;
 use crate::store::Store;
 use crate::take_out::roll_back;
-use ent_closed::{Entangled, Statement};
 use ent_components::unsafe_post;
 use ent_form::FormFault;
 use ent_group::Tx;
@@ -34,6 +33,7 @@ use ent_protocol_laws::{
     attempts_stay_within, members_stand_by_number, transactions_are_counted,
     transactions_stand_once,
 };
+use ent_semantics::{Entangled, Statement};
 use ent_transaction_table::Cause;
 use ent_value::Value;
 use std::alloc::AllocError;

@@ -1,13 +1,15 @@
 //! What is told of a core without an event. No look-up takes memory.
-ghost use Rattle.std.specs.Prelude.{◌≡◌, MatchOption};
+ghost use Rattle.std.specs.Prelude.{◌≡◌, MatchOption, length, slice_get};
+ghost use Rattle.std.specs.Arc.{arc_value};
 ghost use Rattle.std.specs.Option.{option_copied, option_map};
 ghost use Rattle.ent_core.specs.Kinds.{kinds_of_table};
 ghost use Rattle.ent_protocol.specs.Lookup.{answers_of, dormant_at, entry_at, group_of, present_rows};
 ghost use Rattle.ent_protocol.specs.Lookup.{running_members};
 ghost use Rattle.ent_protocol.specs.Member.{pool};
-ghost use Rattle.ent_protocol.specs.Reached.{scripts_of};
+ghost use Rattle.ent_protocol.specs.Reached.{scripts_of, settled};
 ghost use Rattle.ent_semantics.specs.Serial.{numbered};
 ghost use Rattle.ent_match.specs.Place.{HasNoneOf};
+ghost use Rattle.ent_tables.specs.Stored.{kinds_declared, kinds_of, rows_of};
 ghost use Rattle.ent_core.specs.Obstacle.{IsOf};
 
 use crate::obstacle::posted_of;
@@ -20,6 +22,7 @@ use ent_rel::Table;
 use ent_semantics::{Answer, Entry, element};
 use ent_tree::Script;
 use ent_value::Name;
+use std::sync::Arc;
 
 /// The transaction at a place of the dormant list, from 1.
 pub(crate) fn dormant(store: &Store, place: usize) -> Option<&Entrant>
@@ -57,6 +60,23 @@ pub(crate) fn table<'a>(store: &'a Store, name: &Name) -> Option<&'a Table>
         Some((number, _)) => store.tables.table(number),
         None => None,
     }
+}
+
+/// The table of a number as it stood before the first change of it by a member, else as it stands, where there is one.
+pub(crate) fn settled_table(store: &Store, number: usize) -> Option<&Arc<Table>>
+    ensures rows { option_map (λ table. rows_of (arc_value table.now)) result ≡ slice_get (settled store.now) number }
+    ensures kinds { option_map (λ table. kinds_of (arc_value table.now)) result
+        ≡ slice_get (kinds_declared store.now.opening.tables) number }
+{
+    store.tables.settled(number)
+}
+
+/// How many tables there are.
+pub(crate) fn table_count(store: &Store) -> usize
+    ensures declared { result ≡ length store.now.opening.tables }
+    ensures settled { result ≡ length (settled store.now) }
+{
+    store.tables.len()
 }
 
 /// The members of the run, by number.

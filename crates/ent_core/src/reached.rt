@@ -1,6 +1,7 @@
 //! The core whose type keeps that its state is reached.
 ghost use Rattle.std.specs.Prelude.{IfErr, IfOk, IsOk, MatchOption, None, OnErr, OnOk, Some, ◌≡◌};
-ghost use Rattle.std.specs.Prelude.{◌∷◌, [], length};
+ghost use Rattle.std.specs.Prelude.{◌∷◌, [], length, slice_get};
+ghost use Rattle.std.specs.Arc.{arc_value};
 ghost use Rattle.std.specs.List.{AllByRecursion};
 ghost use Rattle.std.specs.Option.{option_copied, option_map};
 ghost use Rattle.ent_book.specs.Tables.{book_seen};
@@ -20,11 +21,13 @@ ghost use Rattle.ent_semantics.specs.declared.answer.Failure.{Failure};
 ghost use Rattle.ent_protocol.specs.Lookup.{answers_of, dormant_at, entry_at, group_of, present_rows};
 ghost use Rattle.ent_protocol.specs.Lookup.{Ready, Turn as Next, running_members, standing};
 ghost use Rattle.ent_protocol.specs.Reached.{CanClose, IsFinishedBook, IsReached, book_of, opened, scripts_of};
+ghost use Rattle.ent_protocol.specs.Reached.{settled};
 ghost use Rattle.ent_protocol.specs.Step.{Step};
 ghost use Rattle.ent_headline.specs.Resolved.{resolved_forms};
 ghost use Rattle.ent_semantics.specs.Book.{IsLegal};
 ghost use Rattle.ent_semantics.specs.Serial.{numbered};
 ghost use Rattle.ent_protocol_laws.specs.Attempts.{AsksForRun};
+ghost use Rattle.ent_tables.specs.Stored.{kinds_declared, kinds_of, rows_of};
 ghost use Rattle.ent_value.specs.Refusal.{Gives};
 ghost use Rattle.ent_value.specs.declared.refusal.Refusal.TheVariants.{Fault};
 ghost use Rattle.ent_match.specs.Place.{HasNoneOf};
@@ -63,6 +66,7 @@ use ent_tree::{Opening, Script};
 use ent_value::{Name, Refusal, Sequence};
 use std::alloc::{AllocError, AllocFailed, Global};
 use std::marker::Model;
+use std::sync::Arc;
 
 /// Scripts that are run at once over an opening. Contracts see the protocol's state; it is always reached: events led
 /// to it from the opening's own state.
@@ -410,6 +414,25 @@ impl Core {
         ensures kinds { option_map (λ table. table.now.kinds) result ≡ kinds_of_table self.now.opening name.now }
     {
         lookup::table(&self.store, name)
+    }
+
+    /// How many tables there are.
+    pub fn table_count(&self) -> usize
+        ensures declared { result ≡ length self.now.opening.tables }
+        ensures settled { result ≡ length (settled self.now) }
+    {
+        lookup::table_count(&self.store)
+    }
+
+    /// The table of a number, counted from 0, as it stood before the first change of it by a member, else as it stands,
+    /// where there is one.
+    pub fn settled_table(&self, number: usize) -> Option<&Arc<Table>>
+        ensures rows { option_map (λ table. rows_of (arc_value table.now)) result
+            ≡ slice_get (settled self.now) number }
+        ensures kinds { option_map (λ table. kinds_of (arc_value table.now)) result
+            ≡ slice_get (kinds_declared self.now.opening.tables) number }
+    {
+        lookup::settled_table(&self.store, number)
     }
 
     /// Where a transaction stands; nowhere where no script has its number.

@@ -9,10 +9,10 @@ ghost use Rattle.ent_protocol.specs.Run.{Submits};
 
 use crate::reply::Reply;
 use crate::store::Store;
-use ent_closed::{Known, Statement};
 use ent_form::{Catalogue, FormFault, resolve};
 use ent_next::SubmittedScript;
 use ent_protocol_laws::transactions_stand_once;
+use ent_semantics::{Known, Statement};
 use ent_tree::{MOST_SCRIPTS, MOST_STATEMENTS, Opening, Script};
 use ent_value::{Limited, Refusal};
 use std::alloc::{AllocError, AllocFailed, Global};

@@ -1,9 +1,9 @@
 -- What is found of the core among the sessions, one after the other.
 use Rattle.std.proofs.Common.{◌≡◌, inl, inr, ℕ, zero, suc, ◌+◌, ◌<◌, ◌≤◌, List, [], ◌∷◌, ◌++◌, length, drop, get_or}
 use Rattle.std.proofs.Common.{map, refl, ap}
-use Rattle.std.proofs.Common.{sym, subst, ◌∙◌, arith, add-one, drop-cons, drop_of_length-le, Option, Some, None}
+use Rattle.std.proofs.Common.{sym, subst, ◌∙◌, arith, drop-cons, drop_of_length-le, Some, None}
 use Rattle.std.proofs.Common.{slice_get}
-use Rattle.std.specs.Prelude.{Contains, slice_index_or}
+use Rattle.std.specs.Prelude.{Contains}
 use Rattle.std.specs.List.{AllByRecursion, flat_map}
 use Rattle.ent_tree.specs.declared.script.Script.{Script}
 use Rattle.ent_semantics.specs.Serial.{numbered}
@@ -13,8 +13,8 @@ use Rattle.ent_desk.specs.declared.ticket.Receipt.{Receipt}
 use Rattle.ent_desk.specs.declared.ticket.Ticket.{Ticket}
 use Rattle.ent_desk.specs.Accounted.{HasReceipt, HaveReceipts}
 use Rattle.ent_desk.specs.Opened.{tickets_from}
-use Rattle.ent_desk.specs.Seen.{SessionState, ticket}
-use Rattle.ent_desk.proofs.Exactness.{In, contains_in, in_contains, in_map}
+use Rattle.ent_desk.specs.Seen.{ticket}
+use Rattle.ent_desk.proofs.Exactness.{In, contains_in, in_contains}
 
 -- ---- among sessions
 

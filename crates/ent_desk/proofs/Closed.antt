@@ -1,5 +1,5 @@
 -- What the comparison and the ledgers show together.
-use Rattle.std.proofs.Common.{◌≡◌, ℕ, suc, List, [], ◌∷◌, length, map, refl, ap, sym, subst, ◌∙◌, Some}
+use Rattle.std.proofs.Common.{◌≡◌, ℕ, suc, List, [], ◌∷◌, length, map, refl, ap, sym, subst, ◌∙◌}
 use Rattle.std.specs.Prelude.{Contains, IsPermutation, sum_by}
 use Rattle.std.specs.List.{AllByRecursion}
 use Rattle.std.proofs.lemmas.List.{length-map}
@@ -18,12 +18,13 @@ use Rattle.ent_termination.specs.Fates.{HaveFates}
 use Rattle.ent_headline.specs.Resolved.{resolved_forms}
 use Rattle.ent_desk.specs.declared.ticket.Receipt.{Receipt}
 use Rattle.ent_desk.specs.declared.ticket.Ticket.{Ticket}
-use Rattle.ent_desk.specs.Accounted.{HasReceipt, HaveReceipts, IsAccounted, receipt}
+use Rattle.ent_desk.specs.Accounted.{HaveReceipts, IsAccounted}
 use Rattle.ent_desk.specs.Closed.{AreReceiptsOf, HasItsRuns, IsClosedBook, Numbered, all_receipts, all_tickets}
 use Rattle.ent_desk.specs.Closed.{entry_of, entries_from}
 use Rattle.ent_desk.specs.Opened.{tickets_from}
+use Rattle.ent_desk.specs.Receipts.{receipt}
 use Rattle.ent_desk.specs.Seen.{SessionState}
-use Rattle.ent_desk.proofs.Exactness.{AllIn, Ascends, In, all_by, all_in, by_all, contains_in, exact, in_contains}
+use Rattle.ent_desk.proofs.Exactness.{AllIn, Ascends, all_by, all_in, by_all, contains_in, exact, in_contains}
 use Rattle.ent_desk.proofs.Fates.{in_book}
 
 -- ---- tickets

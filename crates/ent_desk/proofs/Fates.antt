@@ -1,6 +1,6 @@
 -- The fate that a transaction stands with is one of its book's.
-use Rattle.std.proofs.Common.{◌≡◌, ◌⊎◌, inl, inr, ◌==◌, ℕ, Bool, true, false, List, [], ◌∷◌, ◌++◌, map, refl, ap, sym}
-use Rattle.std.proofs.Common.{◌∙◌, subst, append_assoc, if◌then◌else◌, Option, Some, None, nat_lt, cond}
+use Rattle.std.proofs.Common.{◌≡◌, inl, inr, ◌==◌, ℕ, Bool, true, false, List, [], ◌∷◌, ◌++◌, map, refl, ap, sym}
+use Rattle.std.proofs.Common.{◌∙◌, subst, append_assoc, if◌then◌else◌, Some, None, nat_lt, cond}
 use Rattle.std.specs.List.{filter}
 use Rattle.std.proofs.lemmas.Bool.{eqb-true}
 use Rattle.ent_semantics.specs.declared.book.Fate.{Fate}

@@ -1,19 +1,18 @@
 -- What an event leaves of a desk: gathered, with as many scripts and entries as its books say.
-use Rattle.std.proofs.Common.{◌≡◌, ◌+◌, ◌++◌, ◌∙◌, ℕ, zero, suc, List, [], ◌∷◌, length, refl, ap, sym, subst, arith}
-use Rattle.std.proofs.Common.{append_assoc}
+use Rattle.std.proofs.Common.{◌≡◌, ◌+◌, ◌++◌, ◌∙◌, ℕ, suc, List, [], ◌∷◌, refl, ap, arith}
+use Rattle.std.proofs.Common.{Option, Some}
 use Rattle.ent_form.specs.declared.fault.FormFault.{FormFault}
 use Rattle.ent_protocol.specs.Event.{Event, Reply, Submit, Submitted}
-use Rattle.ent_protocol.specs.Reached.{LeadsTo}
 use Rattle.ent_protocol.specs.State.{State}
 use Rattle.ent_protocol.specs.Step.{Step}
 use Rattle.ent_headline.specs.Resolved.{resolved_forms}
+use Rattle.ent_desk.specs.Advance.{Advances, Makes}
 use Rattle.ent_desk.specs.Kept.{IsKeptDesk}
-use Rattle.ent_desk.specs.Seen.{Begins, DeskState, GetsReceipts, LeadsOn, SessionState}
+use Rattle.ent_desk.specs.Seen.{DeskState, GetsReceipts, LeadsOn, SessionState}
+use Rattle.ent_desk.specs.declared.advance.Advance.{Advance}
+use Rattle.ent_desk.specs.declared.advance.Advance.TheVariants as advances
 use Rattle.ent_tree.specs.declared.script.Script.{Script}
-use Rattle.ent_core.specs.Reply.{reply_seen}
-use Rattle.ent_core.specs.declared.reply.Reply.{Reply as Given}
-use Rattle.ent_core.specs.declared.reply.Reply.TheVariants as given
-use Rattle.ent_desk.proofs.Counting.{Adds, submits_one}
+use Rattle.ent_desk.proofs.Counting.{Adds, Keeps, adds_none, submits_one}
 
 pub kept_on : (count scripts entries more commits scripts' entries' : ℕ) (old new : State) (event : Event)
     (reply : Reply FormFault) → IsKeptDesk old count scripts entries → Step resolved_forms old event reply new
@@ -33,20 +32,19 @@ kept_on count scripts entries more commits scripts' entries' old new event reply
 
 -- the same where nothing is added
 pub kept_none : (count scripts entries : ℕ) (old new : State) (event : Event) (reply : Reply FormFault)
-    → IsKeptDesk old count scripts entries → Step resolved_forms old event reply new → Adds 0 0 old new
+    → IsKeptDesk old count scripts entries → Step resolved_forms old event reply new → Keeps old new
     → IsKeptDesk new count scripts entries
-kept_none count scripts entries old new event reply kept step adds =
-    kept_on count scripts entries 0 0 scripts entries old new event reply kept step adds (omega arith) (omega arith)
+kept_none count scripts entries old new event reply kept step keeps =
+    kept_on count scripts entries 0 0 scripts entries old new event reply kept step (adds_none old new keeps)
+    (omega arith) (omega arith)
 
 -- a script that is taken
-pub kept_submit : (count scripts entries scripts' : ℕ) (old new : State) (script : Script) (reply : Given) (tx : ℕ)
-    → reply ≡ given.Submitted tx → IsKeptDesk old count scripts entries
-    → Step resolved_forms old (Submit script) (reply_seen reply) new → scripts' ≡ scripts + 1
-    → IsKeptDesk new count scripts' entries
-kept_submit count scripts entries scripts' old new script reply tx is kept step more =
-    let told = subst (λ (r : Given). Step resolved_forms old (Submit script) (reply_seen r) new) is step in
-    kept_on count scripts entries 1 0 scripts' entries old new (Submit script) (Submitted tx) kept told
-    (submits_one resolved_forms old new script tx told) more (omega arith)
+pub kept_submit : (count scripts entries scripts' : ℕ) (old new : State) (script : Script) (tx : ℕ)
+    → IsKeptDesk old count scripts entries → Step resolved_forms old (Submit script) (Submitted tx) new
+    → scripts' ≡ scripts + 1 → IsKeptDesk new count scripts' entries
+kept_submit count scripts entries scripts' old new script tx kept step more =
+    kept_on count scripts entries 1 0 scripts' entries old new (Submit script) (Submitted tx) kept step
+    (submits_one resolved_forms old new script tx step) more (omega arith)
 
 -- one event leads on, and none
 pub one_on : (count : ℕ) (old new : State) (event : Event) (reply : Reply FormFault)
@@ -59,40 +57,27 @@ pub none_on : (old new : DeskState) → new ≡ old → LeadsOn old new
 none_on old new is =
     record { events = 0; leads = ap (λ (d : DeskState). d.core) is; count = ap (λ (d : DeskState). d.count) is }
 
-joined : (n m : ℕ) (first middle last : State) → LeadsTo resolved_forms n first middle
-    → LeadsTo resolved_forms m middle last → (k : ℕ) × LeadsTo resolved_forms k first last
-joined n zero first middle last h is = (n, subst (λ (s : State). LeadsTo resolved_forms n first s) (sym is) h)
-joined n (suc m) first middle last h (s, event, reply, more, step) =
-    let r = joined n m first middle s h more in
-    (suc r.0, (s, event, reply, r.1, step))
-
-pub both_on : (one two three : DeskState) → LeadsOn one two → LeadsOn two three → LeadsOn one three
-both_on one two three h k =
-    let r = joined h.events k.events one.core two.core three.core h.leads k.leads in
-    record { events = r.0; leads = r.1; count = k.count ∙ h.count }
-
-append_nil : {X : Type 0} (xs : List X) → xs ≡ xs ++ []
+pub append_nil : {X : Type 0} (xs : List X) → xs ≡ xs ++ []
 append_nil [] = refl
 append_nil (x ∷ xs) = ap (λ l. x ∷ l) (append_nil xs)
 
-pub begins_same : {X : Type 0} (xs ys : List X) → ys ≡ xs → Begins xs ys
-begins_same xs ys is = ([], is ∙ append_nil xs)
+-- what is made leads on
+makes_on : (event : Event) (told : Option Advance) (before after : DeskState) → Makes event before told after
+    → LeadsOn before after
+makes_on event told before after h =
+    record { events = 1; leads = (before.core, event, h.reply, refl, h.step); count = h.count }
 
-pub begins_on : {X : Type 0} (xs ys zs : List X) → Begins xs ys → Begins ys zs → Begins xs zs
-begins_on xs ys zs h k = (h.0 ++ k.0, k.1 ∙ ap (λ l. l ++ k.0) h.1 ∙ append_assoc xs h.0 k.0)
+pub advances_on : (told : Advance) (before after : DeskState) → Advances before told after → LeadsOn before after
+advances_on (advances.Lent job) before after h = makes_on h.0 (Some (advances.Lent job)) before after h.2
+advances_on advances.Moved before after h = makes_on h.0 (Some advances.Moved) before after h.2
+advances_on advances.Idle before after h = none_on before after h.0
+advances_on advances.Done before after h = none_on before after h.0
 
+-- nothing was got
 pub gets_none : (old new : SessionState) → new ≡ old → GetsReceipts old new
 gets_none old new is =
     record {
       tickets = ap (λ (s : SessionState). s.tickets) is;
       first = ap (λ (s : SessionState). s.first) is;
-      receipts = begins_same old.receipts new.receipts (ap (λ (s : SessionState). s.receipts) is);
-    }
-
-pub gets_on : (one two three : SessionState) → GetsReceipts one two → GetsReceipts two three → GetsReceipts one three
-gets_on one two three h k =
-    record {
-      tickets = k.tickets ∙ h.tickets;
-      first = k.first ∙ h.first;
-      receipts = begins_on one.receipts two.receipts three.receipts h.receipts k.receipts;
+      receipts = ([], ap (λ (s : SessionState). s.receipts) is ∙ append_nil old.receipts);
     }

@@ -6,4 +6,7 @@ pub mod Closed
 pub mod Submitted
 pub mod Opened
 pub mod Accounting
+pub mod Drafting
 pub mod Receiving
+pub mod Standstill
+pub mod Advancing

@@ -1,15 +1,14 @@
 -- A desk is opened: the tickets of its scripts, and the sessions.
 use Rattle.std.proofs.Common.{◌≡◌, ℕ, zero, suc, ◌+◌, ◌-◌, ◌≤◌, ◌<◌, Bool, true, false, List, [], ◌∷◌, ◌++◌, length}
-use Rattle.std.proofs.Common.{map}
-use Rattle.std.proofs.Common.{add-one, get_or, length-take, take, replicate, refl, ap, sym, subst, ◌∙◌, arith, Result}
+use Rattle.std.proofs.Common.{add-one, get_or, length-take, take, replicate, refl, ap, sym, ◌∙◌, arith, Result}
 use Rattle.std.proofs.Common.{Ok, Err, nat_le}
 use Rattle.std.proofs.Math.Seq.{take-suc}
 use Rattle.std.proofs.lemmas.List.{length-map}
 use Rattle.ent_tree.specs.declared.limits.TheConstants.{MOST_SCRIPTS}
 use Rattle.ent_tree.specs.declared.script.Script.{Script}
-use Rattle.ent_closed.specs.declared.operand.Known.{Known}
-use Rattle.ent_closed.specs.declared.statement.Statement.{Statement}
-use Rattle.ent_protocol.specs.Event.{Submit, Submitted}
+use Rattle.ent_semantics.specs.declared.operand.Known.{Known}
+use Rattle.ent_semantics.specs.declared.statement.Statement.{Statement}
+use Rattle.ent_protocol.specs.Event.{Submitted}
 use Rattle.ent_protocol.specs.Reached.{IsGatheredState}
 use Rattle.ent_protocol.specs.Run.{Forms, SubmitsForm, SubmitsUnless}
 use Rattle.ent_protocol.specs.State.{State}

@@ -1,19 +1,19 @@
 -- What a play without events leaves: the scripts of an input were submitted, and the input has no fault of form.
 use Rattle.std.proofs.Common.{◌≡◌, ℕ, zero, suc, Bool, true, false, List, [], ◌∷◌, ◌++◌, map, length, refl}
-use Rattle.std.proofs.Common.{sym, ap, subst, ◌∙◌, Option, None, Result, Ok, Err, nat_le}
+use Rattle.std.proofs.Common.{sym, ap, subst, ◌∙◌, None, Result, Ok, Err, nat_le}
 use Rattle.std.specs.Result.{result_err}
 use Rattle.std.proofs.lemmas.List.{map-append}
 use Rattle.ent_tree.specs.declared.declaration.Opening.{Opening}
 use Rattle.ent_tree.specs.declared.limits.TheConstants.{MOST_SCRIPTS}
 use Rattle.ent_tree.specs.declared.script.Script.{Script}
-use Rattle.ent_closed.specs.declared.operand.Known.{Known}
-use Rattle.ent_closed.specs.declared.statement.Statement.{Statement}
+use Rattle.ent_semantics.specs.declared.operand.Known.{Known}
+use Rattle.ent_semantics.specs.declared.statement.Statement.{Statement}
 use Rattle.ent_form.specs.OpeningFault.{Check, ◌before◌, opening_fault}
 use Rattle.ent_form.specs.declared.fault.FormFault.{FormFault}
 use Rattle.ent_protocol.specs.Event.{Event, Reply, Submit, Submitted}
 use Rattle.ent_protocol.specs.Play.{Plays, IsPlayed}
-use Rattle.ent_protocol.specs.Reached.{IsGatheredState, opened, scripts_of}
-use Rattle.ent_protocol.specs.Run.{SubmitsForm, SubmitsUnless, submitting}
+use Rattle.ent_protocol.specs.Reached.{IsGatheredState, scripts_of}
+use Rattle.ent_protocol.specs.Run.{SubmitsForm, SubmitsUnless}
 use Rattle.ent_protocol.specs.State.{State}
 use Rattle.ent_protocol.specs.State.{Submitted as OneSubmitted}
 use Rattle.ent_protocol.specs.Step.{Step}

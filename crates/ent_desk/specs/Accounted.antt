@@ -9,12 +9,9 @@ use Rattle.ent_protocol.specs.State.{State}
 use Rattle.ent_desk.specs.declared.ticket.Receipt.{Receipt}
 use Rattle.ent_desk.specs.Closed.{all_receipts, all_tickets}
 use Rattle.ent_desk.specs.Opened.{first_over, tickets_from}
+use Rattle.ent_desk.specs.Receipts.{receipt}
 use Rattle.ent_desk.specs.Seen.{SessionState}
 use Rattle.ent_desk.specs.Told.{fate_in}
-
--- the receipt of an entry
-abbrev pub receipt : ℕ → Entry → ℕ → Receipt
-receipt number entry runs = record { number = number; tx = entry.tx; runs = runs; answers = entry.answers }
 
 -- among these is the receipt of an entry, with the runs of its transaction's fate
 abbrev pub HasReceipt : State → List Receipt → ℕ → Entry → Type 0

@@ -1,5 +1,5 @@
 -- The book of a manager that was closed.
-use Rattle.std.specs.Prelude.{◌≡◌, ℕ, suc, List, [], ◌∷◌, Some, Contains, IsPermutation, map}
+use Rattle.std.specs.Prelude.{ℕ, suc, List, [], ◌∷◌, Some, Contains, IsPermutation, map}
 use Rattle.std.specs.List.{AllByRecursion, flat_map}
 use Rattle.ent_tree.specs.declared.declaration.Opening.{Opening}
 use Rattle.ent_tree.specs.declared.script.Script.{Script}

@@ -1,6 +1,9 @@
 pub mod Seen
 pub mod Kept
 pub mod Told
+pub mod Receipts
+pub mod Drafts
+pub mod Advance
 pub mod Closed
 pub mod Opened
 pub mod Accounted

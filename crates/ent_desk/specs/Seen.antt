@@ -1,5 +1,5 @@
 -- What contracts see of a session and of the desk behind the lock.
-use Rattle.std.specs.Prelude.{◌≡◌, ℕ, List, [], ◌∷◌, ◌++◌, Option, Some, None, suc}
+use Rattle.std.specs.Prelude.{◌≡◌, ℕ, List, [], ◌∷◌, ◌++◌, Option}
 use Rattle.ent_tree.specs.declared.script.Script.{Script}
 use Rattle.ent_protocol.specs.Reached.{LeadsTo}
 use Rattle.ent_protocol.specs.State.{State}

@@ -1,15 +1,9 @@
--- What replies and look-ups tell a session.
-use Rattle.std.specs.Prelude.{ℕ, List, [], Option, Some, None}
+-- What look-ups and receipts tell of fates.
+use Rattle.std.specs.Prelude.{Option, Some, None}
 use Rattle.ent_semantics.specs.declared.book.Fate.{Fate}
 use Rattle.ent_semantics.specs.declared.book.Fate.TheVariants as fates
-use Rattle.ent_protocol.specs.Event.{Reply, Committed}
 use Rattle.ent_protocol.specs.Lookup.{Standing, Finished}
 use Rattle.ent_desk.specs.declared.ticket.Receipt.{Receipt}
-
--- the journal's new entries, and whose they are
-abbrev pub entries_in : {F : Type 0} → Reply F → List (ℕ × ℕ)
-entries_in (Committed entries) = entries
-entries_in other = []
 
 -- the fate of a transaction that is finished
 abbrev pub fate_in : Option Standing → Option Fate

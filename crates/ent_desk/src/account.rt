@@ -1,8 +1,9 @@
 //! Whether the sessions hold what the core has.
 ghost use Rattle.std.specs.Prelude.{◌≡◌, ◌<◌, Contains, IfSome, Some, length, map, true, suc};
-ghost use Rattle.ent_desk.specs.Accounted.{HasReceipt, HaveReceipts, IsAccounted, receipt};
+ghost use Rattle.ent_desk.specs.Accounted.{HasReceipt, HaveReceipts, IsAccounted};
 ghost use Rattle.ent_desk.specs.Closed.{all_receipts, all_tickets};
 ghost use Rattle.ent_desk.specs.Opened.{first_over, tickets_from};
+ghost use Rattle.ent_desk.specs.Receipts.{receipt};
 ghost use Rattle.ent_desk.specs.Seen.{ticket};
 ghost use Rattle.ent_desk.specs.Told.{fate_in};
 ghost use Rattle.ent_protocol.specs.Lookup.{standing};

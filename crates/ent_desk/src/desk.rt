@@ -1,31 +1,40 @@
 //! What stands behind the lock.
-ghost use Rattle.std.specs.Prelude.{◌≡◌, ◌+◌, ◌≤◌, ◌∷◌, ◌++◌, ℕ, [], IfErr, IfOk, OnErr, OnOk, length};
+ghost use Rattle.std.specs.Prelude.{◌≡◌, ◌≢◌, ◌↔◌, ◌<◌, ◌≤◌, [], None, IfErr, IfOk, OnErr, length, true, false};
 ghost use Rattle.ent_core.specs.Begin.{IsFreeMember};
-ghost use Rattle.ent_core.specs.Reply.{reply_seen};
-ghost use Rattle.ent_desk.specs.Kept.{IsKeptDesk};
+ghost use Rattle.ent_core.specs.Pick.{NoneCanBePicked};
+ghost use Rattle.ent_desk.specs.Advance.{Advances, BeginsUnless, IsStill, MakesUnless};
+ghost use Rattle.ent_desk.specs.Drafts.{AreDraftedFor};
+ghost use Rattle.ent_desk.specs.Receipts.{Receives};
 ghost use Rattle.ent_desk.specs.Seen.{GetsReceipts, LeadsOn, with_ticket};
 ghost use Rattle.ent_desk.specs.Told.{fate_in};
+ghost use Rattle.ent_desk.specs.declared.desk.SubmitFault.TheVariants.{Form, Full};
 ghost use Rattle.ent_form.specs.declared.fault.FormFault.{FormFault};
-ghost use Rattle.ent_protocol.specs.Event.{BreakCycle, EndRun, Finish, JoinAnswer, Pick, StartRun, Submit, Submitted};
+ghost use Rattle.ent_protocol.specs.Event.{Begin, BreakCycle, Faulty, Pick, Submit, Submitted};
 ghost use Rattle.ent_protocol.specs.Lookup.{standing};
-ghost use Rattle.ent_protocol.specs.Reached.{IsGatheredAt, IsGatheredState, IsReached, LeadsTo, book_of};
+ghost use Rattle.ent_protocol.specs.Quiet.{CanMove, NoneIs};
+ghost use Rattle.ent_protocol.specs.Reached.{IsGatheredAt, IsGatheredState, IsReached, book_of};
 ghost use Rattle.ent_protocol.specs.Step.{Step};
+ghost use Rattle.ent_protocol.specs.Waits.{NoDeadlock};
 ghost use Rattle.ent_headline.specs.Resolved.{resolved_forms};
 ghost use Rattle.ent_semantics.specs.Book.{IsLegal};
+ghost use Rattle.ent_tree.specs.declared.limits.TheConstants.{MOST_SCRIPTS};
 ghost use Rattle.ent_value.specs.declared.refusal.Refusal.TheVariants.{Fault};
 
-use crate::draft::{Draft, commits_told, drafts, keep_receipts};
+use crate::advance::{Advance, advance_told};
+use crate::draft::{Draft, drafts_for, fate_of, keep_receipts};
 use crate::naming::Naming;
 use crate::session::Session;
 use crate::ticket::Ticket;
-use ent_core::{Core, FreeMember, Reply, Standing};
-use ent_eval::{Done, Job, Work};
+use ent_core::{Core, FreeMember, Reply};
+use ent_eval::{Done, Work};
 use ent_form::FormFault;
 use ent_group::{MOST_MEMBERS, Tx};
 use ent_headline::resolved_runs_are_legal;
-use ent_next::Turn;
+use ent_protocol::refusals_change_nothing;
+use ent_protocol_laws::{members_stand_by_number, transactions_stand_once};
 use ent_semantics::Fate;
-use ent_tree::Script;
+use ent_termination::finished_scripts_have_fates;
+use ent_tree::{MOST_SCRIPTS, Script};
 use ent_value::Refusal;
 use std::alloc::{AllocError, AllocFailed, Global};
 use std::marker::Model;
@@ -48,19 +57,6 @@ pub enum SubmitFault {
 pub struct NotSubmitted {
     pub script: Script,
     pub refusal: Refusal<SubmitFault>,
-}
-
-/// How far a session came under the lock.
-#[derive(Drop)]
-pub enum Advance {
-    /// A job is lent, which is to be done with no lock held.
-    Lent(Job),
-    /// Something moved.
-    Moved,
-    /// Another's job must come first.
-    Idle,
-    /// Every transaction has its fate.
-    Done,
 }
 
 /// A core, with how many scripts it was opened over, and the books of both ledgers: as many scripts and journal entries
@@ -96,21 +92,28 @@ fn not_submitted(script: Script, refusal: Refusal<SubmitFault>) -> NotSubmitted
     NotSubmitted { script, refusal }
 }
 
-/// The job that a reply lends, or that something else moved; None where nothing did.
-fn advance_told(reply: Reply) -> Option<Advance> {
+/// Submits a script to a core that takes one more. Where it has a fault of form, or memory runs out, it comes back.
+fn submit_to(core: &mut Core, script: Script) -> Result<Tx, NotSubmitted>
+    requires room { length core.old.submitted < MOST_SCRIPTS }
+    ensures ok { IfOk result (λ tx. Step resolved_forms core.old (Submit script) (Submitted tx) core.new) }
+    ensures err { OnErr result (core.new ≡ core.old) }
+    ensures returned { IfErr result (λ refused. refused.script ≡ script) }
+    ensures not_full { IfErr result (λ refused. refused.refusal ≢ Fault Full) }
+    ensures form { IfErr result (λ refused. (fault : FormFault)
+        → refused.refusal ≡ Fault (Form fault)
+        → Step resolved_forms core.old (Submit script) (Faulty script fault) core.old) }
+{
+    let reply = match core.submit(script) {
+        Ok(reply) => reply,
+        Err(refused) => return Err(not_submitted(refused.value, Refusal::Memory)),
+    };
     match reply {
-        Reply::Lent(job) => Some(Advance::Lent(job)),
-        Reply::Posted
-        | Reply::Prepared
-        | Reply::Committed { .. }
-        | Reply::RolledBack(_)
-        | Reply::Broken(..)
-        | Reply::Started(_)
-        | Reply::Ended(_) => Some(Advance::Moved),
-        other => {
-            drop(other);
-            None
-        }
+        Reply::Submitted(tx) => Ok(tx),
+        Reply::Faulty(script, fault) => Err(not_submitted(
+            script,
+            Refusal::Fault(SubmitFault::Form(fault)),
+        )),
+        _ => unreachable!(),
     }
 }
 
@@ -156,7 +159,7 @@ impl<L: Naming> Desk<L> {
     }
 
     /// Submits a script, of which a copy is handed in too, for the ticket. At a refusal nothing changes, and the script
-    /// comes back.
+    /// comes back: Full exactly where as many as there may be were submitted, which takes no memory to say.
     pub fn submit(
         &mut self,
         session: &mut Session<L>,
@@ -170,44 +173,40 @@ impl<L: Naming> Desk<L> {
         ensures count { self.new.count ≡ self.old.count }
         ensures err { OnErr result ((self.new ≡ self.old) × (session.new ≡ session.old)) }
         ensures returned { IfErr result (λ refused. refused.script ≡ script) }
+        ensures full { IfErr result (λ refused.
+            (refused.refusal ≡ Fault Full) ↔ (MOST_SCRIPTS ≤ length self.old.core.submitted)) }
+        ensures form { IfErr result (λ refused. (fault : FormFault)
+            → refused.refusal ≡ Fault (Form fault)
+            → Step resolved_forms self.old.core (Submit script) (Faulty script fault) self.old.core) }
     {
+        if self.core.submitted() >= MOST_SCRIPTS {
+            return Err(not_submitted(script, Refusal::Fault(SubmitFault::Full)));
+        }
         if session.tickets.reserve(1).is_err() {
             return Err(not_submitted(script, Refusal::Memory));
         }
-        let reply = match self.core.submit(script) {
-            Ok(reply) => reply,
-            Err(refused) => return Err(not_submitted(refused.value, Refusal::Memory)),
-        };
-        match reply {
-            Reply::Submitted(tx) => {
-                self.scripts.add(&mut session.submitted, 1);
-                session.tickets.push_reserved(Ticket { tx, script: copy });
-                Ok(tx)
-            }
-            Reply::Full(script) => Err(not_submitted(script, Refusal::Fault(SubmitFault::Full))),
-            Reply::Faulty(script, fault) => Err(not_submitted(
-                script,
-                Refusal::Fault(SubmitFault::Form(fault)),
-            )),
-            // No other reply is made to a submit.
-            other => {
-                drop(other);
-                Err(not_submitted(copy, Refusal::Memory))
-            }
-        }
+        let tx = submit_to(&mut self.core, script)?;
+        self.scripts.add(&mut session.submitted, 1);
+        session.tickets.push_reserved(Ticket { tx, script: copy });
+        Ok(tx)
     }
 
     /// Makes the first of these events that moves: a member, by number, begins; a component is picked; a deadlock is
     /// broken; the run ends; a run starts. A job that is lent is to be done with no lock held, and its result to be
-    /// handed in. The receipts of a commit are the session's.
-    #[tactic(auto, using(crate::proofs::Keeping::both_on))]
+    /// handed in. The receipts of a commit are the session's. Idle: nothing moves until a job that is out comes back.
+    /// Done: no run is on, nobody waits for one, and each script has its fate. At both, and where memory runs out,
+    /// nothing changes.
+    #[tactic(auto, using(crate::proofs::Receiving::receives_none))]
     pub fn advance(
         &mut self,
         alloc: Global,
         session: &mut Session<L>,
     ) -> Result<Advance, AllocError>
+        ensures ok { IfOk result (λ advance. Advances self.old advance self.new) }
         ensures events { LeadsOn self.old self.new }
         ensures session { GetsReceipts session.old session.new }
+        ensures receipts { Receives self.old.core self.new.core session.old.receipts session.new.receipts }
+        ensures err { OnErr result ((self.new ≡ self.old) × (session.new ≡ session.old)) }
     {
         if let Some(begun) = self.begin_first(alloc, session)? {
             return Ok(begun);
@@ -216,9 +215,11 @@ impl<L: Naming> Desk<L> {
     }
 
     /// A component is picked; else what comes behind.
-    #[tactic(auto, using(crate::proofs::Keeping::both_on))]
     fn pick_or_go_on(&mut self) -> Result<Advance, AllocError>
-        ensures events { LeadsOn self.old self.new }
+        requires nobody_moves { NoneIs (CanMove self.old.core) }
+        ensures ok { IfOk result (λ advance. Advances self.old advance self.new) }
+        ensures journal { self.new.core.journal ≡ self.old.core.journal }
+        ensures err { OnErr result (self.new ≡ self.old) }
     {
         if let Some(picked) = self.pick()? {
             return Ok(picked);
@@ -227,9 +228,12 @@ impl<L: Naming> Desk<L> {
     }
 
     /// A deadlock is broken; else what comes behind.
-    #[tactic(auto, using(crate::proofs::Keeping::both_on))]
     fn break_or_go_on(&mut self) -> Result<Advance, AllocError>
-        ensures events { LeadsOn self.old self.new }
+        requires nobody_moves { NoneIs (CanMove self.old.core) }
+        requires none_picked { NoneCanBePicked self.old.core }
+        ensures ok { IfOk result (λ advance. Advances self.old advance self.new) }
+        ensures journal { self.new.core.journal ≡ self.old.core.journal }
+        ensures err { OnErr result (self.new ≡ self.old) }
     {
         if let Some(broken) = self.break_cycle() {
             return Ok(broken);
@@ -237,26 +241,32 @@ impl<L: Naming> Desk<L> {
         self.end_or_start()
     }
 
-    /// The run ends; else one starts.
-    #[tactic(auto, using(crate::proofs::Keeping::both_on))]
+    /// The run ends; where none is on one starts.
     fn end_or_start(&mut self) -> Result<Advance, AllocError>
-        ensures events { LeadsOn self.old self.new }
+        requires still { IsStill self.old.core }
+        ensures ok { IfOk result (λ advance. Advances self.old advance self.new) }
+        ensures journal { self.new.core.journal ≡ self.old.core.journal }
+        ensures err { OnErr result (self.new ≡ self.old) }
     {
-        if let Some(ended) = self.end_run()? {
-            return Ok(ended);
+        if self.core.running() {
+            self.end_run()
+        } else {
+            self.start_run()
         }
-        self.start_run()
     }
 
     /// The first member, by number, that is ready and that moves begins its next statement.
-    #[tactic(auto, using(crate::proofs::Keeping::both_on, crate::proofs::Keeping::gets_on, crate::proofs::Keeping::none_on, crate::proofs::Keeping::gets_none))]
+    #[tactic(auto, using(crate::proofs::Receiving::receives_none))]
     fn begin_first(
         &mut self,
         alloc: Global,
         session: &mut Session<L>,
     ) -> Result<Option<Advance>, AllocError>
-        ensures events { LeadsOn self.old self.new }
+        ensures ok { IfOk result (λ told. BeginsUnless self.old told self.new) }
+        ensures same { IfOk result (λ told. told ≡ None → session.new ≡ session.old) }
         ensures session { GetsReceipts session.old session.new }
+        ensures receipts { Receives self.old.core self.new.core session.old.receipts session.new.receipts }
+        ensures err { OnErr result ((self.new ≡ self.old) × (session.new ≡ session.old)) }
     {
         let members = self.core.members();
         for tx in members.as_slice() {
@@ -268,51 +278,67 @@ impl<L: Naming> Desk<L> {
     }
 
     /// A member begins its next statement, where it is ready and nobody blocks it.
-    #[tactic(auto, using(crate::proofs::Keeping::none_on, crate::proofs::Keeping::gets_none))]
+    #[tactic(auto, using(crate::proofs::Receiving::receives_none))]
     fn begin_ready(
         &mut self,
         alloc: Global,
         session: &mut Session<L>,
         tx: Tx,
     ) -> Result<Option<Advance>, AllocError>
-        ensures events { LeadsOn self.old self.new }
+        ensures ok { IfOk result (λ told.
+            MakesUnless (¬ CanMove self.old.core tx) (Begin tx) self.old told self.new) }
+        ensures same { IfOk result (λ told. told ≡ None → session.new ≡ session.old) }
         ensures session { GetsReceipts session.old session.new }
+        ensures receipts { Receives self.old.core self.new.core session.old.receipts session.new.receipts }
+        ensures err { OnErr result ((self.new ≡ self.old) × (session.new ≡ session.old)) }
     {
-        let Ok(found) = self.core.free_member(tx) else {
-            return Ok(None);
+        members_stand_by_number::<FormFault>();
+        transactions_stand_once::<FormFault>();
+        self.core.is_reached();
+        let found = match self.core.free_member(tx) {
+            Ok(found) => found,
+            Err(_why) => return Ok(None),
         };
-        let drafts = match self.core.next_turn(found) {
-            Turn::Commit => drafts(alloc, &self.core, tx)?,
-            Turn::Statement | Turn::Rollback => Vec::new(alloc),
-        };
-        self.begin(alloc, session, found, drafts)
+        let drafts = drafts_for(alloc, &self.core, found)?;
+        self.begin(session, found, drafts)
     }
 
     /// A free member begins its next statement. Room for the receipts of its group is made first, and their answers are
     /// drafted, so that nothing can fail behind the event.
+    #[tactic(auto, using(crate::proofs::Receiving::receives_none))]
     fn begin(
         &mut self,
-        alloc: Global,
         session: &mut Session<L>,
         found: FreeMember,
         drafts: Vec<Draft>,
     ) -> Result<Option<Advance>, AllocError>
-        requires { IsFreeMember self.old.core found }
-        ensures events { LeadsOn self.old self.new }
+        requires free { IsFreeMember self.old.core found }
+        requires drafted { AreDraftedFor self.old.core found.tx drafts.items }
+        ensures ok { IfOk result (λ told.
+            MakesUnless (¬ CanMove self.old.core found.tx) (Begin found.tx) self.old told self.new) }
+        ensures same { IfOk result (λ told. told ≡ None → session.new ≡ session.old) }
         ensures session { GetsReceipts session.old session.new }
+        ensures receipts { Receives self.old.core self.new.core session.old.receipts session.new.receipts }
         ensures err { OnErr result ((self.new ≡ self.old) × (session.new ≡ session.old)) }
     {
+        members_stand_by_number::<FormFault>();
+        transactions_stand_once::<FormFault>();
+        refusals_change_nothing::<FormFault>();
         session.receipts.reserve(MOST_MEMBERS)?;
+        self.core.is_reached();
+        let before = self.core.journal().len();
         let reply = self.core.begin_free(found)?;
-        let count = commits_told(&reply);
-        self.entries.add(&mut session.committed, count as u64);
-        keep_receipts(alloc, &self.core, &mut session.receipts, &reply, drafts);
+        self.core.is_reached();
+        let made = keep_receipts(&self.core, &mut session.receipts, before, drafts);
+        self.entries.add(&mut session.committed, made as u64);
         Ok(advance_told(reply))
     }
 
     /// A component of what is posted is picked, and its job lent, where there is one.
     fn pick(&mut self) -> Result<Option<Advance>, AllocError>
-        ensures events { LeadsOn self.old self.new }
+        ensures ok { IfOk result (λ told. MakesUnless (NoneCanBePicked self.old.core) Pick self.old told self.new) }
+        ensures journal { self.new.core.journal ≡ self.old.core.journal }
+        ensures err { OnErr result (self.new ≡ self.old) }
     {
         let reply = self.core.pick()?;
         Ok(advance_told(reply))
@@ -320,34 +346,42 @@ impl<L: Naming> Desk<L> {
 
     /// A deadlock is broken, where there is one.
     fn break_cycle(&mut self) -> Option<Advance>
-        ensures events { LeadsOn self.old self.new }
+        ensures ok { MakesUnless (NoDeadlock self.old.core) BreakCycle self.old result self.new }
+        ensures journal { self.new.core.journal ≡ self.old.core.journal }
     {
         advance_told(self.core.break_cycle())
     }
 
-    /// The run ends, where one is on; while another's job must come first, it is idle.
-    fn end_run(&mut self) -> Result<Option<Advance>, AllocError>
-        ensures events { LeadsOn self.old self.new }
+    /// The run ends. While another's job must come first, it is idle.
+    fn end_run(&mut self) -> Result<Advance, AllocError>
+        requires running { self.old.core.running ≡ true }
+        requires still { IsStill self.old.core }
+        ensures ok { IfOk result (λ advance. Advances self.old advance self.new) }
+        ensures journal { self.new.core.journal ≡ self.old.core.journal }
+        ensures err { OnErr result (self.new ≡ self.old) }
     {
-        if !self.core.running() {
-            return Ok(None);
-        }
         let reply = self.core.end_run()?;
-        match advance_told(reply) {
-            Some(ended) => Ok(Some(ended)),
-            None => Ok(Some(Advance::Idle)),
+        if let Some(ended) = advance_told(reply) {
+            return Ok(ended);
         }
+        Ok(Advance::Idle)
     }
 
     /// A run starts, where anybody waits for one; else every transaction has its fate.
     fn start_run(&mut self) -> Result<Advance, AllocError>
-        ensures events { LeadsOn self.old self.new }
+        requires no_run { self.old.core.running ≡ false }
+        requires still { IsStill self.old.core }
+        ensures ok { IfOk result (λ advance. Advances self.old advance self.new) }
+        ensures journal { self.new.core.journal ≡ self.old.core.journal }
+        ensures err { OnErr result (self.new ≡ self.old) }
     {
+        finished_scripts_have_fates::<FormFault>();
+        self.core.is_reached();
         let reply = self.core.start_run()?;
-        match advance_told(reply) {
-            Some(started) => Ok(started),
-            None => Ok(Advance::Done),
+        if let Some(started) = advance_told(reply) {
+            return Ok(started);
         }
+        Ok(Advance::Done)
     }
 
     /// Takes the result of a job. One that isn't outstanding is dropped. Where memory runs out nothing changes, and the
@@ -388,9 +422,6 @@ impl<L: Naming> Desk<L> {
     pub fn fate(&self, tx: Tx) -> Option<Fate>
         ensures { result ≡ fate_in (standing self.now.core tx) }
     {
-        match self.core.standing(tx) {
-            Some(Standing::Finished(fate)) => Some(fate),
-            _ => None,
-        }
+        fate_of(&self.core, tx)
     }
 }

@@ -8,6 +8,7 @@
 #![tactic(auto)]
 
 mod account;
+mod advance;
 mod audit;
 mod closing;
 mod desk;
@@ -17,8 +18,9 @@ mod opening;
 mod session;
 mod ticket;
 
+pub use advance::Advance;
 pub use closing::{CloseFault, NotClosed};
-pub use desk::{Advance, Desk, NotSubmitted, SubmitFault};
+pub use desk::{Desk, NotSubmitted, SubmitFault};
 pub use naming::{Blanks, Both, Naming, Seats};
 pub use opening::{core_over, open};
 pub use session::{Session, Stopped};

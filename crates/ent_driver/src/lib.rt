@@ -10,6 +10,7 @@
 mod closing;
 mod driver;
 mod fault;
+mod handle_law;
 mod moves;
 mod one_run;
 mod piece;
@@ -21,6 +22,7 @@ mod why;
 pub use driver::Driver;
 pub use ent_renewal::FinishedBook;
 pub use fault::DriverFault;
+pub use handle_law::{cores_may_pass, drivers_may_pass};
 pub use moves::{Move, reply_text};
 pub use script::{examine, read_script};
 pub use text::{lines_under, report_text};

@@ -7,9 +7,9 @@ ghost use Rattle.ent_driver.specs.Why.{txs_text};
 ghost use Rattle.ent_tree.specs.declared.limits.TheConstants.{MOST_PARTS};
 
 use ent_book::append_number;
-use ent_closed::{Atom, Term};
 use ent_group::Tx;
 use ent_lock::Mode;
+use ent_semantics::{Atom, Term};
 use ent_tree::Opening;
 use ent_value::{Name, Value, print_value};
 use std::alloc::{AllocError, Global};

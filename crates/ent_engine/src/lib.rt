@@ -3,8 +3,8 @@
 //! [`run`] writes the report of the input; after a fault of the writer a beginning of it, and after any other fault
 //! nothing. The report is the text of a book of the input: all scripts were submitted before any other event, and run
 //! concurrently until each had its fate; and the book is legal. [`run_watched`] does the same, and tells a watcher each
-//! event of the core with its reply. [`report_of`] gives the report of an input in memory. A caller that runs the scripts in another way uses the parts: [`parse_bytes`],
-//! [`submit_all`] and [`write_book`].
+//! event of the core with its reply. [`report_of`] gives the report of an input in memory. A caller that runs the
+//! scripts in another way uses the parts: [`parse_bytes`], [`submit_all`] and [`write_book`].
 #![tactic(auto)]
 
 mod engine;
@@ -20,6 +20,7 @@ mod workers;
 mod writer;
 
 pub use engine::{run, run_watched};
+pub use ent_serve::MOST_SESSIONS;
 pub use fault::{FaultLine, RunFault, status_of};
 pub use memory::report_of;
 pub use options::{DEFAULT_TRIES, ReportVersion, RunOptions};

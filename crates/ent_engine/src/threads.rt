@@ -1,9 +1,10 @@
 //! The scripts of an input, run by workers until each has its fate.
-ghost use Rattle.std.specs.Prelude.{◌≡◌, ◌<◌, IfErr, IfOk, None, OnOk};
+ghost use Rattle.std.specs.Prelude.{◌≡◌, ◌<◌, ◌≤◌, IfErr, IfOk, None, OnOk};
 ghost use Rattle.ent_book.specs.Tables.{book_seen};
 ghost use Rattle.ent_sched.specs.Play.{input_fault};
 ghost use Rattle.ent_engine.specs.Parse.{IsRefusedInThreads};
 ghost use Rattle.ent_engine.specs.Report.{IsBookOf};
+ghost use Rattle.ent_serve.specs.declared.manager.TheConstants.{MOST_SESSIONS};
 
 use crate::fault::RunFault;
 use ent_book::NamedTable;
@@ -23,7 +24,8 @@ pub(crate) fn run_in_threads<T: Threads + Wait + Sync>(
     input: Input,
     workers: usize,
 ) -> Result<Book<Sequence<NamedTable>>, RunFault>
-    requires { 0 < workers }
+    requires nonempty { 0 < workers }
+    requires bound { workers ≤ MOST_SESSIONS }
     ensures book { IfOk result (λ book. IsBookOf input (book_seen book)) }
     ensures formed { OnOk result (input_fault input.opening input.scripts ≡ None) }
     ensures refused { IfErr result (λ fault. IsRefusedInThreads input fault) }

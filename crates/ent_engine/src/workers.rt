@@ -1,8 +1,9 @@
 //! A whole run in threads: bytes in, report out.
-ghost use Rattle.std.specs.Prelude.{◌<◌, IfErr, IfSome, OnOk};
+ghost use Rattle.std.specs.Prelude.{◌<◌, ◌≤◌, IfErr, IfSome, OnOk};
 ghost use Rattle.ent_value.specs.Watched.{IsUnmarked};
 ghost use Rattle.ent_engine.specs.Reading.{IsRefusedAtWork};
 ghost use Rattle.ent_engine.specs.Io.{IsReaderMarkedBy, IsWriterMarkedBy, IsSilent, WritesReport, WritesBeginning};
+ghost use Rattle.ent_serve.specs.declared.manager.TheConstants.{MOST_SESSIONS};
 
 use crate::fault::RunFault;
 use crate::options::ReportVersion;
@@ -17,9 +18,10 @@ use std::io::{Read, Write};
 use std::sync::Wait;
 use std::thread::Threads;
 
-/// As [`crate::run`], where so many workers, each in a thread of its own, run the scripts; there is one at least. It
-/// waits for them, and promises what it does where it returns. Where memory runs out in any of them nothing is written;
-/// no further try is made. Which order of commits the report shows may differ from one call to the next.
+/// As [`crate::run`], where so many workers, 1 to [`MOST_SESSIONS`](crate::MOST_SESSIONS), each in a thread of its own,
+/// run the scripts. It waits for them, and promises what it does where it returns. Where memory runs out in any of them
+/// nothing is written; no further try is made. Which order of commits the report shows may differ from one call to the
+/// next.
 pub fn run_workers<T: Threads + Wait + Sync, R: Read, W: Write>(
     rt: &T,
     alloc: Global,
@@ -28,7 +30,8 @@ pub fn run_workers<T: Threads + Wait + Sync, R: Read, W: Write>(
     workers: usize,
     version: ReportVersion,
 ) -> Result<(), RunFault>
-    requires workers { 0 < workers }
+    requires nonempty { 0 < workers }
+    requires bound { workers ≤ MOST_SESSIONS }
     requires reader_unmarked { IsUnmarked reader.old }
     requires writer_unmarked { IsUnmarked writer.old }
     ensures report { OnOk result (IfSome (R.remaining reader.old.inner) (λ bytes.

@@ -1,2 +1,4 @@
 pub mod Tries
 pub mod Turned
+pub mod Told
+pub mod Heard

@@ -1,16 +1,13 @@
--- Tables of a core by their names, and the epoch that a turn begins.
-use Rattle.std.proofs.Common.{◌≡◌, ℕ, Bool, true, false, List, [], ◌∷◌, Option, Some, None, refl, sym, ap, subst, ◌∙◌, arith}
+-- Tables of a core by their names.
+use Rattle.std.proofs.Common.{◌≡◌, Bool, true, false, List, [], ◌∷◌, Option, Some, None, refl, sym, ap, ◌∙◌}
 use Rattle.std.specs.Prelude.{MatchOption, if◌then◌else◌}
 use Rattle.std.specs.Option.{option_map}
-use Rattle.ent_set.specs.Sets as set
-use Rattle.ent_tree.specs.declared.declaration.Opening.{Opening}
-use Rattle.ent_closed.specs.Form.{Tables}
+use Rattle.ent_lists.specs.Sets as set
+use Rattle.ent_semantics.specs.Form.{Tables}
 use Rattle.ent_semantics.specs.Database.{Name, Rows, same_name}
 use Rattle.ent_semantics.specs.Serial.{numbered}
 use Rattle.ent_protocol.specs.Lookup.{rows_under}
-use Rattle.ent_protocol.specs.Reached.{named_tables, opened}
-use Rattle.ent_protocol.specs.State.{State}
-use Rattle.ent_epoch.specs.Epoch.{Epoch, IsKept}
+use Rattle.ent_protocol.specs.Reached.{named_tables}
 
 -- ---- nobody waits
 
@@ -45,18 +42,3 @@ pub found_by_name : {T : Type 0} (rows_of : T → Rows) (found : Option T) (name
     → MatchOption found (named_tables names tables name ≡ set.empty) (λ table. named_tables names tables name ≡ rows_of table)
 found_by_name rows_of None names tables name e = looked_up names tables name ∙ ap rows_or_none (sym e)
 found_by_name rows_of (Some table) names tables name e = looked_up names tables name ∙ ap rows_or_none (sym e)
-
--- ---- the next epoch
-
-own_kept : (number : ℕ) (opening : Opening) → IsKept (record { number = number; core = opened opening; tickets = [] })
-own_kept number opening =
-    record {
-      counted = refl;
-      for_one_run = record { once = tt; fit = λ e. omega arith; alone = λ e. absurd cc };
-    }
-
-pub begun_kept : (number : ℕ) (core : State) → core ≡ opened core.opening
-    → IsKept (record { number = number; core = core; tickets = [] })
-begun_kept number core fresh =
-    subst (λ (s : State). IsKept (record { number = number; core = s; tickets = [] })) (sym fresh)
-    (own_kept number core.opening)

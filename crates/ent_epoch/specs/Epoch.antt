@@ -1,5 +1,5 @@
 -- A core whose transactions are those of tickets.
-use Rattle.std.specs.Prelude.{◌≡◌, ◌+◌, ℕ, List, [], ◌∷◌, ◌++◌, length, Option, Some, None}
+use Rattle.std.specs.Prelude.{◌≡◌, ◌+◌, ℕ, All, List, [], ◌∷◌, ◌++◌, length, Option, Some, None}
 use Rattle.ent_tree.specs.declared.declaration.Opening.{Opening}
 use Rattle.ent_tree.specs.declared.script.Script.{Script}
 use Rattle.ent_headline.specs.Resolved.{resolved_forms}
@@ -13,6 +13,10 @@ use Rattle.ent_renewal.specs.Renewal.{drained}
 use Rattle.ent_semantics.specs.Database.{Database, Name}
 use Rattle.ent_epoch.specs.OneRun.{AreForOneRun}
 use Rattle.ent_waiting.specs.declared.waiter.Submission.{Submission}
+use Rattle.ent_feed.specs.Feed.{Feed}
+use Rattle.ent_feed.specs.Group.{AreNumbered}
+use Rattle.ent_feed.specs.declared.group.Group.{Group}
+use Rattle.ent_commit_notes.specs.Telling.{KeepsUp, Telling, TellsRest, telling_at}
 
 pub record Epoch : Type 0 where
   -- epochs are counted
@@ -20,9 +24,12 @@ pub record Epoch : Type 0 where
   pub core : State
   -- whose each transaction is, by number from 1
   pub tickets : List ℕ
+  -- how far the core is told of, and what was noted since
+  pub telling : Telling
 
 abbrev pub begun : ℕ → Opening → Epoch
-begun number opening = record { number = number; core = opened opening; tickets = [] }
+begun number opening =
+    record { number = number; core = opened opening; tickets = []; telling = telling_at (opened opening) }
 
 -- the core that is there
 abbrev pub core_in : Option State → State
@@ -39,6 +46,7 @@ pub record Takes (old : Epoch) (ticket : ℕ) (script : Script) (submission : Su
   pub epoch : submission.epoch ≡ old.number
   pub number : new.number ≡ old.number
   pub tickets : new.tickets ≡ old.tickets ++ ticket ∷ []
+  pub telling : new.telling ≡ old.telling
 
 -- one script more, which waits for a run; no run starts or ends by that
 pub record AddsOne (old new : State) : Type 0 where
@@ -55,7 +63,20 @@ abbrev pub fate_at : Option Standing → Option Fate
 fate_at (Some (Finished fate)) = Some fate
 fate_at other = None
 
--- what an epoch keeps: a ticket for each transaction, and each script asks for one run
+-- what an epoch keeps: a ticket for each transaction; each script asks for one run; and what is told and noted keeps up
+-- with the core
 pub record IsKept (epoch : Epoch) : Type 0 where
   pub counted : length epoch.tickets ≡ length epoch.core.submitted
   pub for_one_run : AreForOneRun epoch.core
+  pub keeps_up : KeepsUp epoch.telling epoch.core
+
+-- Groups that tell of all that was committed since what is told come behind those of a feed, and count on from its next
+-- number; then all is told.
+pub record Publishes (old : Epoch) (before after : Feed) (new : Epoch) : Type 0 where
+  pub groups : List Group
+  pub told : TellsRest old.tickets old.telling old.core groups
+  pub epoch : All (λ group. group.epoch ≡ old.number) groups
+  pub ended : All (λ group. group.ended ≡ []) groups
+  pub numbered : AreNumbered before.next groups after.next
+  pub feed : after ≡ record before { next = before.next + length groups; groups = before.groups ++ groups }
+  pub all_told : new ≡ record old { telling = telling_at old.core }

@@ -1,2 +1,3 @@
 pub mod OneRun
 pub mod Epoch
+pub mod Told

@@ -1,5 +1,6 @@
 //! Epochs.
-ghost use Rattle.std.specs.Prelude.{◌≡◌, ◌↔◌, ◌+◌, ◌<◌, ◌≤◌, ℕ, IfErr, IfOk, IsSome, IsTrue, OnErr, OnOk, Some, false, length, true, ◌^◌};
+ghost use Rattle.std.specs.Prelude.{◌≡◌, ◌↔◌, ◌+◌, ◌<◌, ◌≤◌, ◌^◌, ℕ, IfErr, IfOk, IsSome, IsTrue, OnErr, OnOk, Some};
+ghost use Rattle.std.specs.Prelude.{false, length};
 ghost use Rattle.std.specs.Option.{option_copied};
 ghost use Rattle.ent_book.specs.Tables.{book_seen};
 ghost use Rattle.ent_core.specs.declared.closing.NotDone.{NotDone};
@@ -11,22 +12,27 @@ ghost use Rattle.ent_headline.specs.Resolved.{resolved_forms};
 ghost use Rattle.ent_form.specs.declared.fault.FormFault.{FormFault as FormFaultSeen};
 ghost use Rattle.ent_protocol.specs.Event.{Full as IsFull, Faulty as IsFaulty, Submit, Submitted};
 ghost use Rattle.ent_protocol.specs.Lookup.{standing};
-ghost use Rattle.ent_protocol.specs.Reached.{CanClose, book_of};
+ghost use Rattle.ent_protocol.specs.Reached.{CanClose, book_of, settled};
+ghost use Rattle.ent_commit_notes.specs.Telling.{KeepsUp, Telling as TellingSeen, groups_due, telling_at};
 ghost use Rattle.ent_protocol.specs.Step.{Step};
 ghost use Rattle.ent_renewal.specs.Renewal.{GoesOn, IsRenewed, rows_together};
 ghost use Rattle.ent_sched.specs.Onward.{LeadsOn};
 ghost use Rattle.ent_semantics.specs.Book.{IsLegal};
 ghost use Rattle.ent_semantics.specs.Serial.{numbered};
-ghost use Rattle.ent_epoch.specs.Epoch.{AddsOne, Takes, begun, core_in, fate_at, for_one_run, carried_over};
+ghost use Rattle.ent_epoch.specs.Epoch.{AddsOne, Publishes, Takes, begun, core_in, fate_at, for_one_run, carried_over};
 ghost use Rattle.ent_epoch.specs.OneRun.{AreForOneRun, MakesRun};
+ghost use Rattle.ent_epoch.specs.Told.{GoesOnUntold};
 ghost use Rattle.ent_epoch.specs.declared.epoch.NotSubmitted.TheVariants.{Full, Faulty};
 ghost use Rattle.ent_epoch.specs.declared.turn.NotTurned.TheVariants as not_turned;
 ghost use Rattle.ent_tree.specs.declared.limits.TheConstants.{MOST_OPENING_ROWS};
 
+use crate::law::journals_go_on;
 use crate::one_run::run_to_end;
 use crate::script::for_one_run;
 use crate::turn::{NotTurned, can_close, exchange, next_core};
+use ent_commit_notes::{Telling, entries_have_tickets, tellings_keep_up, told_tables_are_settled};
 use ent_core::{Core, NotDone, Reply, Standing};
+use ent_feed::{Feed, NoNumber};
 use ent_form::FormFault;
 use ent_group::Tx;
 use ent_headline::resolved_runs_are_legal;
@@ -47,13 +53,14 @@ pub enum NotSubmitted {
     Faulty(FormFault),
 }
 
-/// A core, and the ticket of each of its transactions. Contracts see its number, the core's state, and the tickets by
-/// transaction.
+/// A core, the ticket of each of its transactions, and how far its commits are told. Contracts see its number, the
+/// core's state, the tickets by transaction, and what is told and noted.
 #[derive(Drop)]
 pub struct Epoch {
     number: u64,
     core: Option<Core>,
     tickets: Vec<Ticket>,
+    telling: Telling,
 }
 
 impl Model for Epoch {
@@ -66,10 +73,20 @@ impl Model for Epoch {
 
     ghost coded = { Prim.hlevel (codes, coded_rows) };
 
-    ghost view = { λ e. record { number = e.number; core = core_in e.core; tickets = e.tickets.items } };
+    ghost view = { λ e. record {
+      number = e.number;
+      core = core_in e.core;
+      tickets = e.tickets.items;
+      telling = e.telling;
+    } };
 
     ghost invariant = { λ e. IsSome e.core
-        × IsKept (record { number = e.number; core = core_in e.core; tickets = e.tickets.items }) };
+        × IsKept (record {
+          number = e.number;
+          core = core_in e.core;
+          tickets = e.tickets.items;
+          telling = e.telling;
+        }) };
 }
 
 /// An epoch that isn't closed, as it was, and why.
@@ -90,21 +107,35 @@ fn core_of(core: &Option<Core>) -> &Core
     }
 }
 
-/// Makes one run of the core of an epoch, to its end. Where memory runs out, what was done stands.
-fn run_in(alloc: Global, core: &mut Option<Core>) -> Result<(), AllocError>
+/// All that happened to a core is told.
+fn telling_of(alloc: Global, core: &Core) -> Result<Telling, AllocError>
+    ensures at { IfOk result (λ telling. telling ≡ telling_at core.now) }
+    ensures keeps_up { IfOk result (λ telling. KeepsUp telling core.now) }
+{
+    tellings_keep_up();
+    core.is_reached();
+    Telling::of(alloc, core)
+}
+
+/// Makes one run of the core of an epoch, to its end. Where memory runs out, what was done stands. Its commits are
+/// noted.
+fn run_in(alloc: Global, core: &mut Option<Core>, telling: &mut Telling) -> Result<(), AllocError>
     requires there { IsSome core.old }
     requires once { AreForOneRun (core_in core.old) }
+    requires keeps_up { KeepsUp telling.old (core_in core.old) }
     ensures there { IsSome core.new }
     ensures ok { OnOk result (MakesRun (core_in core.old) (core_in core.new)) }
     ensures kept { AreForOneRun (core_in core.new) }
     ensures opening { (core_in core.new).opening ≡ (core_in core.old).opening }
     ensures submitted { (core_in core.new).submitted ≡ (core_in core.old).submitted }
     ensures err { OnErr result ((count : ℕ) × LeadsOn resolved_forms count (core_in core.old) (core_in core.new)) }
+    ensures keeps_up { KeepsUp telling.new (core_in core.new) }
+    ensures notes { telling.new ≡ record telling.old { notes = telling.new.notes } }
 {
     let Some(open) = core.take() else {
         unreachable!();
     };
-    match run_to_end(alloc, open) {
+    match run_to_end(alloc, open, telling) {
         Ok(new) => {
             *core = Some(new);
             Ok(())
@@ -159,7 +190,9 @@ fn submit_once(core: &mut Core, script: Script) -> Result<Tx, Refusal<NotSubmitt
         → Step resolved_forms core.old (Submit script) (IsFull script) core.old) }
     ensures faulty { IfErr result (λ refusal. (fault : FormFaultSeen) → refusal ≡ Fault (Faulty fault)
         → Step resolved_forms core.old (Submit script) (IsFaulty script fault) core.old) }
+    ensures unheard { (telling : TellingSeen) → KeepsUp telling core.old → KeepsUp telling core.new }
 {
+    tellings_keep_up();
     let tx = submit_to(core, script)?;
     Ok(tx)
 }
@@ -182,6 +215,9 @@ fn submit_in(core: &mut Option<Core>, script: Script) -> Result<Tx, Refusal<NotS
         → Step resolved_forms (core_in core.old) (Submit script) (IsFull script) (core_in core.old)) }
     ensures faulty { IfErr result (λ refusal. (fault : FormFaultSeen) → refusal ≡ Fault (Faulty fault)
         → Step resolved_forms (core_in core.old) (Submit script) (IsFaulty script fault) (core_in core.old)) }
+    ensures unheard { (telling : TellingSeen)
+        → KeepsUp telling (core_in core.old)
+        → KeepsUp telling (core_in core.new) }
 {
     match core {
         Some(core) => submit_once(core, script),
@@ -195,10 +231,12 @@ impl Epoch {
         ensures { Gives (λ epoch. epoch) result (unless (opening_fault opening) (begun number opening)) }
     {
         let core = Core::open(alloc, opening)?;
+        let telling = telling_of(alloc, &core)?;
         Ok(Epoch {
             number,
             core: Some(core),
             tickets: Vec::new(alloc),
+            telling,
         })
     }
 
@@ -239,9 +277,56 @@ impl Epoch {
         ensures closes { OnOk result (CanClose self.new.core) }
         ensures err { OnErr result ((count : ℕ) × LeadsOn resolved_forms count self.old.core self.new.core) }
         ensures opening { self.new.core.opening ≡ self.old.core.opening }
-        ensures same { self.new ≡ record self.old { core = self.new.core } }
+        ensures same { self.new ≡ record self.old { core = self.new.core; telling = self.new.telling } }
+        ensures notes { self.new.telling ≡ record self.old.telling { notes = self.new.telling.notes } }
+        ensures goes_on { GoesOnUntold self.old self.new }
     {
-        run_in(alloc, &mut self.core)
+        journals_go_on();
+        run_in(alloc, &mut self.core, &mut self.telling)
+    }
+
+    /// Puts groups behind those of a feed that tell of all that was committed since the last call of this, or since the
+    /// epoch began: one for each commit, or one for all of them where memory ran out while they were noted. At a
+    /// refusal, and where memory runs out, nothing changes.
+    pub fn publish(&mut self, alloc: Global, feed: &mut Feed) -> Result<(), Refusal<NoNumber>>
+        ensures ok { OnOk result (Publishes self.old feed.old feed.new self.new) }
+        ensures err { OnErr result (self.new ≡ self.old) }
+        ensures err_feed { OnErr result (feed.new ≡ feed.old) }
+        ensures no_number { IfErr result (λ refusal. refusal ≡ Fault (record {})
+            → 2 ^ 64 ≤ feed.old.next + groups_due self.old.telling) }
+    {
+        entries_have_tickets();
+        let core = core_of(&self.core);
+        core.is_reached();
+        let groups = self.telling.groups(
+            alloc,
+            feed.next(),
+            self.number,
+            self.tickets.as_slice(),
+            core,
+        )?;
+        let telling = telling_of(alloc, core)?;
+        feed.append(groups)?;
+        self.telling = telling;
+        Ok(())
+    }
+
+    /// Whether all that was committed is told.
+    pub fn is_told(&self) -> bool
+        ensures told { IsTrue result ↔ (self.now.telling.entries ≡ length self.now.core.journal) }
+        ensures tables { IsTrue result → self.now.telling.tables ≡ settled self.now.core }
+    {
+        told_tables_are_settled();
+        let core = core_of(&self.core);
+        core.is_reached();
+        self.telling.entries() == core.journal().len()
+    }
+
+    /// A law, which does nothing: what is told and noted keeps up with the core.
+    pub fn keeps_up(&self)
+        ensures { KeepsUp self.now.telling self.now.core }
+    {
+        let _number = self.number;
     }
 
     /// The number of the epoch.
@@ -332,9 +417,11 @@ impl Epoch {
             Err(Refusal::Memory) => return Err(Refusal::Memory),
             Err(Refusal::Fault(TooManyRows)) => return Err(Refusal::Fault(NotTurned::TooManyRows)),
         };
+        let telling = telling_of(alloc, &next)?;
         let book = exchange(&mut self.core, next)?;
         self.number = number;
         self.tickets.clear();
+        self.telling = telling;
         Ok(book)
     }
 
@@ -353,6 +440,7 @@ impl Epoch {
             number,
             core,
             tickets,
+            telling,
         } = self;
         let Some(open) = core else {
             unreachable!();
@@ -366,6 +454,7 @@ impl Epoch {
                     number,
                     core: Some(core),
                     tickets,
+                    telling,
                 },
                 refusal,
             }),

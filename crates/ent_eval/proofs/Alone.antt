@@ -6,7 +6,7 @@ use Rattle.std.specs.Prelude.{◌↔◌, ◌==◌, Contains, Some, slice_get, sl
 use Rattle.std.specs.List.{list_any}
 use Rattle.ent_lists.specs.Elements.{or_second, number_itself}
 use Rattle.ent_value.specs.declared.value.Value.{Value}
-use Rattle.ent_closed.specs.declared.entangled.Atom.{Atom}
+use Rattle.ent_semantics.specs.declared.entangled.Atom.{Atom}
 use Rattle.ent_coordination.specs.Component.{SetOfTransactions, IsIn, IsSupported, IsInRemainder, AreJoined}
 use Rattle.ent_coordination.specs.Component.{AreLinkedIn, AreLinked, IsComponent}
 use Rattle.ent_coordination.specs.Pool.{Posted, CanMeet, IsSafe}

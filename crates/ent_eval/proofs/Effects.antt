@@ -5,7 +5,7 @@ use Rattle.std.specs.Prelude.{slice_index_or, slice_set}
 use Rattle.std.specs.List.{flat_map}
 use Rattle.std.proofs.lemmas.List.{map-append, get_or-set_same}
 use Rattle.std.proofs.lemmas.Simd.{map-map}
-use Rattle.ent_set.specs.Sets as set
+use Rattle.ent_lists.specs.Sets as set
 use Rattle.ent_value.specs.declared.value.Value.{Value}
 use Rattle.ent_rel.specs.Change.{changed_rows}
 use Rattle.ent_rel.specs.Numbered.{relation_of}
@@ -16,23 +16,23 @@ use Rattle.ent_semantics.specs.Effect.{Effect}
 use Rattle.ent_semantics.specs.declared.answer.Answer.{Answer}
 use Rattle.ent_semantics.specs.declared.answer.Answer.TheVariants as answers
 use Rattle.ent_semantics.specs.declared.answer.Failure.{Failure}
-use Rattle.ent_closed.specs.Form.{Tables, closed_worth, form_meaning}
-use Rattle.ent_closed.specs.declared.entangled.Membership.{Membership}
-use Rattle.ent_closed.specs.declared.statement.Statement.{Statement}
-use Rattle.ent_closed.specs.declared.statement.Statement.TheVariants as statements
+use Rattle.ent_semantics.specs.Form.{Tables, closed_worth, form_meaning}
+use Rattle.ent_semantics.specs.declared.entangled.Membership.{Membership}
+use Rattle.ent_semantics.specs.declared.statement.Statement.{Statement}
+use Rattle.ent_semantics.specs.declared.statement.Statement.TheVariants as statements
 use Rattle.ent_protocol.specs.Job.{Single, Numbered, laid, tables_of, rows_to_change, IsEffect}
 use Rattle.ent_protocol.specs.Job as jobs
 use Rattle.ent_protocol.specs.State.{Use}
 use Rattle.ent_protocol.specs.Uses.{shared, statement_uses}
 use Rattle.ent_select.specs.Tables.{kinds_in, rows_in}
-use Rattle.ent_eval.specs.Change.{IsApplicable}
-use Rattle.ent_closed.specs.Kinds.{Fits, tables_named}
-use Rattle.ent_eval.specs.Meant.{rows_under, effect_of, IsMeant, CanBeApplied}
-use Rattle.ent_eval.specs.Meant as meant
+use Rattle.ent_effect.specs.Change.{IsApplicable}
+use Rattle.ent_semantics.specs.FormKinds.{Fits, tables_named}
+use Rattle.ent_effect.specs.Meant.{rows_under, effect_of, IsMeant, CanBeApplied}
+use Rattle.ent_effect.specs.Meant as meant
 use Rattle.ent_job.specs.Work.{AreUsed, IsOne}
 use Rattle.ent_eval.specs.Result.{IsRight, CanBeMade, alone_seen}
-use Rattle.ent_eval.specs.declared.outcome.Outcome.{Outcome}
-use Rattle.ent_eval.specs.declared.outcome.Outcome.TheVariants as outcomes
+use Rattle.ent_effect.specs.declared.outcome.Outcome.{Outcome}
+use Rattle.ent_effect.specs.declared.outcome.Outcome.TheVariants as outcomes
 use Rattle.ent_eval.proofs.Used.{tables_shared}
 
 -- ---- the tables that a statement names are those that it uses

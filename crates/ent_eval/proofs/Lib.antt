@@ -1,8 +1,5 @@
 pub mod Alone
-mod Changes
 pub mod Chosen
 pub mod Effects
-mod Images
-mod Narrowed
 pub mod Standing
 pub mod Used

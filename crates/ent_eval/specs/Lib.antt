@@ -1,5 +1,1 @@
-pub mod Worth
-pub mod Change
-pub mod Meant
-pub mod Setting
 pub mod Result

@@ -5,9 +5,9 @@ ghost use Rattle.ent_protocol.specs.Job as jobs;
 ghost use Rattle.ent_job.specs.Work.{IsOne};
 ghost use Rattle.ent_eval.specs.Result.{CanBeMade, IsRight, alone_seen, answer_of, outcome_seen};
 
-use crate::evaluation::statement_outcome;
 use crate::joint::choice;
-use crate::outcome::{JobOutcome, Outcome};
+use crate::outcome::JobOutcome;
+use ent_effect::{Outcome, statement_outcome};
 use ent_job::{Job, Single, Work};
 use ent_rel::NumberedTable;
 use ent_semantics::Answer;

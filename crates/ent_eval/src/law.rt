@@ -1,7 +1,7 @@
 //! Laws of jobs. Nothing here has a body; what holds is in the contracts.
 ghost use Rattle.std.specs.Prelude.{List};
 ghost use Rattle.ent_tree.specs.declared.declaration.Create.{Create};
-ghost use Rattle.ent_closed.specs.Form.{Tables};
+ghost use Rattle.ent_semantics.specs.Form.{Tables};
 ghost use Rattle.ent_coordination.specs.Component.{IsComponent};
 ghost use Rattle.ent_coordination.specs.Pool.{IsSafe, Posted};
 ghost use Rattle.ent_protocol.specs.Member.{seen_now};

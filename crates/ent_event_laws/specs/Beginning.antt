@@ -2,8 +2,8 @@
 -- constructor for each of its rows.
 use Rattle.std.specs.Prelude.{◌≡◌, ◌≢◌, ◌⊎◌, ◌≤◌, ℕ, suc, true, false, List, length, Some, None, Contains}
 use Rattle.ent_value.specs.declared.value.Value.{Value}
-use Rattle.ent_closed.specs.declared.entangled.Entangled.{Entangled}
-use Rattle.ent_closed.specs.declared.statement.Statement.{Statement}
+use Rattle.ent_semantics.specs.declared.entangled.Entangled.{Entangled}
+use Rattle.ent_semantics.specs.declared.statement.Statement.{Statement}
 use Rattle.ent_coordination.specs.Pool.{Unsafe, IsSafe, IsFirstUnsafe}
 use Rattle.ent_protocol.specs.Begin.{single_job, lending, pool_with, posting}
 use Rattle.ent_protocol.specs.Commit.{preparing, committing, committing_members, commit_numbers}

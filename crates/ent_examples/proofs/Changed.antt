@@ -5,9 +5,9 @@ use Rattle.std.proofs.Common.{Err, Option, Some, None, length}
 use Rattle.std.specs.Prelude.{nat_le, slice_index_or, slice_set, is_some, if◌then◌else◌}
 use Rattle.std.specs.List.{cons_option, filter_map, list_all, list_any}
 use Rattle.std.specs.Ordering.{eq_by_cmp}
-use Rattle.ent_set.specs.Laws.{ascending-from_list, contains-from_list, from_list-filter, len-insert}
-use Rattle.ent_set.specs.Laws.{without-filter, len-empty}
-use Rattle.ent_set.specs.Sets as set
+use Rattle.ent_lists.specs.Laws.{ascending-from_list, contains-from_list, from_list-filter, len-insert}
+use Rattle.ent_lists.specs.Laws.{without-filter, len-empty}
+use Rattle.ent_lists.specs.Sets as set
 use Rattle.ent_value.specs.Order.{rows_total, exact_rows}
 use Rattle.ent_value.specs.Value.{row_cmp}
 use Rattle.ent_value.specs.declared.limits.TheConstants.{MOST_ROWS}
@@ -19,9 +19,9 @@ use Rattle.ent_semantics.specs.declared.answer.Failure.TheVariants.{TableFull}
 use Rattle.ent_semantics.specs.Database.{Rows, nothing_bound}
 use Rattle.ent_semantics.specs.Effect.{changed, or_overflow}
 use Rattle.ent_semantics.specs.Term.{expression_value}
-use Rattle.ent_closed.specs.declared.operand.Operand.{Operand}
-use Rattle.ent_closed.specs.declared.statement.Statement.TheVariants as forms
-use Rattle.ent_closed.specs.Form.{Tables, closed_worth, form_meaning, operand_worth, table_numbered}
+use Rattle.ent_semantics.specs.declared.operand.Operand.{Operand}
+use Rattle.ent_semantics.specs.declared.statement.Statement.TheVariants as forms
+use Rattle.ent_semantics.specs.Form.{Tables, closed_worth, form_meaning, operand_worth, table_numbered}
 use Rattle.ent_protocol.specs.Job.{IsEffect, Changed}
 use Rattle.ent_protocol.proofs.Inserted.{another_row, one_row}
 

@@ -1,7 +1,7 @@
 -- A failure, event by event.
 use Rattle.std.proofs.Common.{inl, [], ◌∷◌, ◌++◌, map, refl}
 use Rattle.ent_tree.specs.declared.script.End.TheVariants.{Commit}
-use Rattle.ent_closed.specs.declared.operand.Known.TheVariants as known
+use Rattle.ent_semantics.specs.declared.operand.Known.TheVariants as known
 use Rattle.ent_semantics.specs.declared.answer.Failure.TheVariants.{Overflow}
 use Rattle.ent_protocol.specs.Begin.{lending, posting}
 use Rattle.ent_protocol.specs.Commit.{preparing}

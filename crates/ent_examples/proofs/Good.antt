@@ -4,8 +4,8 @@ use Rattle.std.proofs.Common.{sym, ap, subst, ◌∙◌, arith, Some, None}
 use Rattle.std.specs.Prelude.{pos, codes, Contains, ◌≢◌}
 use Rattle.std.specs.List.{filter, flat_map, list_any}
 use Rattle.std.specs.Ordering.{eq_by_cmp}
-use Rattle.ent_set.specs.Laws.{ascending-from_list, contains-from_list}
-use Rattle.ent_set.specs.Sets as set
+use Rattle.ent_lists.specs.Laws.{ascending-from_list, contains-from_list}
+use Rattle.ent_lists.specs.Sets as set
 use Rattle.ent_value.specs.Order.{rows_total, exact_rows}
 use Rattle.ent_value.specs.Value.{row_cmp}
 use Rattle.ent_value.specs.declared.value.Value.{Value}

@@ -5,8 +5,8 @@ use Rattle.std.specs.Prelude.{Contains, slice_get}
 use Rattle.ent_value.specs.declared.value.Kind.TheVariants as kinds
 use Rattle.ent_value.specs.declared.value.Value.{Value}
 use Rattle.ent_value.specs.declared.value.Value.TheVariants.{Text}
-use Rattle.ent_closed.specs.declared.entangled.Atom.{Atom}
-use Rattle.ent_closed.specs.declared.entangled.Term.TheVariants as terms
+use Rattle.ent_semantics.specs.declared.entangled.Atom.{Atom}
+use Rattle.ent_semantics.specs.declared.entangled.Term.TheVariants as terms
 use Rattle.ent_semantics.specs.declared.answer.Fact.{Fact}
 use Rattle.ent_semantics.specs.Database.{Name, same_name}
 use Rattle.ent_semantics.specs.Names.{equal_names, name_itself}

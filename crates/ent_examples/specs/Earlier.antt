@@ -1,6 +1,6 @@
 -- A job of one statement outlives the attempt that it is of.
 use Rattle.std.specs.Prelude.{List, [], ◌∷◌, codes}
-use Rattle.ent_set.specs.Sets as set
+use Rattle.ent_lists.specs.Sets as set
 use Rattle.ent_value.specs.declared.value.Value.TheVariants.{Text}
 use Rattle.ent_tree.specs.declared.script.End.TheVariants.{Commit, Rollback}
 use Rattle.ent_protocol.specs.Event.{Event, Reply}

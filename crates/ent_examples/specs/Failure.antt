@@ -4,9 +4,9 @@ use Rattle.ent_value.specs.declared.value.Value.{Value}
 use Rattle.ent_value.specs.declared.value.Value.TheVariants.{Int}
 use Rattle.ent_tree.specs.declared.operand.Expression.TheVariants.{Sum}
 use Rattle.ent_tree.specs.declared.script.End.TheVariants.{Commit}
-use Rattle.ent_closed.specs.declared.operand.Known.TheVariants as known
-use Rattle.ent_closed.specs.declared.statement.Statement.{Statement}
-use Rattle.ent_closed.specs.declared.statement.Statement.TheVariants as forms
+use Rattle.ent_semantics.specs.declared.operand.Known.TheVariants as known
+use Rattle.ent_semantics.specs.declared.statement.Statement.{Statement}
+use Rattle.ent_semantics.specs.declared.statement.Statement.TheVariants as forms
 use Rattle.ent_semantics.specs.declared.answer.Failure.TheVariants.{Overflow}
 use Rattle.ent_protocol.specs.Event.{Event, Reply}
 use Rattle.ent_protocol.specs.Event as events

@@ -3,10 +3,10 @@ use Rattle.std.specs.Prelude.{ℕ, List, [], ◌∷◌, codes}
 use Rattle.ent_value.specs.declared.value.Kind.TheVariants as kinds
 use Rattle.ent_value.specs.declared.value.Value.{Value}
 use Rattle.ent_tree.specs.declared.operand.Comparison.TheVariants.{Equal}
-use Rattle.ent_closed.specs.declared.entangled.Atom.{Atom}
-use Rattle.ent_closed.specs.declared.entangled.Entangled.{Entangled}
-use Rattle.ent_closed.specs.declared.entangled.Term.TheVariants.{Known, Variable}
-use Rattle.ent_closed.specs.declared.operand.Operand.TheVariants as operands
+use Rattle.ent_semantics.specs.declared.entangled.Atom.{Atom}
+use Rattle.ent_semantics.specs.declared.entangled.Entangled.{Entangled}
+use Rattle.ent_semantics.specs.declared.entangled.Term.TheVariants.{Known, Variable}
+use Rattle.ent_semantics.specs.declared.operand.Operand.TheVariants as operands
 use Rattle.ent_coordination.specs.Pool.{Posted}
 use Rattle.ent_protocol.specs.Partners.{LA, Mickey, Minnie}
 

@@ -1,6 +1,6 @@
 -- Results come twice, and to the wrong event: each is stale but the one that is outstanding.
 use Rattle.std.specs.Prelude.{List, [], ◌∷◌, codes}
-use Rattle.ent_set.specs.Sets as set
+use Rattle.ent_lists.specs.Sets as set
 use Rattle.ent_tree.specs.declared.script.End.TheVariants.{Commit}
 use Rattle.ent_protocol.specs.Event.{Event, Reply}
 use Rattle.ent_protocol.specs.Event as events

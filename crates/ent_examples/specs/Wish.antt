@@ -4,12 +4,12 @@ use Rattle.ent_value.specs.declared.value.Kind.TheVariants as kinds
 use Rattle.ent_value.specs.declared.value.Value.{Value}
 use Rattle.ent_value.specs.declared.value.Value.TheVariants.{Text}
 use Rattle.ent_semantics.specs.Database.{Name, nothing_bound, opening_database}
-use Rattle.ent_closed.specs.Closing.{closed_entangled}
-use Rattle.ent_closed.specs.declared.entangled.Atom.{Atom}
-use Rattle.ent_closed.specs.declared.entangled.Entangled.{Entangled}
-use Rattle.ent_closed.specs.declared.entangled.Term.TheVariants as terms
-use Rattle.ent_closed.specs.declared.operand.Known.{Known}
-use Rattle.ent_closed.specs.declared.operand.Known.TheVariants as known
+use Rattle.ent_semantics.specs.Closing.{closed_entangled}
+use Rattle.ent_semantics.specs.declared.entangled.Atom.{Atom}
+use Rattle.ent_semantics.specs.declared.entangled.Entangled.{Entangled}
+use Rattle.ent_semantics.specs.declared.entangled.Term.TheVariants as terms
+use Rattle.ent_semantics.specs.declared.operand.Known.{Known}
+use Rattle.ent_semantics.specs.declared.operand.Known.TheVariants as known
 use Rattle.ent_coordination.specs.Pool.{Posted}
 use Rattle.ent_protocol.specs.Job.{Job, Joint, Done, Choice}
 use Rattle.ent_protocol.specs.Partners.{partners_opening, flight_122, Mickey, Minnie}

@@ -3,7 +3,7 @@ ghost use Rattle.std.specs.Prelude.{◌≡◌, ◌∷◌, ◌++◌, [], None, So
 ghost use Rattle.ent_tree.specs.declared.script.End.TheVariants.{Commit, Rollback};
 ghost use Rattle.ent_semantics.specs.declared.book.Fate.TheVariants.{Committed, Failed, GaveUp, RolledBack};
 ghost use Rattle.ent_semantics.specs.declared.answer.Failure.TheVariants.{Overflow};
-ghost use Rattle.ent_closed.specs.declared.operand.Known.TheVariants.{Constant};
+ghost use Rattle.ent_semantics.specs.declared.operand.Known.TheVariants.{Constant};
 ghost use Rattle.ent_protocol.specs.Partners.{partners_opening};
 ghost use Rattle.ent_protocol.specs.Play.{Plays};
 ghost use Rattle.ent_protocol.specs.Reached.{book_of, closing, committed_joints, opened};

@@ -1,7 +1,7 @@
 -- Every event keeps that joint answers name their members by number.
 use Rattle.std.proofs.Common.{◌≡◌, ◌<◌, List, [], ◌∷◌, refl, sym, ap, subst, inl, inr}
 use Rattle.std.specs.List.{AllByRecursion}
-use Rattle.ent_closed.specs.declared.statement.Statement.{Statement}
+use Rattle.ent_semantics.specs.declared.statement.Statement.{Statement}
 use Rattle.ent_value.specs.declared.value.Value.{Value}
 use Rattle.ent_semantics.specs.declared.book.JointAnswer.{JointAnswer}
 use Rattle.ent_semantics.specs.declared.book.Member.{Member as JointMember}

@@ -1,7 +1,7 @@
 -- What the report of a legal book over texts of whole characters tells is of whole characters.
 use Rattle.std.proofs.Common.{◌≡◌, ℕ, List, map, refl, sym, subst, Contains, Option, Some, None}
 use Rattle.std.specs.List.{AllByRecursion}
-use Rattle.ent_set.specs.Sets as set
+use Rattle.ent_lists.specs.Sets as set
 use Rattle.ent_value.specs.declared.value.Value.{Value}
 use Rattle.ent_tree.specs.declared.declaration.Opening.{Opening}
 use Rattle.ent_tree.specs.declared.declaration.OpeningRow.{OpeningRow}

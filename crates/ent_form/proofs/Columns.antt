@@ -6,8 +6,8 @@ use Rattle.std.proofs.Common.{inl, inr, refl, sym, ap, arith, Option}
 use Rattle.ent_value.specs.declared.value.Kind.{Kind}
 use Rattle.ent_tree.specs.declared.entangled.Term.{Term as TreeTerm}
 use Rattle.ent_tree.specs.declared.operand.ValueSpecification.{ValueSpecification}
-use Rattle.ent_closed.specs.declared.entangled.Term.{Term}
-use Rattle.ent_closed.specs.declared.operand.Known.{Known}
+use Rattle.ent_semantics.specs.declared.entangled.Term.{Term}
+use Rattle.ent_semantics.specs.declared.operand.Known.{Known}
 use Rattle.ent_semantics.specs.Database.{Name, same_name}
 use Rattle.ent_form.specs.declared.catalogue.ColumnSchema.{ColumnSchema}
 use Rattle.ent_form.specs.declared.fault.FormFault.{FormFault}

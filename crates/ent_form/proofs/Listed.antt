@@ -6,8 +6,8 @@ use Rattle.ent_value.specs.declared.refusal.Refusal.{Refusal}
 use Rattle.ent_value.specs.declared.refusal.Refusal.TheVariants.{Memory, Fault}
 use Rattle.ent_tree.specs.declared.operand.Operand.{Operand as TreeOperand}
 use Rattle.ent_tree.specs.declared.operand.Test.{Test}
-use Rattle.ent_closed.specs.declared.operand.Known.{Known}
-use Rattle.ent_closed.specs.declared.operand.Operand.{Operand}
+use Rattle.ent_semantics.specs.declared.operand.Known.{Known}
+use Rattle.ent_semantics.specs.declared.operand.Operand.{Operand}
 use Rattle.ent_form.specs.declared.fault.FormFault.{FormFault}
 use Rattle.ent_form.specs.Lookup.{Lookup, test_in}
 use Rattle.ent_form.specs.Ordinary.{tests_from}

@@ -18,13 +18,13 @@ use Rattle.ent_tree.specs.declared.operand.Test.{Test}
 use Rattle.ent_tree.specs.declared.select.Select.{Select as TreeSelect}
 use Rattle.ent_tree.specs.Places.{term_place}
 use Rattle.ent_semantics.specs.Database.{Name, is_among, index_of}
-use Rattle.ent_closed.specs.declared.entangled.Atom.{Atom}
-use Rattle.ent_closed.specs.declared.entangled.Binding.{Binding as Bind}
-use Rattle.ent_closed.specs.declared.entangled.Entangled.{Entangled}
-use Rattle.ent_closed.specs.declared.entangled.Membership.{Membership}
-use Rattle.ent_closed.specs.declared.entangled.Term.{Term}
-use Rattle.ent_closed.specs.declared.entangled.Term.TheVariants as resolved
-use Rattle.ent_closed.specs.declared.operand.Known.{Known}
+use Rattle.ent_semantics.specs.declared.entangled.Atom.{Atom}
+use Rattle.ent_semantics.specs.declared.entangled.Binding.{Binding as Bind}
+use Rattle.ent_semantics.specs.declared.entangled.Entangled.{Entangled}
+use Rattle.ent_semantics.specs.declared.entangled.Membership.{Membership}
+use Rattle.ent_semantics.specs.declared.entangled.Term.{Term}
+use Rattle.ent_semantics.specs.declared.entangled.Term.TheVariants as resolved
+use Rattle.ent_semantics.specs.declared.operand.Known.{Known}
 use Rattle.ent_form.specs.declared.binding.Binding.{Binding}
 use Rattle.ent_form.specs.declared.catalogue.TableSchema.{TableSchema}
 use Rattle.ent_form.specs.declared.fault.FormFault.{FormFault}

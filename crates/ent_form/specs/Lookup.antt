@@ -15,10 +15,10 @@ use Rattle.ent_tree.specs.declared.operand.Operand.TheVariants as operands
 use Rattle.ent_tree.specs.declared.operand.Test.{Test}
 use Rattle.ent_tree.specs.declared.operand.ValueSpecification.{ValueSpecification}
 use Rattle.ent_tree.specs.declared.operand.ValueSpecification.TheVariants as specifications
-use Rattle.ent_closed.specs.declared.operand.Known.{Known}
-use Rattle.ent_closed.specs.declared.operand.Known.TheVariants as known
-use Rattle.ent_closed.specs.declared.operand.Operand.{Operand as ResolvedOperand}
-use Rattle.ent_closed.specs.declared.operand.Operand.TheVariants as resolved
+use Rattle.ent_semantics.specs.declared.operand.Known.{Known}
+use Rattle.ent_semantics.specs.declared.operand.Known.TheVariants as known
+use Rattle.ent_semantics.specs.declared.operand.Operand.{Operand as ResolvedOperand}
+use Rattle.ent_semantics.specs.declared.operand.Operand.TheVariants as resolved
 use Rattle.ent_form.specs.declared.fault.FormFault.{FormFault}
 use Rattle.ent_form.specs.declared.fault.FormFault.TheVariants.{WrongKind, NoHostVariable}
 use Rattle.ent_form.specs.Kinds.{Bound}

@@ -13,7 +13,7 @@ use crate::lookup::{expression_place, operand_expression, value_expression, valu
 use crate::row::same_kind;
 use crate::scope::{SeenSources, is_among, table_source};
 use crate::select::tests;
-use ent_closed::{Known, Operand as ResolvedOperand, Statement as ResolvedStatement};
+use ent_semantics::{Known, Operand as ResolvedOperand, Statement as ResolvedStatement};
 use ent_tree::{
     Assignment, Delete, Expression, Insert, MOST_PARTS, Set, Update, ValueSpecification,
 };

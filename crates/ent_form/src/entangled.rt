@@ -18,7 +18,7 @@ use crate::membership::memberships;
 use crate::row::same_kind;
 use crate::scope::is_among;
 use crate::variable::{number_of, variables};
-use ent_closed::{
+use ent_semantics::{
     Atom, Binding as Bind, Entangled as ResolvedEntangled, Known, Term as ResolvedTerm,
 };
 use ent_tree::{

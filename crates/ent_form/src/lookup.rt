@@ -10,7 +10,7 @@ use crate::binding::Bindings;
 use crate::fault::FormFault;
 use crate::row::same_kind;
 use crate::scope::{SeenSources, column};
-use ent_closed::{Known, Operand as ResolvedOperand};
+use ent_semantics::{Known, Operand as ResolvedOperand};
 use ent_tree::{Boxed, ColumnReference, Expression, Operand, Test, ValueSpecification};
 use ent_value::{Kind, Refusal};
 use std::alloc::Global;

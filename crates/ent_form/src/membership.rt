@@ -11,7 +11,7 @@ use crate::lookup::value_of_kind;
 use crate::row::same_kind;
 use crate::select::select;
 use crate::variable::number_of;
-use ent_closed::{Known, Membership, Term as ResolvedTerm};
+use ent_semantics::{Known, Membership, Term as ResolvedTerm};
 use ent_tree::{Condition, Identifier, MOST_PARTS, Select, Term, Tuple};
 use ent_value::{Kind, Limited, Name, Refusal};
 use std::alloc::Global;

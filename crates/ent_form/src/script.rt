@@ -12,7 +12,7 @@ use crate::change::{delete, insert, set, update};
 use crate::entangled::entangled;
 use crate::fault::FormFault;
 use crate::select::select;
-use ent_closed::{Known, Statement as ResolvedStatement};
+use ent_semantics::{Known, Statement as ResolvedStatement};
 use ent_tree::{End, MOST_STATEMENTS, Script, Statement};
 use ent_value::{Limited, Refusal};
 use std::alloc::Global;

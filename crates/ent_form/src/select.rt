@@ -11,7 +11,7 @@ use crate::catalogue::Catalogue;
 use crate::fault::FormFault;
 use crate::lookup::{operand, test};
 use crate::scope::{SeenSources, sources};
-use ent_closed::{Known, Operand as ResolvedOperand, Select as ResolvedSelect};
+use ent_semantics::{Known, Operand as ResolvedOperand, Select as ResolvedSelect};
 use ent_tree::{Items, MOST_PARTS, Operand, Select, Test};
 use ent_value::{Kind, Limited, Refusal, Sequence};
 use std::alloc::{AllocError, Global};

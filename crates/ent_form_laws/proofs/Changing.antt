@@ -14,9 +14,9 @@ use Rattle.ent_tree.specs.declared.operand.ValueSpecification.{ValueSpecificatio
 use Rattle.ent_tree.specs.declared.statement.Delete.{Delete}
 use Rattle.ent_tree.specs.declared.statement.Insert.{Insert}
 use Rattle.ent_tree.specs.declared.statement.Set.{Set}
-use Rattle.ent_closed.specs.declared.operand.Known.{Known}
-use Rattle.ent_closed.specs.declared.statement.Statement.{Statement}
-use Rattle.ent_closed.specs.Form.{Tables, table_numbered, known_worth, operand_worth, form_meaning}
+use Rattle.ent_semantics.specs.declared.operand.Known.{Known}
+use Rattle.ent_semantics.specs.declared.statement.Statement.{Statement}
+use Rattle.ent_semantics.specs.Form.{Tables, table_numbered, known_worth, operand_worth, form_meaning}
 use Rattle.ent_semantics.specs.declared.answer.Failure.{Failure}
 use Rattle.ent_semantics.specs.Database.{Name, Environment, table_named}
 use Rattle.ent_semantics.specs.Effect.{Effect, insertion, deletion, setting}

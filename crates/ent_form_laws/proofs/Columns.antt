@@ -15,11 +15,11 @@ use Rattle.ent_tree.specs.declared.operand.Operand.{Operand as TreeOperand}
 use Rattle.ent_tree.specs.declared.operand.Operand.TheVariants as operands
 use Rattle.ent_tree.specs.declared.statement.Assignment.{Assignment}
 use Rattle.ent_semantics.specs.Database.{Name, Environment, same_name, is_among}
-use Rattle.ent_closed.specs.Closing.{operand_over, expression_over}
-use Rattle.ent_closed.specs.Form.{known_worth}
-use Rattle.ent_closed.specs.declared.operand.Known.{Known}
-use Rattle.ent_closed.specs.declared.operand.Operand.{Operand}
-use Rattle.ent_closed.specs.declared.operand.Operand.TheVariants as resolved
+use Rattle.ent_semantics.specs.Closing.{operand_over, expression_over}
+use Rattle.ent_semantics.specs.Form.{known_worth}
+use Rattle.ent_semantics.specs.declared.operand.Known.{Known}
+use Rattle.ent_semantics.specs.declared.operand.Operand.{Operand}
+use Rattle.ent_semantics.specs.declared.operand.Operand.TheVariants as resolved
 use Rattle.ent_semantics.specs.Term.{refers_to}
 use Rattle.ent_form.specs.declared.catalogue.ColumnSchema.{ColumnSchema}
 use Rattle.ent_form.specs.declared.fault.FormFault.TheVariants.{NoColumn, WrongKind, Repeated, NoTable}
@@ -30,7 +30,7 @@ use Rattle.ent_form.specs.Lookup.{expression_place}
 use Rattle.ent_form.specs.Ordinary.{Image, own_from, assignment_in, assignments_from, image_in}
 use Rattle.ent_form.specs.Scope.{Visible, Scope, visible, referred_from, only_one, column_in, qualifier_in}
 use Rattle.ent_form.specs.Steps.{there}
-use Rattle.ent_closed.specs.Kinds.{operand_kind, expression_kind}
+use Rattle.ent_semantics.specs.FormKinds.{operand_kind, expression_kind}
 use Rattle.ent_form.proofs.Heads.{unqualified}
 use Rattle.ent_form.specs.declared.fault.FormFault.{FormFault}
 use Rattle.ent_form_laws.specs.Kinds.{HasKinds}

@@ -21,14 +21,14 @@ use Rattle.ent_tree.specs.declared.statement.Delete.{Delete}
 use Rattle.ent_tree.specs.declared.statement.Insert.{Insert}
 use Rattle.ent_tree.specs.declared.statement.Set.{Set}
 use Rattle.ent_tree.specs.declared.statement.Update.{Update}
-use Rattle.ent_closed.specs.Closing.{closed, expression_over, operand_over, membership_over}
-use Rattle.ent_closed.specs.Form.{known_worth}
-use Rattle.ent_closed.specs.declared.entangled.Entangled.{Entangled}
-use Rattle.ent_closed.specs.declared.entangled.Membership.{Membership}
-use Rattle.ent_closed.specs.declared.operand.Known.{Known}
-use Rattle.ent_closed.specs.declared.statement.Select.{Select}
-use Rattle.ent_closed.specs.declared.statement.Statement.{Statement}
-use Rattle.ent_closed.specs.declared.statement.Statement.TheVariants as resolved
+use Rattle.ent_semantics.specs.Closing.{closed, expression_over, operand_over, membership_over}
+use Rattle.ent_semantics.specs.Form.{known_worth}
+use Rattle.ent_semantics.specs.declared.entangled.Entangled.{Entangled}
+use Rattle.ent_semantics.specs.declared.entangled.Membership.{Membership}
+use Rattle.ent_semantics.specs.declared.operand.Known.{Known}
+use Rattle.ent_semantics.specs.declared.statement.Select.{Select}
+use Rattle.ent_semantics.specs.declared.statement.Statement.{Statement}
+use Rattle.ent_semantics.specs.declared.statement.Statement.TheVariants as resolved
 use Rattle.ent_semantics.specs.Database.{Name, Environment}
 use Rattle.ent_semantics.specs.Serial.{is_entangled}
 use Rattle.ent_form.specs.declared.catalogue.TableSchema.{TableSchema}
@@ -41,7 +41,7 @@ use Rattle.ent_form.specs.Lookup.{values_in, expression_in}
 use Rattle.ent_form.specs.Ordinary.{tests_in, items_in, select_in, row_from, insert_in, delete_in, image_in}
 use Rattle.ent_form.specs.Ordinary.{update_in, set_in}
 use Rattle.ent_form.specs.Scope.{sources_in, no_source, table_in, table_scope}
-use Rattle.ent_closed.specs.Kinds.{KeepsKinds, Fits, tables_named}
+use Rattle.ent_semantics.specs.FormKinds.{KeepsKinds, Fits, tables_named}
 use Rattle.ent_form_laws.specs.Kinds.{column_kinds, kinds_numbered, AreDeclared, HasKinds}
 use Rattle.ent_form_laws.proofs.Columns.{kinds_seen, image_kinded}
 use Rattle.ent_form_laws.proofs.Found.{found_in, sources_seen}

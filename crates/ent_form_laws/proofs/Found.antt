@@ -5,11 +5,11 @@ use Rattle.std.specs.Prelude.{not, slice_index_or, slice_set, if◌then◌else�
 use Rattle.std.specs.List.{AllByRecursion, flat_map}
 use Rattle.std.proofs.lemmas.Grind.{flat_map-append}
 use Rattle.std.proofs.lemmas.List.{append-nil, map-append}
-use Rattle.ent_set.specs.Sets as set
+use Rattle.ent_lists.specs.Sets as set
 use Rattle.ent_tree.specs.declared.operand.Identifier.{Identifier}
 use Rattle.ent_tree.specs.declared.select.Source.{Source}
 use Rattle.ent_semantics.specs.Database.{Name, Rows, same_name, is_among}
-use Rattle.ent_closed.specs.Form.{Tables}
+use Rattle.ent_semantics.specs.Form.{Tables}
 use Rattle.ent_semantics.specs.Kinds.{KindedSource, RowsHaveKinds, SourcesHaveKinds}
 use Rattle.ent_semantics.specs.Term.{source_name}
 use Rattle.ent_form.specs.declared.catalogue.TableSchema.{TableSchema}

@@ -7,7 +7,7 @@ use Rattle.std.proofs.lemmas.Bool.{and_parts, eqb-true}
 use Rattle.std.proofs.lemmas.List.{append-nil, append_assoc, map-append, length-append, length-map}
 use Rattle.std.proofs.lemmas.List.Folds.{flat_map-map}
 use Rattle.std.proofs.lemmas.Simd.{map-map}
-use Rattle.ent_set.specs.Sets as set
+use Rattle.ent_lists.specs.Sets as set
 use Rattle.ent_value.specs.Value.{kind_of, kinds_of}
 use Rattle.ent_value.specs.declared.value.Kind.{Kind}
 use Rattle.ent_value.specs.declared.value.Kind.TheVariants.{Int}
@@ -27,17 +27,17 @@ use Rattle.ent_tree.specs.declared.select.Items.{Items}
 use Rattle.ent_tree.specs.declared.select.Items.TheVariants as items
 use Rattle.ent_tree.specs.declared.select.Select.{Select as TreeSelect}
 use Rattle.ent_semantics.specs.Database.{Name, Rows, Environment, same_name, is_among, index_of}
-use Rattle.ent_closed.specs.Closing.{operand_over}
-use Rattle.ent_closed.specs.Form.{Tables, known_worth, operand_worth, term_worth, form_rows, membership_holds}
-use Rattle.ent_closed.specs.Form.{is_form_grounding}
-use Rattle.ent_closed.specs.declared.entangled.Atom.{Atom}
-use Rattle.ent_closed.specs.declared.entangled.Entangled.{Entangled}
-use Rattle.ent_closed.specs.declared.entangled.Membership.{Membership}
-use Rattle.ent_closed.specs.declared.entangled.Term.{Term}
-use Rattle.ent_closed.specs.declared.entangled.Term.TheVariants as resolved
-use Rattle.ent_closed.specs.declared.operand.Known.{Known}
-use Rattle.ent_closed.specs.declared.operand.Operand.{Operand}
-use Rattle.ent_closed.specs.declared.statement.Select.{Select}
+use Rattle.ent_semantics.specs.Closing.{operand_over}
+use Rattle.ent_semantics.specs.Form.{Tables, known_worth, operand_worth, term_worth, form_rows, membership_holds}
+use Rattle.ent_semantics.specs.Form.{is_form_grounding}
+use Rattle.ent_semantics.specs.declared.entangled.Atom.{Atom}
+use Rattle.ent_semantics.specs.declared.entangled.Entangled.{Entangled}
+use Rattle.ent_semantics.specs.declared.entangled.Membership.{Membership}
+use Rattle.ent_semantics.specs.declared.entangled.Term.{Term}
+use Rattle.ent_semantics.specs.declared.entangled.Term.TheVariants as resolved
+use Rattle.ent_semantics.specs.declared.operand.Known.{Known}
+use Rattle.ent_semantics.specs.declared.operand.Operand.{Operand}
+use Rattle.ent_semantics.specs.declared.statement.Select.{Select}
 use Rattle.ent_semantics.specs.Entangled.{Valuation}
 use Rattle.ent_semantics.specs.Kinds.{KindedSource, RowsHaveKinds, SourcesHaveKinds, kinds_side_by_side, ShowsKinds}
 use Rattle.ent_semantics.specs.Names.{equal_names, name_itself}
@@ -53,7 +53,7 @@ use Rattle.ent_form.specs.Ordinary.{tests_in, Shown, with_item, items_from, colu
 use Rattle.ent_form.specs.Ordinary.{select_in}
 use Rattle.ent_form.specs.Scope.{Visible, Scope, sources_in, no_source}
 use Rattle.ent_form.specs.Steps.{there}
-use Rattle.ent_closed.specs.Kinds.{operand_kind}
+use Rattle.ent_semantics.specs.FormKinds.{operand_kind}
 use Rattle.ent_form.specs.Kinds.{Bound, none_bound, with_kind}
 use Rattle.ent_form.specs.Entangled.{variables_of, demanded_in, member_in}
 use Rattle.ent_form_laws.specs.Kinds.{kinds_numbered, AreKinded, HasKinds}

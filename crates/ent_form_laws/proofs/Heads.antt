@@ -13,11 +13,11 @@ use Rattle.ent_tree.specs.declared.entangled.Tuple.{Tuple}
 use Rattle.ent_tree.specs.declared.operand.Identifier.{Identifier}
 use Rattle.ent_tree.specs.declared.operand.Test.{Test}
 use Rattle.ent_semantics.specs.Database.{Name, Environment, is_among}
-use Rattle.ent_closed.specs.declared.entangled.Atom.{Atom}
-use Rattle.ent_closed.specs.declared.entangled.Binding.{Binding as Bind}
-use Rattle.ent_closed.specs.declared.entangled.Term.{Term}
-use Rattle.ent_closed.specs.declared.operand.Known.{Known}
-use Rattle.ent_closed.specs.Form.{known_worth, atom_fact}
+use Rattle.ent_semantics.specs.declared.entangled.Atom.{Atom}
+use Rattle.ent_semantics.specs.declared.entangled.Binding.{Binding as Bind}
+use Rattle.ent_semantics.specs.declared.entangled.Term.{Term}
+use Rattle.ent_semantics.specs.declared.operand.Known.{Known}
+use Rattle.ent_semantics.specs.Form.{known_worth, atom_fact}
 use Rattle.ent_semantics.specs.declared.answer.Fact.{Fact}
 use Rattle.ent_semantics.specs.Entangled.{Valuation, facts, condition_posts, item_binds}
 use Rattle.ent_semantics.specs.Selection.{holds}

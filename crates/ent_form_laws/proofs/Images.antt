@@ -14,8 +14,8 @@ use Rattle.ent_tree.specs.declared.operand.Expression.TheVariants.{Single, Sum, 
 use Rattle.ent_tree.specs.declared.operand.Operand.{Operand as TreeOperand}
 use Rattle.ent_tree.specs.declared.statement.Assignment.{Assignment}
 use Rattle.ent_semantics.specs.Database.{Name, Environment, same_name, is_among}
-use Rattle.ent_closed.specs.declared.operand.Known.{Known}
-use Rattle.ent_closed.specs.declared.operand.Operand.{Operand}
+use Rattle.ent_semantics.specs.declared.operand.Known.{Known}
+use Rattle.ent_semantics.specs.declared.operand.Operand.{Operand}
 use Rattle.ent_semantics.specs.Change.{all_there, assigned_value, assigned_values, image}
 use Rattle.ent_semantics.specs.Names.{equal_names, names_turned}
 use Rattle.ent_semantics.specs.Term.{no_value, expression_value}

@@ -5,7 +5,7 @@ use Rattle.std.specs.Prelude.{◌+ℤ◌, ◌-ℤ◌, is_some, nat_le, slice_get
 use Rattle.std.specs.List.{AllByRecursion, list_all, filter_map, cons_option}
 use Rattle.std.specs.Option.{option_map, option_and_then}
 use Rattle.std.proofs.lemmas.Option.{get_or_from_slice_get, slice_get-map}
-use Rattle.ent_set.specs.Sets as set
+use Rattle.ent_lists.specs.Sets as set
 use Rattle.ent_value.specs.Value.{kind_of, kinds_of}
 use Rattle.ent_value.specs.declared.limits.TheConstants.{MOST_ROWS}
 use Rattle.ent_value.specs.declared.value.Kind.{Kind}
@@ -13,13 +13,13 @@ use Rattle.ent_value.specs.declared.value.Kind.TheVariants.{Int}
 use Rattle.ent_value.specs.declared.value.Value.{Value}
 use Rattle.ent_tree.specs.declared.operand.Expression.{Expression}
 use Rattle.ent_tree.specs.declared.operand.Expression.TheVariants.{Single, Sum, Difference}
-use Rattle.ent_closed.specs.Closing.{closed, expression_over, operand_over}
-use Rattle.ent_closed.specs.Form.{Tables, known_worth, operand_worth, table_numbered, form_meaning}
-use Rattle.ent_closed.specs.declared.operand.Known.{Known}
-use Rattle.ent_closed.specs.declared.operand.Operand.{Operand}
-use Rattle.ent_closed.specs.declared.operand.Operand.TheVariants as operands
-use Rattle.ent_closed.specs.declared.statement.Statement.{Statement}
-use Rattle.ent_closed.specs.declared.statement.Statement.TheVariants as statements
+use Rattle.ent_semantics.specs.Closing.{closed, expression_over, operand_over}
+use Rattle.ent_semantics.specs.Form.{Tables, known_worth, operand_worth, table_numbered, form_meaning}
+use Rattle.ent_semantics.specs.declared.operand.Known.{Known}
+use Rattle.ent_semantics.specs.declared.operand.Operand.{Operand}
+use Rattle.ent_semantics.specs.declared.operand.Operand.TheVariants as operands
+use Rattle.ent_semantics.specs.declared.statement.Statement.{Statement}
+use Rattle.ent_semantics.specs.declared.statement.Statement.TheVariants as statements
 use Rattle.ent_semantics.specs.declared.answer.Answer.TheVariants as answers
 use Rattle.ent_semantics.specs.declared.answer.Failure.{Failure}
 use Rattle.ent_semantics.specs.declared.answer.Failure.TheVariants.{TableFull}
@@ -34,7 +34,7 @@ use Rattle.ent_semantics.proofs.NumberKinds.{number_kind}
 use Rattle.ent_semantics.proofs.EachRow.{to_ascending, each_inserted, each_all_inserted, each_retained}
 use Rattle.ent_semantics.proofs.ItemKinds.{HaveKinds}
 use Rattle.ent_form.specs.declared.catalogue.TableSchema.{TableSchema}
-use Rattle.ent_closed.specs.Kinds.{operand_kind, expression_kind, KeepsKinds, Fits, tables_named}
+use Rattle.ent_semantics.specs.FormKinds.{operand_kind, expression_kind, KeepsKinds, Fits, tables_named}
 use Rattle.ent_form_laws.specs.Kinds.{kinds_numbered, AreDeclared, AreKinded}
 use Rattle.ent_form_laws.proofs.Found.{kinded_at, kinded_with}
 use Rattle.ent_form_laws.proofs.Known.{one_value}

@@ -14,9 +14,9 @@ use Rattle.ent_tree.specs.declared.operand.Expression.TheVariants.{Single, Sum, 
 use Rattle.ent_tree.specs.declared.operand.ValueSpecification.{ValueSpecification}
 use Rattle.ent_tree.specs.declared.operand.ValueSpecification.TheVariants as specifications
 use Rattle.ent_tree.specs.Places.{value_place}
-use Rattle.ent_closed.specs.declared.operand.Known.{Known}
-use Rattle.ent_closed.specs.declared.operand.Known.TheVariants as known
-use Rattle.ent_closed.specs.Form.{known_worth}
+use Rattle.ent_semantics.specs.declared.operand.Known.{Known}
+use Rattle.ent_semantics.specs.declared.operand.Known.TheVariants as known
+use Rattle.ent_semantics.specs.Form.{known_worth}
 use Rattle.ent_semantics.specs.Database.{Environment}
 use Rattle.ent_semantics.specs.Term.{no_value, number_of, expression_value}
 use Rattle.ent_semantics.proofs.NumberKinds.{number_kind}

@@ -2,10 +2,10 @@
 use Rattle.std.proofs.Common.{◌≡◌, List, Ok, refl, subst}
 use Rattle.ent_tree.specs.declared.script.Statement.{Statement as TreeStatement}
 use Rattle.ent_tree.specs.declared.script.Statement.TheVariants as statements
-use Rattle.ent_closed.specs.Form.{Tables}
-use Rattle.ent_closed.specs.declared.operand.Known.{Known}
-use Rattle.ent_closed.specs.declared.statement.Statement.{Statement}
-use Rattle.ent_closed.specs.declared.statement.Statement.TheVariants as forms
+use Rattle.ent_semantics.specs.Form.{Tables}
+use Rattle.ent_semantics.specs.declared.operand.Known.{Known}
+use Rattle.ent_semantics.specs.declared.statement.Statement.{Statement}
+use Rattle.ent_semantics.specs.declared.statement.Statement.TheVariants as forms
 use Rattle.ent_semantics.specs.Database.{Environment}
 use Rattle.ent_form.specs.declared.catalogue.TableSchema.{TableSchema}
 use Rattle.ent_form.specs.Entangled.{entangled_in}

@@ -6,11 +6,11 @@ use Rattle.ent_tree.specs.declared.script.Statement.TheVariants as trees
 use Rattle.ent_semantics.specs.Database.{Environment}
 use Rattle.ent_semantics.specs.Entangled.{Valuation}
 use Rattle.ent_semantics.specs.Serial.{is_entangled}
-use Rattle.ent_closed.specs.declared.operand.Known.{Known}
-use Rattle.ent_closed.specs.declared.statement.Statement.{Statement}
-use Rattle.ent_closed.specs.declared.statement.Statement.TheVariants as forms
-use Rattle.ent_closed.specs.Closing.{closed}
-use Rattle.ent_closed.specs.Kinds.{Fits}
+use Rattle.ent_semantics.specs.declared.operand.Known.{Known}
+use Rattle.ent_semantics.specs.declared.statement.Statement.{Statement}
+use Rattle.ent_semantics.specs.declared.statement.Statement.TheVariants as forms
+use Rattle.ent_semantics.specs.Closing.{closed}
+use Rattle.ent_semantics.specs.FormKinds.{Fits}
 use Rattle.ent_form_laws.specs.Kinds.{AnswersInKind}
 use Rattle.ent_form_laws.specs.Tables.{Answers}
 

@@ -17,10 +17,10 @@ use Rattle.ent_tree.specs.declared.select.Items.{Items}
 use Rattle.ent_tree.specs.declared.select.Items.TheVariants as items
 use Rattle.ent_tree.specs.declared.select.Select.{Select as TreeSelect}
 use Rattle.ent_semantics.specs.Database.{Name, Environment, is_among}
-use Rattle.ent_closed.specs.declared.operand.Known.{Known}
-use Rattle.ent_closed.specs.declared.operand.Operand.{Operand}
-use Rattle.ent_closed.specs.declared.statement.Select.{Select}
-use Rattle.ent_closed.specs.Form.{Tables, known_worth, operand_worth, form_rows}
+use Rattle.ent_semantics.specs.declared.operand.Known.{Known}
+use Rattle.ent_semantics.specs.declared.operand.Operand.{Operand}
+use Rattle.ent_semantics.specs.declared.statement.Select.{Select}
+use Rattle.ent_semantics.specs.Form.{Tables, known_worth, operand_worth, form_rows}
 use Rattle.ent_semantics.specs.Database.{Environment}
 use Rattle.ent_semantics.specs.Selection.{compares, holds, meets, item_row, selection, select_rows, combinations}
 use Rattle.ent_semantics.specs.Term.{no_value, refers_to, column_value, operand_value}

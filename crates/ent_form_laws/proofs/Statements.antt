@@ -3,9 +3,9 @@ use Rattle.std.proofs.Common.{◌≡◌, List, Result, Ok, ap, ◌∙◌}
 use Rattle.ent_tree.specs.declared.declaration.Create.{Create}
 use Rattle.ent_tree.specs.declared.script.Statement.{Statement as TreeStatement}
 use Rattle.ent_tree.specs.declared.script.Statement.TheVariants as statements
-use Rattle.ent_closed.specs.declared.operand.Known.{Known}
-use Rattle.ent_closed.specs.declared.statement.Statement.{Statement}
-use Rattle.ent_closed.specs.Form.{Tables, known_worth, form_meaning}
+use Rattle.ent_semantics.specs.declared.operand.Known.{Known}
+use Rattle.ent_semantics.specs.declared.statement.Statement.{Statement}
+use Rattle.ent_semantics.specs.Form.{Tables, known_worth, form_meaning}
 use Rattle.ent_semantics.specs.declared.answer.Failure.{Failure}
 use Rattle.ent_semantics.specs.Database.{Rows, Environment}
 use Rattle.ent_semantics.specs.Effect.{Effect, shown, heads_given}

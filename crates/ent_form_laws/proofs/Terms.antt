@@ -14,9 +14,9 @@ use Rattle.ent_tree.specs.declared.operand.ValueSpecification.{ValueSpecificatio
 use Rattle.ent_tree.specs.declared.operand.ValueSpecification.TheVariants as specifications
 use Rattle.ent_tree.specs.Places.{value_place, term_place}
 use Rattle.ent_semantics.specs.Database.{Name, Environment, same_name, index_of}
-use Rattle.ent_closed.specs.declared.entangled.Term.{Term}
-use Rattle.ent_closed.specs.declared.operand.Known.{Known}
-use Rattle.ent_closed.specs.Form.{known_worth, term_worth}
+use Rattle.ent_semantics.specs.declared.entangled.Term.{Term}
+use Rattle.ent_semantics.specs.declared.operand.Known.{Known}
+use Rattle.ent_semantics.specs.Form.{known_worth, term_worth}
 use Rattle.ent_semantics.specs.Entangled.{Valuation, variable_value, term_value}
 use Rattle.ent_semantics.specs.Selection.{compares, holds}
 use Rattle.ent_semantics.specs.Term.{no_value, known_value}

@@ -1,7 +1,7 @@
 -- Tables in the order of their declaration, and the database that they are under their names.
 use Rattle.std.specs.Prelude.{◌≡◌, List, [], ◌∷◌, map, length, Result, Ok, Err, if◌then◌else◌}
 use Rattle.std.specs.List.{AllByRecursion, IsDistinct}
-use Rattle.ent_set.specs.Sets as set
+use Rattle.ent_lists.specs.Sets as set
 use Rattle.ent_tree.specs.declared.declaration.Create.{Create}
 use Rattle.ent_tree.specs.declared.script.Statement.{Statement}
 use Rattle.ent_tree.specs.declared.script.Statement.TheVariants as statements
@@ -9,7 +9,7 @@ use Rattle.ent_semantics.specs.Database.{Database, same_name}
 use Rattle.ent_semantics.specs.declared.answer.Failure.{Failure}
 use Rattle.ent_semantics.specs.Effect.{Effect}
 use Rattle.ent_semantics.specs.Entangled.{Valuation, written_variables}
-use Rattle.ent_closed.specs.Form.{Tables}
+use Rattle.ent_semantics.specs.Form.{Tables}
 
 abbrev pub database_of : List Create → Tables → Database
 database_of [] tables name = set.empty

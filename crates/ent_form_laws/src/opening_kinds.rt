@@ -2,7 +2,7 @@
 ghost use Rattle.std.specs.Prelude.{◌≡◌, List, None};
 ghost use Rattle.ent_tree.specs.declared.declaration.Create.{Create};
 ghost use Rattle.ent_tree.specs.declared.declaration.Opening.{Opening};
-ghost use Rattle.ent_closed.specs.Form.{Tables};
+ghost use Rattle.ent_semantics.specs.Form.{Tables};
 ghost use Rattle.ent_semantics.specs.Database.{opening_database};
 ghost use Rattle.ent_form.specs.Catalogue.{schemas_of};
 ghost use Rattle.ent_form.specs.OpeningFault.{opening_fault};

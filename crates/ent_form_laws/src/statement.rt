@@ -2,9 +2,9 @@
 ghost use Rattle.std.specs.Prelude.{◌≡◌, Ok, List};
 ghost use Rattle.ent_tree.specs.declared.declaration.Create.{Create};
 ghost use Rattle.ent_tree.specs.declared.script.Statement.{Statement as TreeStatement};
-ghost use Rattle.ent_closed.specs.declared.operand.Known.{Known};
-ghost use Rattle.ent_closed.specs.declared.statement.Statement.{Statement};
-ghost use Rattle.ent_closed.specs.Form.{Tables, known_worth, form_meaning};
+ghost use Rattle.ent_semantics.specs.declared.operand.Known.{Known};
+ghost use Rattle.ent_semantics.specs.declared.statement.Statement.{Statement};
+ghost use Rattle.ent_semantics.specs.Form.{Tables, known_worth, form_meaning};
 ghost use Rattle.ent_semantics.specs.Database.{Environment};
 ghost use Rattle.ent_semantics.specs.Entangled.{Valuation};
 ghost use Rattle.ent_semantics.specs.Statement.{statement_meaning};

@@ -1,10 +1,10 @@
 //! Laws of resolved statements.
 ghost use Rattle.std.specs.Prelude.{◌≡◌, false, List, map, Ok};
 ghost use Rattle.ent_tree.specs.declared.script.Statement.{Statement as TreeStatement};
-ghost use Rattle.ent_closed.specs.Closing.{closed};
-ghost use Rattle.ent_closed.specs.Form.{Tables, form_meaning, known_worth};
-ghost use Rattle.ent_closed.specs.declared.operand.Known.{Known};
-ghost use Rattle.ent_closed.specs.declared.statement.Statement.{Statement};
+ghost use Rattle.ent_semantics.specs.Closing.{closed};
+ghost use Rattle.ent_semantics.specs.Form.{Tables, form_meaning, known_worth};
+ghost use Rattle.ent_semantics.specs.declared.operand.Known.{Known};
+ghost use Rattle.ent_semantics.specs.declared.statement.Statement.{Statement};
 ghost use Rattle.ent_semantics.specs.Database.{Environment};
 ghost use Rattle.ent_semantics.specs.Effect.{Effect};
 ghost use Rattle.ent_semantics.specs.Entangled.{Valuation};
@@ -12,7 +12,7 @@ ghost use Rattle.ent_semantics.specs.Serial.{is_entangled};
 ghost use Rattle.ent_form.specs.declared.catalogue.TableSchema.{TableSchema};
 ghost use Rattle.ent_form.specs.Form.{statement_in};
 ghost use Rattle.ent_form.specs.Kinds.{Bound};
-ghost use Rattle.ent_closed.specs.Kinds.{Fits, tables_named};
+ghost use Rattle.ent_semantics.specs.FormKinds.{Fits, tables_named};
 ghost use Rattle.ent_form_laws.specs.Kinds.{kinds_numbered, AreDeclared, AreKinded, AnswersInKind, HasKinds};
 
 /// A resolved statement names tables that are declared, the same ones when it is closed; and an ordinary one fits the

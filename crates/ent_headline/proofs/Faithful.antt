@@ -7,11 +7,11 @@ use Rattle.ent_tree.specs.declared.declaration.Create.{Create}
 use Rattle.ent_tree.specs.declared.declaration.Opening.{Opening}
 use Rattle.ent_tree.specs.declared.entangled.Entangled.{Entangled as TreeEntangled}
 use Rattle.ent_tree.specs.declared.script.Statement.{Statement as TreeStatement}
-use Rattle.ent_closed.specs.Closing.{closed}
-use Rattle.ent_closed.specs.Form.{Tables, known_worth, form_meaning, form_heads, form_posts, is_form_grounding}
-use Rattle.ent_closed.specs.declared.entangled.Entangled.{Entangled}
-use Rattle.ent_closed.specs.declared.operand.Known.{Known}
-use Rattle.ent_closed.specs.declared.statement.Statement.{Statement}
+use Rattle.ent_semantics.specs.Closing.{closed}
+use Rattle.ent_semantics.specs.Form.{Tables, known_worth, form_meaning, form_heads, form_posts, is_form_grounding}
+use Rattle.ent_semantics.specs.declared.entangled.Entangled.{Entangled}
+use Rattle.ent_semantics.specs.declared.operand.Known.{Known}
+use Rattle.ent_semantics.specs.declared.statement.Statement.{Statement}
 use Rattle.ent_semantics.specs.Database.{Environment, opening_database}
 use Rattle.ent_semantics.specs.Entangled.{Valuation, written_variables, is_grounding, heads, posts}
 use Rattle.ent_semantics.specs.Statement.{statement_meaning}

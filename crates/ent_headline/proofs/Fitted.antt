@@ -14,12 +14,12 @@ use Rattle.ent_tree.specs.declared.script.Statement.{Statement as TreeStatement}
 use Rattle.ent_tree.specs.declared.script.Statement.TheVariants as trees
 use Rattle.ent_semantics.specs.Database.{Environment}
 use Rattle.ent_semantics.specs.Serial.{is_entangled, numbered}
-use Rattle.ent_closed.specs.Closing.{closed}
-use Rattle.ent_closed.specs.declared.operand.Known.{Known}
-use Rattle.ent_closed.specs.declared.statement.Statement.{Statement}
-use Rattle.ent_closed.specs.declared.statement.Statement.TheVariants as statements
-use Rattle.ent_closed.specs.Form.{Tables}
-use Rattle.ent_closed.specs.Kinds.{Fits, tables_named}
+use Rattle.ent_semantics.specs.Closing.{closed}
+use Rattle.ent_semantics.specs.declared.operand.Known.{Known}
+use Rattle.ent_semantics.specs.declared.statement.Statement.{Statement}
+use Rattle.ent_semantics.specs.declared.statement.Statement.TheVariants as statements
+use Rattle.ent_semantics.specs.Form.{Tables}
+use Rattle.ent_semantics.specs.FormKinds.{Fits, tables_named}
 use Rattle.ent_form.specs.Catalogue.{column_schema, schemas_of}
 use Rattle.ent_form.specs.Entangled.{entangled_in}
 use Rattle.ent_form.specs.Form.{statements_from, statement_in}

@@ -6,7 +6,7 @@ use Rattle.ent_value.specs.Kinds.{same_kind}
 use Rattle.ent_tree.specs.declared.operand.ValueSpecification.{ValueSpecification}
 use Rattle.ent_tree.specs.declared.statement.Assignment.{Assignment}
 use Rattle.ent_semantics.specs.Database.{Name, is_among}
-use Rattle.ent_closed.specs.declared.operand.Known.{Known}
+use Rattle.ent_semantics.specs.declared.operand.Known.{Known}
 use Rattle.ent_form.specs.declared.catalogue.ColumnSchema.{ColumnSchema}
 use Rattle.ent_form.specs.declared.fault.FormFault.TheVariants.{NoColumn, Repeated, WrongKind}
 use Rattle.ent_form.specs.Lookup.{values_in, kind_in, operands_in, operand_place, expression_in, expression_place}

@@ -6,10 +6,10 @@ use Rattle.ent_tree.specs.declared.script.Statement.{Statement as TreeStatement}
 use Rattle.ent_semantics.specs.Database.{Environment}
 use Rattle.ent_semantics.specs.Entangled.{Valuation, written_variables, is_grounding}
 use Rattle.ent_semantics.specs.Statement.{statement_meaning}
-use Rattle.ent_closed.specs.Form.{Tables, form_meaning, is_form_grounding, known_worth}
-use Rattle.ent_closed.specs.declared.entangled.Entangled.{Entangled}
-use Rattle.ent_closed.specs.declared.operand.Known.{Known}
-use Rattle.ent_closed.specs.declared.statement.Statement.{Statement}
+use Rattle.ent_semantics.specs.Form.{Tables, form_meaning, is_form_grounding, known_worth}
+use Rattle.ent_semantics.specs.declared.entangled.Entangled.{Entangled}
+use Rattle.ent_semantics.specs.declared.operand.Known.{Known}
+use Rattle.ent_semantics.specs.declared.statement.Statement.{Statement}
 use Rattle.ent_form.specs.Catalogue.{schemas_of}
 use Rattle.ent_form.specs.Entangled.{entangled_in}
 use Rattle.ent_form.specs.Form.{statement_in}

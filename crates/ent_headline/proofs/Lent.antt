@@ -1,7 +1,7 @@
 -- Statements that are lent, and posted ones that are picked, with the tables that they use.
 use Rattle.std.proofs.Common.{List, [], ◌∷◌, map, refl, sym, ap, subst, Contains}
 use Rattle.ent_tree.specs.declared.declaration.Create.{Create}
-use Rattle.ent_closed.specs.Form.{Tables}
+use Rattle.ent_semantics.specs.Form.{Tables}
 use Rattle.ent_coordination.specs.Pool.{Posted}
 use Rattle.ent_protocol.specs.Member.{pool, seen_now}
 use Rattle.ent_protocol.specs.PoolEvents.{IsPresentComponent}

@@ -20,12 +20,12 @@ use Rattle.ent_tree.specs.declared.statement.Insert.{Insert}
 use Rattle.ent_tree.specs.declared.statement.Set.{Set}
 use Rattle.ent_tree.specs.declared.statement.Update.{Update}
 use Rattle.ent_semantics.specs.Database.{Name, is_among}
-use Rattle.ent_closed.specs.declared.entangled.Entangled.{Entangled}
-use Rattle.ent_closed.specs.declared.entangled.Membership.{Membership}
-use Rattle.ent_closed.specs.declared.operand.Known.{Known}
-use Rattle.ent_closed.specs.declared.statement.Select.{Select}
-use Rattle.ent_closed.specs.declared.statement.Statement.{Statement}
-use Rattle.ent_closed.specs.declared.statement.Statement.TheVariants as forms
+use Rattle.ent_semantics.specs.declared.entangled.Entangled.{Entangled}
+use Rattle.ent_semantics.specs.declared.entangled.Membership.{Membership}
+use Rattle.ent_semantics.specs.declared.operand.Known.{Known}
+use Rattle.ent_semantics.specs.declared.statement.Select.{Select}
+use Rattle.ent_semantics.specs.declared.statement.Statement.{Statement}
+use Rattle.ent_semantics.specs.declared.statement.Statement.TheVariants as forms
 use Rattle.ent_semantics.specs.Term.{source_name}
 use Rattle.ent_semantics.specs.Uses.{select_tables, condition_tables, shared_tables, exclusive_tables}
 use Rattle.ent_form.specs.declared.catalogue.TableSchema.{TableSchema}

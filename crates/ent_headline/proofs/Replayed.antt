@@ -20,13 +20,13 @@ use Rattle.ent_semantics.specs.Joint.{IsGrounded}
 use Rattle.ent_semantics.specs.Serial.{Operation, Run, after, answered_first, is_entangled, run, seen, seen_after}
 use Rattle.ent_semantics.specs.Serial.{read_views}
 use Rattle.ent_semantics.specs.Statement.{statement_meaning}
-use Rattle.ent_closed.specs.Closing.{closed, closed_entangled}
-use Rattle.ent_closed.specs.Form.{Tables, form_meaning, is_form_grounding, known_worth}
-use Rattle.ent_closed.specs.declared.entangled.Entangled.{Entangled}
-use Rattle.ent_closed.specs.declared.operand.Known.{Known}
-use Rattle.ent_closed.specs.declared.statement.Statement.{Statement}
-use Rattle.ent_closed.specs.declared.statement.Statement.TheVariants as statements
-use Rattle.ent_closed.specs.Kinds.{Fits, tables_named}
+use Rattle.ent_semantics.specs.Closing.{closed, closed_entangled}
+use Rattle.ent_semantics.specs.Form.{Tables, form_meaning, is_form_grounding, known_worth}
+use Rattle.ent_semantics.specs.declared.entangled.Entangled.{Entangled}
+use Rattle.ent_semantics.specs.declared.operand.Known.{Known}
+use Rattle.ent_semantics.specs.declared.statement.Statement.{Statement}
+use Rattle.ent_semantics.specs.declared.statement.Statement.TheVariants as statements
+use Rattle.ent_semantics.specs.FormKinds.{Fits, tables_named}
 use Rattle.ent_form.specs.Catalogue.{schemas_of}
 use Rattle.ent_form.specs.Entangled.{entangled_in}
 use Rattle.ent_form.specs.Form.{statement_in, statements_from}

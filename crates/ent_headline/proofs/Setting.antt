@@ -2,10 +2,10 @@
 use Rattle.std.proofs.Common.{◌≡◌, inl, false, List, [], ◌∷◌, refl, subst, sym, Ok}
 use Rattle.std.specs.Prelude.{codes}
 use Rattle.ent_tree.specs.declared.operand.Expression.TheVariants.{Single}
-use Rattle.ent_closed.specs.declared.operand.Known.{Known}
-use Rattle.ent_closed.specs.declared.operand.Known.TheVariants as known
-use Rattle.ent_closed.specs.declared.statement.Statement.{Statement}
-use Rattle.ent_closed.specs.declared.statement.Statement.TheVariants as forms
+use Rattle.ent_semantics.specs.declared.operand.Known.{Known}
+use Rattle.ent_semantics.specs.declared.operand.Known.TheVariants as known
+use Rattle.ent_semantics.specs.declared.statement.Statement.{Statement}
+use Rattle.ent_semantics.specs.declared.statement.Statement.TheVariants as forms
 use Rattle.ent_form.specs.declared.fault.FormFault.{FormFault}
 use Rattle.ent_form.specs.Form.{statement_in}
 use Rattle.ent_form.specs.Ordinary.{set_in}

@@ -10,12 +10,12 @@ use Rattle.ent_value.specs.declared.value.Value.{Value}
 use Rattle.ent_lock.specs.Mode.{mode_rank}
 use Rattle.ent_tree.specs.declared.declaration.Create.{Create}
 use Rattle.ent_semantics.specs.Database.{Name, Environment, same_name, is_among}
-use Rattle.ent_closed.specs.Closing.{closed, membership_over}
-use Rattle.ent_closed.specs.Form.{known_worth}
-use Rattle.ent_closed.specs.declared.entangled.Membership.{Membership}
-use Rattle.ent_closed.specs.declared.operand.Known.{Known}
-use Rattle.ent_closed.specs.declared.statement.Statement.{Statement}
-use Rattle.ent_closed.specs.declared.statement.Statement.TheVariants as forms
+use Rattle.ent_semantics.specs.Closing.{closed, membership_over}
+use Rattle.ent_semantics.specs.Form.{known_worth}
+use Rattle.ent_semantics.specs.declared.entangled.Membership.{Membership}
+use Rattle.ent_semantics.specs.declared.operand.Known.{Known}
+use Rattle.ent_semantics.specs.declared.statement.Statement.{Statement}
+use Rattle.ent_semantics.specs.declared.statement.Statement.TheVariants as forms
 use Rattle.ent_semantics.specs.Names.{equal_names}
 use Rattle.ent_protocol.specs.State.{Use}
 use Rattle.ent_protocol.specs.Uses.{shared, exclusive, statement_uses}

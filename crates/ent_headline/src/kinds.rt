@@ -2,8 +2,8 @@
 //! contracts.
 ghost use Rattle.std.specs.Prelude.{◌≡◌, Contains, None, map};
 ghost use Rattle.ent_value.specs.declared.value.Value.{Value};
-ghost use Rattle.ent_closed.specs.declared.statement.Statement.{Statement};
-ghost use Rattle.ent_closed.specs.Kinds.{Fits, tables_named};
+ghost use Rattle.ent_semantics.specs.declared.statement.Statement.{Statement};
+ghost use Rattle.ent_semantics.specs.FormKinds.{Fits, tables_named};
 ghost use Rattle.ent_form.specs.Catalogue.{schemas_of};
 ghost use Rattle.ent_form.specs.OpeningFault.{opening_fault};
 ghost use Rattle.ent_form_laws.specs.Kinds.{kinds_numbered};
@@ -15,12 +15,12 @@ ghost use Rattle.ent_headline.specs.Kinds.{HasKindsThere, HoldsKinds};
 ghost use Rattle.ent_headline.specs.Resolved.{resolved_forms};
 
 use crate::run::resolved_runs_are_serial;
-use ent_closed::closing_keeps_the_meaning;
 use ent_form_laws::{
     declared_columns_are_distinct, effects_keep_kinds, groundings_are_of_their_kinds,
     kinded_tables_are_wide, opening_tables_are_kinded, resolved_grounds_the_same,
     resolved_means_the_same, resolved_statements_fit, variables_are_the_written_ones,
 };
+use ent_semantics::closing_keeps_the_meaning;
 
 /// In every state that is reached by scripts resolved over an opening without a fault, the settled tables have the
 /// kinds that are declared, and each host variable that is known to resolving at the place of a member that isn't

@@ -1,8 +1,8 @@
 //! Laws of what is lent. What holds is in the contracts.
 ghost use Rattle.std.specs.Prelude.{◌≡◌, ◌<◌, All, Contains, List, None, length};
 ghost use Rattle.ent_value.specs.declared.value.Value.{Value};
-ghost use Rattle.ent_closed.specs.Kinds.{changed_tables};
-ghost use Rattle.ent_closed.specs.declared.statement.Statement.{Statement};
+ghost use Rattle.ent_semantics.specs.FormKinds.{changed_tables};
+ghost use Rattle.ent_semantics.specs.declared.statement.Statement.{Statement};
 ghost use Rattle.ent_job.specs.Work.{IsJoint, IsOne};
 ghost use Rattle.ent_form.specs.OpeningFault.{opening_fault};
 ghost use Rattle.ent_coordination.specs.Pool.{Posted};

@@ -8,8 +8,8 @@ use Rattle.std.proofs.lemmas.List.{append-nil}
 use Rattle.std.proofs.lemmas.Map.Entries.{length-keys_of}
 use Rattle.std.proofs.lemmas.Cmp.{nat_list_cmp_total}
 use Rattle.std.proofs.lemmas.Map.Lookups.{exact_bytes}
-use Rattle.ent_set.specs.Sets as set
-use Rattle.ent_set.specs.Laws.{contains-ascending, contains-from_list}
+use Rattle.ent_lists.specs.Sets as set
+use Rattle.ent_lists.specs.Laws.{contains-ascending, contains-from_list}
 use Rattle.ent_value.specs.Value.{row_cmp}
 use Rattle.ent_value.specs.declared.value.Value.{Value}
 use Rattle.ent_tree.specs.declared.declaration.Column.{Column}

@@ -4,7 +4,7 @@ use Rattle.std.specs.Prelude.{codes}
 use Rattle.std.specs.List.{flat_map, range_with_len}
 use Rattle.std.specs.Fmt.{decimal}
 use Rattle.std.proofs.lemmas.List.Folds.{flat_map-map}
-use Rattle.ent_set.specs.Sets as set
+use Rattle.ent_lists.specs.Sets as set
 use Rattle.ent_tree.specs.declared.script.Script.{Script}
 use Rattle.ent_semantics.specs.declared.book.Book.{Book}
 use Rattle.ent_semantics.specs.declared.book.Entry.{Entry}

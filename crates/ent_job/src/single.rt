@@ -1,8 +1,8 @@
 //! Statements of transactions, to be carried out alone.
 ghost use Rattle.std.specs.Prelude.{◌≡◌};
 
-use ent_closed::Statement;
 use ent_group::Tx;
+use ent_semantics::Statement;
 use ent_tree::{Duplicate, Same};
 use ent_value::Value;
 use std::alloc::{AllocError, Global};

@@ -12,7 +12,7 @@ use Rattle.ent_value.specs.Kinds.{equal_kinds, kind_itself, same_kind}
 use Rattle.ent_tree.specs.declared.operand.Test.{Test}
 use Rattle.ent_rel.specs.Numbered.{Numbered}
 use Rattle.ent_semantics.specs.Entangled.{Valuation}
-use Rattle.ent_closed.specs.Form.{Tables}
+use Rattle.ent_semantics.specs.Form.{Tables}
 use Rattle.ent_coordination.specs.Choice.{AreGroundings, IsChoice, IsLeastChoice, choice_cmp}
 use Rattle.ent_coordination.specs.Pool.{Posted}
 use Rattle.ent_plan.specs.Plan.{IsGroundedSpread, IsPlan, Plan, slot_kind, spread}

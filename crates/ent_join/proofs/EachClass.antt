@@ -12,8 +12,8 @@ use Rattle.ent_value.specs.declared.value.Value.{Value}
 use Rattle.ent_value.specs.declared.value.Value.TheVariants.{Int, Text}
 use Rattle.ent_semantics.specs.declared.answer.Fact.{Fact}
 use Rattle.ent_semantics.specs.Term.{no_value}
-use Rattle.ent_closed.specs.Form.{atom_fact}
-use Rattle.ent_closed.specs.declared.entangled.Atom.{Atom}
+use Rattle.ent_semantics.specs.Form.{atom_fact}
+use Rattle.ent_semantics.specs.declared.entangled.Atom.{Atom}
 use Rattle.ent_coordination.specs.Choice.{all_posts}
 use Rattle.ent_coordination.specs.Pool.{Posted}
 use Rattle.ent_plan.specs.Plan.{AreNumbered, IsPlan, Plan, slot_kind, slot_value}

@@ -11,7 +11,7 @@ use Rattle.std.specs.declared.cmp.Ordering.TheVariants.{Less, Equal}
 use Rattle.std.proofs.lemmas.Bool.{eqb-true}
 use Rattle.std.proofs.lemmas.List.{length_push}
 use Rattle.ent_lists.specs.Elements.{or_second}
-use Rattle.ent_set.specs.Sets as set
+use Rattle.ent_lists.specs.Sets as set
 use Rattle.ent_value.specs.Value.{kind_of, kinds_of, value_cmp}
 use Rattle.ent_value.specs.Order.{exact_values}
 use Rattle.ent_value.specs.declared.value.Kind.{Kind}
@@ -21,8 +21,8 @@ use Rattle.ent_semantics.specs.Database.{Rows}
 use Rattle.ent_semantics.specs.Kinds.{RowsHaveKinds}
 use Rattle.ent_semantics.specs.Term.{no_value}
 use Rattle.ent_semantics.proofs.EachRow.{to_ascending}
-use Rattle.ent_closed.specs.declared.entangled.Term.{Term}
-use Rattle.ent_closed.specs.declared.entangled.Term.TheVariants as terms
+use Rattle.ent_semantics.specs.declared.entangled.Term.{Term}
+use Rattle.ent_semantics.specs.declared.entangled.Term.TheVariants as terms
 use Rattle.ent_plan.specs.Plan.{slot_kind}
 use Rattle.ent_plan.specs.declared.slot.Slot.{Slot}
 use Rattle.ent_plan.specs.declared.slot.Slot.TheVariants.{Fixed, Class}

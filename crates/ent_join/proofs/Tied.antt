@@ -8,8 +8,8 @@ use Rattle.std.proofs.lemmas.Bool.{eq-eqb, eqb-true}
 use Rattle.std.proofs.lemmas.List.Folds.{list_all-append}
 use Rattle.std.proofs.lemmas.Map.Views.{any-filter_same}
 use Rattle.std.proofs.lemmas.Option.{slice_get-get_or}
-use Rattle.ent_set.specs.Sets as set
-use Rattle.ent_set.specs.Laws.{contains-ascending}
+use Rattle.ent_lists.specs.Sets as set
+use Rattle.ent_lists.specs.Laws.{contains-ascending}
 use Rattle.ent_lists.specs.Elements.{all_first, all_second, and_both}
 use Rattle.ent_value.specs.Value.{kind_of, kinds_of, row_cmp}
 use Rattle.ent_value.specs.declared.value.Kind.TheVariants as kinds
@@ -18,11 +18,11 @@ use Rattle.ent_tree.specs.declared.operand.Test.{Test}
 use Rattle.ent_rel.specs.Numbered.{Numbered, relation_of}
 use Rattle.ent_semantics.specs.Selection.{holds, meets, selection}
 use Rattle.ent_semantics.specs.Term.{no_value}
-use Rattle.ent_closed.specs.Form.{Tables, form_rows, membership_holds, term_worth}
-use Rattle.ent_closed.specs.declared.entangled.Membership.{Membership}
-use Rattle.ent_closed.specs.declared.entangled.Term.{Term}
-use Rattle.ent_closed.specs.declared.entangled.Term.TheVariants as terms
-use Rattle.ent_closed.specs.declared.statement.Select.{Select}
+use Rattle.ent_semantics.specs.Form.{Tables, form_rows, membership_holds, term_worth}
+use Rattle.ent_semantics.specs.declared.entangled.Membership.{Membership}
+use Rattle.ent_semantics.specs.declared.entangled.Term.{Term}
+use Rattle.ent_semantics.specs.declared.entangled.Term.TheVariants as terms
+use Rattle.ent_semantics.specs.declared.statement.Select.{Select}
 use Rattle.ent_select.specs.Early.{may_compare}
 use Rattle.ent_coordination.specs.Choice.{AreGroundings}
 use Rattle.ent_coordination.specs.Pool.{Posted}

@@ -1,15 +1,15 @@
 -- What the statements of a plan ask of the values of its classes.
 use Rattle.std.specs.Prelude.{◌≡◌, ℕ, List, [], ◌∷◌, ◌++◌, map}
 use Rattle.std.specs.List.{cons_option, filter}
-use Rattle.ent_set.specs.Sets as set
+use Rattle.ent_lists.specs.Sets as set
 use Rattle.ent_value.specs.declared.value.Value.{Value}
 use Rattle.ent_tree.specs.declared.operand.Test.{Test}
 use Rattle.ent_rel.specs.Numbered.{Numbered, relation_of}
 use Rattle.ent_semantics.specs.Database.{Rows}
 use Rattle.ent_semantics.specs.Selection.{meets, selection}
-use Rattle.ent_closed.specs.declared.entangled.Membership.{Membership}
-use Rattle.ent_closed.specs.declared.entangled.Term.{Term}
-use Rattle.ent_closed.specs.declared.statement.Select.{Select}
+use Rattle.ent_semantics.specs.declared.entangled.Membership.{Membership}
+use Rattle.ent_semantics.specs.declared.entangled.Term.{Term}
+use Rattle.ent_semantics.specs.declared.statement.Select.{Select}
 use Rattle.ent_coordination.specs.Pool.{Posted}
 use Rattle.ent_plan.specs.declared.slot.Slot.{Slot}
 use Rattle.ent_select.specs.Tables.{rows_in}

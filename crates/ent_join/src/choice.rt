@@ -1,6 +1,6 @@
 //! The least coordinating choice.
 ghost use Rattle.std.specs.Prelude.{◌≡◌, ◌+◌, ◌<◌, ◌^◌, [], ◌∷◌, IfOk, List, OnErr, is_some, length, map};
-ghost use Rattle.ent_closed.specs.Form.{Tables};
+ghost use Rattle.ent_semantics.specs.Form.{Tables};
 ghost use Rattle.ent_coordination.specs.Choice.{IsLeastChoiceIfAny};
 ghost use Rattle.ent_coordination.specs.Pool.{Posted};
 ghost use Rattle.ent_plan.specs.Plan.{slot_value};

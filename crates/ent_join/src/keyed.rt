@@ -8,9 +8,9 @@ ghost use Rattle.ent_join.specs.Keyed.{key_under, keys_under, term_slot, value_u
 
 use crate::alone::{all_may_hold_in, tests_of};
 use crate::index::Index;
-use ent_closed::Term;
 use ent_plan::Slot;
 use ent_rel::ascending;
+use ent_semantics::Term;
 use ent_tree::Test;
 use ent_value::{Row, Sequence, Value};
 use std::alloc::{AllocError, Global};

@@ -1,7 +1,7 @@
 //! What each type holds at most, as numbers. A call does nothing but read, or check: what holds is in its contract.
 ghost use Rattle.std.specs.Prelude.{◌≡◌, ◌≤◌, ◌<◌, IfErr, List, OnOk, length};
 ghost use Rattle.ent_check_report.specs.declared.fault.CheckFault.TheVariants.{TooLong};
-ghost use Rattle.ent_set.specs.Sets as set;
+ghost use Rattle.ent_lists.specs.Sets as set;
 ghost use Rattle.ent_tree.specs.declared.operand.Operand.{Operand};
 ghost use Rattle.ent_tree.specs.declared.select.Items.TheVariants.{Listed};
 

@@ -1,2 +1,6 @@
-//! Laws of lists for proofs: their elements, and what holds of each two of them. No code uses this crate.
+//! Laws of lists for proofs, and finite sets for definitions. No code uses this crate; contracts and proofs do.
+//!
+//! `Elements` has the elements of lists, and what holds of each two of them. `Sets` has the words of sets, over keys in
+//! any order: a set is a value, two sets of the same members are equal, and `ascending` lists the members in their
+//! order. `Laws` has the laws of sets that proofs use, and says why these aren't the library's sets.
 #![tactic(auto)]

@@ -1,7 +1,7 @@
 //! Tables made of declarations and opening rows.
 ghost use Rattle.std.specs.Prelude.{◌≡◌, None, Some, IfOk, map, slice_get};
 ghost use Rattle.std.specs.Arc.{arc_value};
-ghost use Rattle.ent_set.specs.Sets as set;
+ghost use Rattle.ent_lists.specs.Sets as set;
 ghost use Rattle.ent_value.specs.Value.{row_cmp};
 ghost use Rattle.ent_semantics.specs.Database.{rows_named};
 ghost use Rattle.ent_form.specs.Catalogue.{schemas_of};

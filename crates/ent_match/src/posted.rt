@@ -2,8 +2,8 @@
 ghost use Rattle.std.specs.Prelude.{◌≡◌, IfOk};
 ghost use Rattle.std.specs.Arc.{arc_value};
 
-use ent_closed::Entangled;
 use ent_group::Tx;
+use ent_semantics::Entangled;
 use ent_tree::{Duplicate, Same};
 use ent_value::Value;
 use std::alloc::{AllocError, Global};

@@ -5,8 +5,8 @@ use Rattle.ent_semantics.specs.declared.answer.Answer.{Answer}
 use Rattle.ent_semantics.specs.declared.answer.Answer.TheVariants as answers
 use Rattle.ent_semantics.specs.Database.{Name}
 use Rattle.ent_semantics.specs.Entangled.{Valuation}
-use Rattle.ent_closed.specs.declared.entangled.Entangled.{Entangled}
-use Rattle.ent_closed.specs.Form.{form_bound, form_heads}
+use Rattle.ent_semantics.specs.declared.entangled.Entangled.{Entangled}
+use Rattle.ent_semantics.specs.Form.{form_bound, form_heads}
 
 -- what one member gets of a joint answer, and what that binds
 pub record MemberAnswer : Type 0 where

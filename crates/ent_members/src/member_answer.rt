@@ -1,11 +1,10 @@
 //! What one member gets of a joint answer.
 ghost use Rattle.std.specs.Prelude.{◌≡◌, IfOk};
-ghost use Rattle.ent_closed.specs.Form.{atom_fact, form_bound, form_heads, term_worth};
+ghost use Rattle.ent_semantics.specs.Form.{atom_fact, form_bound, form_heads, term_worth};
 ghost use Rattle.ent_members.specs.Answered.{member_answer};
 
-use ent_closed::{Atom, Entangled, Term};
 use ent_group::Tx;
-use ent_semantics::{Answer, Fact};
+use ent_semantics::{Answer, Atom, Entangled, Fact, Term};
 use ent_tree::Duplicate;
 use ent_value::{Name, Row, Sequence, Value};
 use std::alloc::{AllocError, Global};

@@ -1,15 +1,15 @@
 //! The uses that a statement asks for, in a fixed array.
 ghost use Rattle.std.specs.Prelude.{◌≡◌, ◌+◌, ◌≤◌, ◌<◌, List, [], ◌∷◌, ◌++◌, length, map, IfSome, option_to_list};
-ghost use Rattle.ent_closed.specs.declared.operand.Known.{Known};
-ghost use Rattle.ent_closed.specs.declared.statement.Statement.{Statement as Form};
-ghost use Rattle.ent_closed.specs.Closing.{closed};
-ghost use Rattle.ent_closed.specs.Kinds.{changed_tables};
+ghost use Rattle.ent_semantics.specs.declared.operand.Known.{Known};
+ghost use Rattle.ent_semantics.specs.declared.statement.Statement.{Statement as Form};
+ghost use Rattle.ent_semantics.specs.Closing.{closed};
+ghost use Rattle.ent_semantics.specs.FormKinds.{changed_tables};
 ghost use Rattle.ent_semantics.specs.Database.{Environment};
 ghost use Rattle.ent_protocol.specs.State.{Use as Seen};
 ghost use Rattle.ent_protocol.specs.Uses.{shared, exclusive, entangled_uses, statement_uses};
 
 use crate::table_use::Use;
-use ent_closed::{Entangled, Statement};
+use ent_semantics::{Entangled, Statement};
 use std::marker::Model;
 
 /// The most uses that a statement asks for: a sub-select has up to 4 sources, and an entangled statement 16 of them.

@@ -4,11 +4,11 @@ use Rattle.std.specs.Option.{option_copied}
 use Rattle.ent_value.specs.declared.value.Value.{Value}
 use Rattle.ent_semantics.specs.Database.{Environment, nothing_bound, with_values}
 use Rattle.ent_semantics.specs.Serial.{numbered}
-use Rattle.ent_closed.specs.Closing.{closed}
-use Rattle.ent_closed.specs.declared.entangled.Entangled.{Entangled}
-use Rattle.ent_closed.specs.declared.operand.Known.{Known}
-use Rattle.ent_closed.specs.declared.statement.Statement.{Statement}
-use Rattle.ent_closed.specs.declared.statement.Statement.TheVariants as statements
+use Rattle.ent_semantics.specs.Closing.{closed}
+use Rattle.ent_semantics.specs.declared.entangled.Entangled.{Entangled}
+use Rattle.ent_semantics.specs.declared.operand.Known.{Known}
+use Rattle.ent_semantics.specs.declared.statement.Statement.{Statement}
+use Rattle.ent_semantics.specs.declared.statement.Statement.TheVariants as statements
 use Rattle.ent_next.specs.Asked.{IsAskedAt}
 use Rattle.ent_protocol.specs.Member.{Asks, environment_of, next_in, statement_next}
 use Rattle.ent_protocol.specs.State.{Member, Submitted}

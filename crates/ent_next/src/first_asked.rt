@@ -4,9 +4,8 @@ ghost use Rattle.std.specs.Arc.{arc_value};
 ghost use Rattle.ent_next.specs.Asked.{IsAskedAt};
 
 use crate::next::{Next, statement_next};
-use ent_closed::{Entangled, Known, Statement};
 use ent_closing::{Environment, closed};
-use ent_semantics::element;
+use ent_semantics::{Entangled, Known, Statement, element};
 use ent_value::Value;
 use std::alloc::{AllocError, Global};
 use std::sync::Arc;

@@ -9,9 +9,8 @@ ghost use Rattle.ent_next.specs.Form.{next_form};
 
 use crate::numbered::script_of;
 use crate::submitted::SubmittedScript;
-use ent_closed::{Known, Statement};
 use ent_members::{Member, uses_are_kept_by_closing};
-use ent_semantics::element;
+use ent_semantics::{Known, Statement, element};
 
 /// The statement that a member is at, before it is closed; none where it is at the end of its script, or where no
 /// script has its number. Once closed it asks for the same uses; where there is none, nothing is asked for. It takes

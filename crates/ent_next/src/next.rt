@@ -1,17 +1,16 @@
 //! What a member does next.
 ghost use Rattle.std.specs.Prelude.{◌≡◌, Some, IfOk, IsOk};
 ghost use Rattle.ent_semantics.specs.Serial.{numbered};
-ghost use Rattle.ent_closed.specs.Closing.{closed};
+ghost use Rattle.ent_semantics.specs.Closing.{closed};
 ghost use Rattle.ent_closing.specs.Environment.{environment_of};
 ghost use Rattle.ent_protocol.specs.Member.{Commits, RollsBack, end_next, next_in, statement_next};
 ghost use Rattle.ent_next.specs.Next.{next_seen};
 
 use crate::numbered::script_of;
 use crate::submitted::SubmittedScript;
-use ent_closed::{Entangled, Known, Statement};
 use ent_closing::{Environment, closed};
 use ent_members::Member;
-use ent_semantics::element;
+use ent_semantics::{Entangled, Known, Statement, element};
 use ent_tree::End;
 use ent_value::Value;
 use std::alloc::{AllocError, Global};

@@ -5,8 +5,8 @@ ghost use Rattle.ent_tree.specs.declared.limits.TheConstants.{MOST_RUNS};
 ghost use Rattle.ent_next.specs.Asked.{IsAskedAt};
 
 use crate::first_asked::FirstAsked;
-use ent_closed::{Entangled, Known, Statement};
 use ent_closing::Environment;
+use ent_semantics::{Entangled, Known, Statement};
 use ent_tree::{End, MOST_STATEMENTS, Script};
 use ent_value::{Limited, Value};
 use std::alloc::{AllocError, AllocFailed, Global};

@@ -10,13 +10,13 @@ use Rattle.ent_tree.specs.declared.operand.Identifier.{Identifier}
 use Rattle.ent_tree.specs.declared.script.Script.{Script}
 use Rattle.ent_semantics.specs.Database.{Environment, Name, same_name, is_among}
 use Rattle.ent_semantics.specs.Names.{name_itself}
-use Rattle.ent_closed.specs.Closing.{atom_over, closed_entangled}
-use Rattle.ent_closed.specs.Form.{known_worth}
-use Rattle.ent_closed.specs.declared.entangled.Atom.{Atom}
-use Rattle.ent_closed.specs.declared.entangled.Entangled.{Entangled}
-use Rattle.ent_closed.specs.declared.entangled.Term.{Term}
-use Rattle.ent_closed.specs.declared.operand.Known.{Known}
-use Rattle.ent_closed.specs.declared.statement.Statement.TheVariants as statements
+use Rattle.ent_semantics.specs.Closing.{atom_over, closed_entangled}
+use Rattle.ent_semantics.specs.Form.{known_worth}
+use Rattle.ent_semantics.specs.declared.entangled.Atom.{Atom}
+use Rattle.ent_semantics.specs.declared.entangled.Entangled.{Entangled}
+use Rattle.ent_semantics.specs.declared.entangled.Term.{Term}
+use Rattle.ent_semantics.specs.declared.operand.Known.{Known}
+use Rattle.ent_semantics.specs.declared.statement.Statement.TheVariants as statements
 use Rattle.ent_form.specs.Entangled.{entangled_in, heads_from, memberships_from, offer_from, others_from, no_offer}
 use Rattle.ent_form.specs.Entangled.{variables_of}
 use Rattle.ent_form.specs.Form.{script_in}

@@ -7,7 +7,7 @@ use Rattle.std.proofs.lemmas.Bool.{eqb-true}
 use Rattle.std.proofs.lemmas.List.{length-map}
 use Rattle.std.proofs.lemmas.List.Folds.{list_any-append}
 use Rattle.ent_lists.specs.Elements.{or_first, or_second, number_itself}
-use Rattle.ent_set.specs.Laws.{any_map}
+use Rattle.ent_lists.specs.Laws.{any_map}
 use Rattle.ent_value.specs.declared.value.Kind.{Kind}
 use Rattle.ent_value.specs.declared.value.Kind.TheVariants.{Int}
 use Rattle.ent_value.specs.Kinds.{same_kind}
@@ -21,14 +21,14 @@ use Rattle.ent_tree.specs.declared.script.Script.{Script}
 use Rattle.ent_tree.specs.declared.select.Select.{Select as TreeSelect}
 use Rattle.ent_semantics.specs.Database.{Environment, Name, same_name, index_of}
 use Rattle.ent_semantics.specs.Names.{equal_names}
-use Rattle.ent_closed.specs.Closing.{closed_entangled, membership_over, term_over}
-use Rattle.ent_closed.specs.Form.{known_worth}
-use Rattle.ent_closed.specs.declared.entangled.Entangled.{Entangled}
-use Rattle.ent_closed.specs.declared.entangled.Membership.{Membership}
-use Rattle.ent_closed.specs.declared.entangled.Term.{Term}
-use Rattle.ent_closed.specs.declared.entangled.Term.TheVariants as resolved
-use Rattle.ent_closed.specs.declared.operand.Known.{Known}
-use Rattle.ent_closed.specs.declared.statement.Statement.TheVariants as statements
+use Rattle.ent_semantics.specs.Closing.{closed_entangled, membership_over, term_over}
+use Rattle.ent_semantics.specs.Form.{known_worth}
+use Rattle.ent_semantics.specs.declared.entangled.Entangled.{Entangled}
+use Rattle.ent_semantics.specs.declared.entangled.Membership.{Membership}
+use Rattle.ent_semantics.specs.declared.entangled.Term.{Term}
+use Rattle.ent_semantics.specs.declared.entangled.Term.TheVariants as resolved
+use Rattle.ent_semantics.specs.declared.operand.Known.{Known}
+use Rattle.ent_semantics.specs.declared.statement.Statement.TheVariants as statements
 use Rattle.ent_form.specs.Entangled.{variables_of, demanded_in, member_in, members_from, membership_in}
 use Rattle.ent_form.specs.Entangled.{memberships_from, no_offer, offer_from, heads_from, others_from, entangled_in}
 use Rattle.ent_form.specs.Form.{script_in}

@@ -2,10 +2,10 @@
 ghost use Rattle.std.specs.Prelude.{◌≡◌, ℕ, Contains, List, Ok};
 ghost use Rattle.ent_tree.specs.declared.script.Script.{Script};
 ghost use Rattle.ent_semantics.specs.Database.{Environment};
-ghost use Rattle.ent_closed.specs.Closing.{closed_entangled};
-ghost use Rattle.ent_closed.specs.declared.entangled.Entangled.{Entangled};
-ghost use Rattle.ent_closed.specs.declared.operand.Known.{Known};
-ghost use Rattle.ent_closed.specs.declared.statement.Statement.TheVariants as statements;
+ghost use Rattle.ent_semantics.specs.Closing.{closed_entangled};
+ghost use Rattle.ent_semantics.specs.declared.entangled.Entangled.{Entangled};
+ghost use Rattle.ent_semantics.specs.declared.operand.Known.{Known};
+ghost use Rattle.ent_semantics.specs.declared.statement.Statement.TheVariants as statements;
 ghost use Rattle.ent_form.specs.Form.{script_in};
 ghost use Rattle.ent_form.specs.declared.catalogue.TableSchema.{TableSchema};
 ghost use Rattle.ent_form.specs.declared.script.Plain.{Plain};

@@ -10,8 +10,8 @@ use Rattle.std.specs.declared.cmp.Ordering.TheVariants.{Less, Equal, Greater}
 use Rattle.std.proofs.lemmas.List.{append_assoc, length-append, take-append-drop, drop_all, drop_more}
 use Rattle.ent_page.proofs.Paging.{flat_at, flat_from}
 use Rattle.ent_lists.specs.Elements.{all_by, all_joined, from_here}
-use Rattle.ent_set.specs.Sets as set
-use Rattle.ent_set.specs.Laws.{same_set, contains-from_list, contains-insert_all, contains-without_all}
+use Rattle.ent_lists.specs.Sets as set
+use Rattle.ent_lists.specs.Laws.{same_set, contains-from_list, contains-insert_all, contains-without_all}
 use Rattle.ent_page.specs.Key.{key_cmp}
 use Rattle.ent_page.specs.Paged.{AllBelow, AllAbove}
 use Rattle.ent_page.specs.Front.{NoneBelow, IsSplitAt}

@@ -16,9 +16,9 @@ use Rattle.std.proofs.lemmas.List.{take_all, take-append-le}
 use Rattle.std.proofs.lemmas.List.Filters.{dedup_is}
 use Rattle.std.proofs.lemmas.List.Kept.{IsStrictlySortedBy-dedup}
 use Rattle.std.proofs.lemmas.Map.Keys.{IsDistinct-from_sorted}
-use Rattle.ent_set.specs.Sets as set
-use Rattle.ent_set.specs.Laws.{len-distinct, ascending-from_list, is_sorted_from, ascending-from_sorted}
-use Rattle.ent_set.specs.Laws.{from_list-ascending}
+use Rattle.ent_lists.specs.Sets as set
+use Rattle.ent_lists.specs.Laws.{len-distinct, ascending-from_list, is_sorted_from, ascending-from_sorted}
+use Rattle.ent_lists.specs.Laws.{from_list-ascending}
 use Rattle.ent_page.specs.Key.{key_cmp}
 use Rattle.ent_page.specs.Layout.{Ascends, AreBelow, AreAbove}
 use Rattle.ent_page.specs.Paged.{IsSized, AllBelow, AllAbove}

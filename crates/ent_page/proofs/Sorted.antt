@@ -11,8 +11,8 @@ use Rattle.std.specs.Cmp.{IsTotalOrder, Equal-is, eq_by_cmp_equiv}
 use Rattle.std.proofs.lemmas.Cmp.{nat_list_cmp_total}
 use Rattle.std.proofs.lemmas.Map.Lookups.{CmpEqualImpliesEq, exact_bytes}
 use Rattle.std.proofs.lemmas.Map.Keys.{Less-from_sorted}
-use Rattle.ent_set.specs.Sets as set
-use Rattle.ent_set.specs.Laws.{same_set, contains-from_list, contains-insert, contains-without_all}
+use Rattle.ent_lists.specs.Sets as set
+use Rattle.ent_lists.specs.Laws.{same_set, contains-from_list, contains-insert, contains-without_all}
 use Rattle.ent_lists.specs.Elements.{all_by, all_first, all_joined, all_second}
 use Rattle.ent_page.specs.Key.{key_cmp}
 use Rattle.ent_page.specs.Layout.{Ascends, AreBelow, AreAbove}

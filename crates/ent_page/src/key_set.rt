@@ -2,7 +2,7 @@
 ghost use Rattle.std.specs.List.{filter};
 ghost use Rattle.std.specs.List.Sorted.{IsStrictlySortedBy};
 ghost use Rattle.std.specs.Prelude.{◌≡◌, ◌+◌, ◌<◌, ◌≤◌, ◌^◌, ◌==◌, length, ◌∷◌, [], ◌↔◌, IsTrue, IfOk};
-ghost use Rattle.ent_set.specs.Sets as set;
+ghost use Rattle.ent_lists.specs.Sets as set;
 ghost use Rattle.ent_page.specs.Key.{key_cmp};
 ghost use Rattle.ent_page.specs.Front.{begins_with};
 
@@ -40,7 +40,7 @@ impl Model for KeySet {
     ghost use Rattle.std.specs.List.{flat_map};
     ghost use Rattle.std.specs.Arc.{arc_value};
     ghost use Rattle.std.specs.Coded.{coded_list, coded_ℕ};
-    ghost use Rattle.ent_set.specs.Sets as set;
+    ghost use Rattle.ent_lists.specs.Sets as set;
     ghost use Rattle.ent_page.specs.Key.{key_cmp};
     ghost use Rattle.ent_page.specs.Paged.{IsPaged};
 

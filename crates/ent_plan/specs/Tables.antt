@@ -2,9 +2,9 @@
 use Rattle.std.specs.Prelude.{ℕ, List}
 use Rattle.std.specs.List.{flat_map}
 use Rattle.std.specs.Ordering.{nat_cmp}
-use Rattle.ent_set.specs.Sets as set
+use Rattle.ent_lists.specs.Sets as set
 use Rattle.ent_value.specs.declared.value.Value.{Value}
-use Rattle.ent_closed.specs.declared.entangled.Entangled.{Entangled}
+use Rattle.ent_semantics.specs.declared.entangled.Entangled.{Entangled}
 use Rattle.ent_coordination.specs.Pool.{Posted}
 
 abbrev pub sources_of : Entangled Value → List ℕ

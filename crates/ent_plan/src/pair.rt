@@ -3,8 +3,8 @@ ghost use Rattle.std.specs.Prelude.{◌≡◌, ◌++◌, IfOk, OnOk, MatchOption
 ghost use Rattle.ent_plan.specs.Pairs.{ArePairs, HasLonePost, PutsPairs, placed_at, placed_heads, placed_posts};
 ghost use Rattle.ent_plan.specs.Pairs.{seen, seen_pair};
 
-use ent_closed::Atom;
 use ent_match::Posted;
+use ent_semantics::Atom;
 use ent_unify::{MemberAtom, unifies};
 use ent_value::{Kind, Value};
 use std::alloc::{AllocError, Global};

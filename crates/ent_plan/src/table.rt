@@ -2,8 +2,8 @@
 ghost use Rattle.std.specs.Prelude.{◌≡◌, ◌++◌, IfOk, OnOk};
 ghost use Rattle.ent_plan.specs.Tables.{sources_of, source_tables};
 
-use ent_closed::Entangled;
 use ent_match::Posted;
+use ent_semantics::Entangled;
 use ent_value::Value;
 use std::alloc::{AllocError, Global};
 

@@ -2,8 +2,8 @@
 use Rattle.std.proofs.Common.{◌≡◌, ℕ, ◌+◌, Bool, true, false, cond, List, [], ◌∷◌, map, refl, sym, ap, subst, ◌∙◌, Ok}
 use Rattle.std.proofs.Common.{Err}
 use Rattle.std.specs.Prelude.{nat_le, slice_index_or, slice_set}
-use Rattle.ent_set.specs.Laws.{contains-empty, len-empty, len-insert, without-nothing}
-use Rattle.ent_set.specs.Sets as set
+use Rattle.ent_lists.specs.Laws.{contains-empty, len-empty, len-insert, without-nothing}
+use Rattle.ent_lists.specs.Sets as set
 use Rattle.ent_value.specs.Order.{rows_total, exact_rows}
 use Rattle.ent_value.specs.Value.{row_cmp}
 use Rattle.ent_value.specs.declared.limits.TheConstants.{MOST_ROWS}
@@ -11,8 +11,8 @@ use Rattle.ent_value.specs.declared.value.Value.{Value}
 use Rattle.ent_semantics.specs.declared.answer.Answer.TheVariants as answers
 use Rattle.ent_semantics.specs.declared.answer.Failure.TheVariants.{TableFull}
 use Rattle.ent_semantics.specs.Database.{Rows, nothing_bound}
-use Rattle.ent_closed.specs.declared.statement.Statement.TheVariants as forms
-use Rattle.ent_closed.specs.Form.{Tables, closed_worth, form_meaning}
+use Rattle.ent_semantics.specs.declared.statement.Statement.TheVariants as forms
+use Rattle.ent_semantics.specs.Form.{Tables, closed_worth, form_meaning}
 use Rattle.ent_protocol.specs.Job.{IsEffect, Changed, applied}
 
 -- a row that comes into none is the only one

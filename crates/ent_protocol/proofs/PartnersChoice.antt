@@ -6,8 +6,8 @@ use Rattle.std.specs.Cmp.{Equal-is}
 use Rattle.std.specs.List.{filter, flat_map, list_any}
 use Rattle.std.specs.Ordering.{eq_by_cmp}
 use Rattle.std.specs.declared.cmp.Ordering.TheVariants.{Less, Equal, Greater}
-use Rattle.ent_set.specs.Laws.{ascending-from_list, contains-from_list}
-use Rattle.ent_set.specs.Sets as set
+use Rattle.ent_lists.specs.Laws.{ascending-from_list, contains-from_list}
+use Rattle.ent_lists.specs.Sets as set
 use Rattle.ent_value.specs.Order.{rows_total, exact_rows}
 use Rattle.ent_value.specs.Value.{row_cmp}
 use Rattle.ent_value.specs.declared.value.Value.{Value}
@@ -17,9 +17,9 @@ use Rattle.ent_semantics.specs.declared.answer.Fact.{Fact}
 use Rattle.ent_semantics.specs.Database.{opening_database}
 use Rattle.ent_semantics.specs.Entangled.{Valuation}
 use Rattle.ent_semantics.specs.Selection.{meets}
-use Rattle.ent_closed.specs.declared.operand.Operand.TheVariants as operands
-use Rattle.ent_closed.specs.declared.statement.Select.{Select}
-use Rattle.ent_closed.specs.Form.{Tables, form_rows, is_form_grounding, operand_worth}
+use Rattle.ent_semantics.specs.declared.operand.Operand.TheVariants as operands
+use Rattle.ent_semantics.specs.declared.statement.Select.{Select}
+use Rattle.ent_semantics.specs.Form.{Tables, form_rows, is_form_grounding, operand_worth}
 use Rattle.ent_coordination.specs.Choice.{IsChoice, IsLeastChoice, all_heads, all_posts, choice_cmp}
 use Rattle.ent_protocol.specs.Job.{tables_of}
 use Rattle.ent_protocol.specs.Partners.{partners_opening, Mickey, Minnie, LA, flight_122, pair, pair_job, query}

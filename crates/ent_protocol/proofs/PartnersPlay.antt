@@ -3,18 +3,18 @@ use Rattle.std.proofs.Common.{◌≡◌, inl, ℕ, ◌+◌, false, cond, ◌||�
 use Rattle.std.proofs.Common.{refl, sym, ap, subst, ◌∙◌, arith}
 use Rattle.std.specs.Prelude.{codes, nat_le}
 use Rattle.std.specs.Ordering.{eq_by_cmp}
-use Rattle.ent_set.specs.Laws.{contains-empty, contains-insert, len-insert}
-use Rattle.ent_set.specs.Sets as set
+use Rattle.ent_lists.specs.Laws.{contains-empty, contains-insert, len-insert}
+use Rattle.ent_lists.specs.Sets as set
 use Rattle.ent_value.specs.Order.{rows_total, exact_rows}
 use Rattle.ent_value.specs.Value.{row_cmp}
 use Rattle.ent_value.specs.declared.limits.TheConstants.{MOST_ROWS}
 use Rattle.ent_value.specs.declared.value.Value.{Value}
 use Rattle.ent_semantics.specs.declared.answer.Answer.TheVariants as answers
 use Rattle.ent_semantics.specs.Database.{Rows, nothing_bound}
-use Rattle.ent_closed.specs.Closing.{closed_entangled}
-use Rattle.ent_closed.specs.declared.entangled.Entangled.{Entangled}
-use Rattle.ent_closed.specs.declared.statement.Statement.{Statement}
-use Rattle.ent_closed.specs.declared.statement.Statement.TheVariants as forms
+use Rattle.ent_semantics.specs.Closing.{closed_entangled}
+use Rattle.ent_semantics.specs.declared.entangled.Entangled.{Entangled}
+use Rattle.ent_semantics.specs.declared.statement.Statement.{Statement}
+use Rattle.ent_semantics.specs.declared.statement.Statement.TheVariants as forms
 use Rattle.ent_protocol.specs.Begin.{lending, holding, posting}
 use Rattle.ent_protocol.specs.Commit.{preparing, committing}
 use Rattle.ent_protocol.specs.Event as events

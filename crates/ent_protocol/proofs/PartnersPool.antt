@@ -4,9 +4,9 @@ use Rattle.std.proofs.Common.{rules, ap, arith, subst, Some, ◌∙◌}
 use Rattle.std.specs.Prelude.{AllPairs, Contains, slice_get}
 use Rattle.ent_value.specs.declared.value.Kind.TheVariants as kinds
 use Rattle.ent_value.specs.declared.value.Value.{Value}
-use Rattle.ent_closed.specs.declared.entangled.Atom.{Atom}
-use Rattle.ent_closed.specs.Closing.{atom_over}
-use Rattle.ent_closed.specs.Form.{known_worth}
+use Rattle.ent_semantics.specs.declared.entangled.Atom.{Atom}
+use Rattle.ent_semantics.specs.Closing.{atom_over}
+use Rattle.ent_semantics.specs.Form.{known_worth}
 use Rattle.ent_semantics.specs.Database.{nothing_bound}
 use Rattle.ent_coordination.specs.Component.{IsIn, IsInRemainder, IsSupported, AreLinked, IsComponent}
 use Rattle.ent_coordination.specs.Pool.{Posted, Unify, CanMeet, IsSafe}

@@ -1,14 +1,14 @@
 -- A result of one statement comes in.
 use Rattle.std.specs.Prelude.{◌≡◌, ◌⊎◌, ℕ, suc, false, List, [], ◌∷◌, ◌++◌, Some, slice_index_or, slice_set}
-use Rattle.ent_set.specs.Sets as set
+use Rattle.ent_lists.specs.Sets as set
 use Rattle.ent_value.specs.declared.value.Value.{Value}
 use Rattle.ent_semantics.specs.declared.answer.Answer.{Answer}
 use Rattle.ent_semantics.specs.declared.answer.Answer.TheVariants as answers
 use Rattle.ent_semantics.specs.Database.{Name}
-use Rattle.ent_closed.specs.Kinds.{changed_tables}
-use Rattle.ent_closed.specs.declared.statement.Statement.{Statement}
-use Rattle.ent_closed.specs.declared.statement.Statement.TheVariants as statements
-use Rattle.ent_closed.specs.Form.{Tables}
+use Rattle.ent_semantics.specs.FormKinds.{changed_tables}
+use Rattle.ent_semantics.specs.declared.statement.Statement.{Statement}
+use Rattle.ent_semantics.specs.declared.statement.Statement.TheVariants as statements
+use Rattle.ent_semantics.specs.Form.{Tables}
 use Rattle.ent_protocol.specs.Begin.{Refuses, with_member}
 use Rattle.ent_protocol.specs.Event.{Reply}
 use Rattle.ent_protocol.specs.Event as replies

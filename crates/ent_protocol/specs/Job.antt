@@ -1,6 +1,6 @@
 -- Jobs: work, with the tables that it uses as they stand.
 use Rattle.std.specs.Prelude.{◌≡◌, ℕ, zero, suc, map, List, [], ◌∷◌, Option, Result, Ok, Err, slice_index_or}
-use Rattle.ent_set.specs.Sets as set
+use Rattle.ent_lists.specs.Sets as set
 use Rattle.ent_value.specs.declared.value.Value.{Value}
 pub use Rattle.ent_rel.specs.Numbered.{Numbered}
 use Rattle.ent_semantics.specs.declared.answer.Answer.TheVariants as answers
@@ -8,10 +8,10 @@ use Rattle.ent_semantics.specs.declared.answer.Failure.{Failure}
 use Rattle.ent_semantics.specs.Database.{Rows, nothing_bound}
 use Rattle.ent_semantics.specs.Effect.{Effect}
 use Rattle.ent_semantics.specs.Entangled.{Valuation}
-use Rattle.ent_closed.specs.Kinds.{changed_tables}
-use Rattle.ent_closed.specs.declared.entangled.Entangled.{Entangled}
-use Rattle.ent_closed.specs.declared.statement.Statement.{Statement}
-use Rattle.ent_closed.specs.Form.{Tables, closed_worth, form_meaning}
+use Rattle.ent_semantics.specs.FormKinds.{changed_tables}
+use Rattle.ent_semantics.specs.declared.entangled.Entangled.{Entangled}
+use Rattle.ent_semantics.specs.declared.statement.Statement.{Statement}
+use Rattle.ent_semantics.specs.Form.{Tables, closed_worth, form_meaning}
 use Rattle.ent_coordination.specs.Choice.{IsLeastChoiceIfAny}
 use Rattle.ent_coordination.specs.Pool.{Posted}
 

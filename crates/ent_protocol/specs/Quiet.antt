@@ -2,7 +2,7 @@
 use Rattle.std.specs.Prelude.{◌≡◌, ◌⊎◌, ℕ, ◌||◌, true, false, List, Contains, Option, Some, None}
 use Rattle.ent_value.specs.declared.value.Value.{Value}
 use Rattle.ent_lock.specs.Use.{IsLeast}
-use Rattle.ent_closed.specs.declared.entangled.Entangled.{Entangled}
+use Rattle.ent_semantics.specs.declared.entangled.Entangled.{Entangled}
 use Rattle.ent_coordination.specs.Pool.{IsSafe, Posted, first_tx}
 use Rattle.ent_protocol.specs.Begin.{pool_with}
 use Rattle.ent_protocol.specs.Event.{Reason, JobOut, CanBegin, Untried, Cycle}

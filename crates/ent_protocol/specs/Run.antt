@@ -5,8 +5,8 @@ use Rattle.ent_tree.specs.declared.declaration.Opening.{Opening}
 use Rattle.ent_tree.specs.declared.limits.TheConstants.{MOST_SCRIPTS}
 use Rattle.ent_tree.specs.declared.script.Script.{Script}
 use Rattle.ent_group.specs.declared.members.TheConstants.{MOST_MEMBERS}
-use Rattle.ent_closed.specs.declared.operand.Known.{Known}
-use Rattle.ent_closed.specs.declared.statement.Statement.{Statement}
+use Rattle.ent_semantics.specs.declared.operand.Known.{Known}
+use Rattle.ent_semantics.specs.declared.statement.Statement.{Statement}
 use Rattle.ent_protocol.specs.Begin.{Refuses}
 use Rattle.ent_protocol.specs.Event.{Reply, Reason}
 use Rattle.ent_protocol.specs.Event as replies

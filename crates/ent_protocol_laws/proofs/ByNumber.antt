@@ -4,7 +4,7 @@ use Rattle.std.proofs.Common.{ap, length, arith, nat_eq}
 use Rattle.std.specs.List.{IsDistinct, flat_map}
 use Rattle.ent_value.specs.declared.value.Value.{Value}
 use Rattle.ent_group.specs.declared.members.TheConstants.{MOST_MEMBERS}
-use Rattle.ent_closed.specs.declared.statement.Statement.{Statement}
+use Rattle.ent_semantics.specs.declared.statement.Statement.{Statement}
 use Rattle.ent_coordination.specs.Pool.{Posted}
 use Rattle.ent_protocol.specs.Begin.{replaced}
 use Rattle.ent_protocol.specs.Finish.{finished}

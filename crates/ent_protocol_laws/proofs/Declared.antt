@@ -2,8 +2,8 @@
 use Rattle.std.proofs.Common.{◌≡◌, not, List, [], ◌∷◌, ◌++◌, refl, sym, subst}
 use Rattle.std.specs.List.{AllByRecursion}
 use Rattle.ent_tree.specs.declared.declaration.Create.{Create}
-use Rattle.ent_closed.specs.declared.statement.Statement.{Statement}
-use Rattle.ent_closed.specs.Form.{Tables}
+use Rattle.ent_semantics.specs.declared.statement.Statement.{Statement}
+use Rattle.ent_semantics.specs.Form.{Tables}
 use Rattle.ent_value.specs.declared.value.Value.{Value}
 use Rattle.ent_protocol.specs.Begin.{single_job}
 use Rattle.ent_protocol.specs.Finish.{IsTaken, finished}

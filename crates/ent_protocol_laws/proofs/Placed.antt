@@ -9,8 +9,8 @@ use Rattle.ent_tree.specs.declared.declaration.Opening.{Opening}
 use Rattle.ent_tree.specs.declared.script.Script.{Script}
 use Rattle.ent_group.specs.declared.members.TheConstants.{MOST_MEMBERS}
 use Rattle.ent_semantics.specs.Entangled.{Valuation}
-use Rattle.ent_closed.specs.declared.operand.Known.{Known}
-use Rattle.ent_closed.specs.declared.statement.Statement.{Statement}
+use Rattle.ent_semantics.specs.declared.operand.Known.{Known}
+use Rattle.ent_semantics.specs.declared.statement.Statement.{Statement}
 use Rattle.ent_coordination.specs.Pool.{Posted}
 use Rattle.ent_protocol.specs.Commit.{preparing, committing, commit_fates}
 use Rattle.ent_protocol.specs.Finish.{finished}

@@ -8,9 +8,9 @@ use Rattle.ent_tree.specs.declared.script.Script.{Script}
 use Rattle.ent_group.specs.declared.members.TheConstants.{MOST_MEMBERS}
 use Rattle.ent_semantics.specs.Entangled.{Valuation}
 use Rattle.ent_semantics.specs.Serial.{numbered}
-use Rattle.ent_closed.specs.declared.entangled.Entangled.{Entangled}
-use Rattle.ent_closed.specs.declared.operand.Known.{Known}
-use Rattle.ent_closed.specs.declared.statement.Statement.{Statement}
+use Rattle.ent_semantics.specs.declared.entangled.Entangled.{Entangled}
+use Rattle.ent_semantics.specs.declared.operand.Known.{Known}
+use Rattle.ent_semantics.specs.declared.statement.Statement.{Statement}
 use Rattle.ent_coordination.specs.Pool.{CanMeet, IsSafe, Posted}
 use Rattle.ent_protocol.specs.Begin.{holding, pool_with, posting, replaced}
 use Rattle.ent_protocol.specs.Finish.{finished}

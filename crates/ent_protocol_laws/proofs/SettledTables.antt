@@ -6,7 +6,7 @@ use Rattle.std.proofs.lemmas.Grind.{reverse_onto}
 use Rattle.std.specs.List.{enumerate_from, filter}
 use Rattle.ent_semantics.specs.Database.{Rows}
 use Rattle.ent_semantics.specs.declared.book.Fated.{Fated}
-use Rattle.ent_closed.specs.Form.{Tables}
+use Rattle.ent_semantics.specs.Form.{Tables}
 use Rattle.ent_protocol.specs.Reached.{settled}
 use Rattle.ent_protocol.specs.Rollback.{put_back}
 use Rattle.ent_protocol.specs.State.{State, Change, Dormant, Member, members}

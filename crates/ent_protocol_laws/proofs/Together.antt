@@ -4,7 +4,7 @@ use Rattle.std.proofs.Common.{◌++◌, map, length, refl, sym, ap, subst, ◌�
 use Rattle.std.specs.List.{filter, list_any}
 use Rattle.ent_semantics.specs.declared.book.JointAnswer.{JointAnswer}
 use Rattle.ent_semantics.specs.Entangled.{Valuation}
-use Rattle.ent_closed.specs.Form.{Tables}
+use Rattle.ent_semantics.specs.Form.{Tables}
 use Rattle.ent_coordination.specs.Choice.{AreGroundings}
 use Rattle.ent_coordination.specs.Pool.{Posted}
 use Rattle.ent_protocol.specs.Job.{Job}

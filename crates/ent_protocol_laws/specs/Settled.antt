@@ -4,7 +4,7 @@ use Rattle.std.specs.Prelude.{ℕ, Bool, not, ◌==◌, ◌&&◌, List, [], ◌�
 use Rattle.std.specs.List.{enumerate_from, filter, list_any}
 use Rattle.ent_semantics.specs.Database.{Rows}
 use Rattle.ent_semantics.specs.declared.book.Fated.{Fated}
-use Rattle.ent_closed.specs.Form.{Tables}
+use Rattle.ent_semantics.specs.Form.{Tables}
 use Rattle.ent_protocol.specs.State.{State, Change}
 use Rattle.ent_protocol.specs.Tidy.{is_member}
 

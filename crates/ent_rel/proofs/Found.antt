@@ -7,8 +7,8 @@ use Rattle.std.specs.Ordering.{eq_by_cmp}
 use Rattle.std.proofs.lemmas.Map.Keys.{IsDistinct-from_sorted}
 use denote.Param.Members.{Shared}
 use denote.Ref.{Bor}
-use Rattle.ent_set.specs.Sets as set
-use Rattle.ent_set.specs.Laws.{from_list-ascending, len-distinct, from_list-filter, contains-retain}
+use Rattle.ent_lists.specs.Sets as set
+use Rattle.ent_lists.specs.Laws.{from_list-ascending, len-distinct, from_list-filter, contains-retain}
 use Rattle.ent_value.specs.declared.value.Value.{Value}
 use Rattle.ent_value.specs.Value.{row_cmp}
 use Rattle.ent_value.specs.Order.{rows_total, exact_rows}

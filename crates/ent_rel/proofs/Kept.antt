@@ -1,8 +1,8 @@
 -- Tables by what they keep.
 use Rattle.std.proofs.Common.{◌≡◌, ℕ, List, [], ◌∷◌, map, refl, sym, ap, ◌∙◌}
 use Rattle.std.specs.List.{AllByRecursion}
-use Rattle.ent_set.specs.Sets as set
-use Rattle.ent_set.specs.Laws.{from_list-ascending}
+use Rattle.ent_lists.specs.Sets as set
+use Rattle.ent_lists.specs.Laws.{from_list-ascending}
 use Rattle.ent_value.specs.declared.value.Kind.{Kind}
 use Rattle.ent_page.specs.Key.{key_of}
 use Rattle.ent_page.specs.Read.{row_from}

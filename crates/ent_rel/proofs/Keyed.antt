@@ -11,11 +11,11 @@ use Rattle.std.specs.FinMap as finite
 use Rattle.std.specs.FinMap.Entries.{below_all}
 use Rattle.std.proofs.lemmas.List.Elements.{All-from_recursion, recursion_from_All}
 use Rattle.std.proofs.lemmas.Map.Keys.{IsDistinct-from_sorted}
-use Rattle.ent_set.specs.Sets as set
-use Rattle.ent_set.specs.Laws.{same_set, contains-from_list, contains-insert, contains-without_all, contains-empty}
-use Rattle.ent_set.specs.Laws.{len-insert, contains-ascending, from_list-ascending, from_list-filter, any_map}
-use Rattle.ent_set.specs.Laws.{any_same_set, len-distinct, ascending-from_list, is_sorted_from, without-append}
-use Rattle.ent_set.specs.Laws.{without-nothing}
+use Rattle.ent_lists.specs.Sets as set
+use Rattle.ent_lists.specs.Laws.{same_set, contains-from_list, contains-insert, contains-without_all, contains-empty}
+use Rattle.ent_lists.specs.Laws.{len-insert, contains-ascending, from_list-ascending, from_list-filter, any_map}
+use Rattle.ent_lists.specs.Laws.{any_same_set, len-distinct, ascending-from_list, is_sorted_from, without-append}
+use Rattle.ent_lists.specs.Laws.{without-nothing}
 use Rattle.std.proofs.lemmas.List.{take_more, take_all, map-append}
 use Rattle.ent_lists.specs.Elements.{or_first, or_second}
 use Rattle.ent_value.specs.Value.{row_cmp, kind_of, kinds_of}

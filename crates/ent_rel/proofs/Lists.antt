@@ -10,8 +10,8 @@ use Rattle.std.proofs.lemmas.List.Elements.{filter_more, All-append, All-take, A
 use Rattle.std.proofs.lemmas.Map.Views.{Contains-from_any, list_any-from_Contains}
 use denote.Param.Members.{Shared}
 use denote.Ref.{Bor}
-use Rattle.ent_set.specs.Sets as set
-use Rattle.ent_set.specs.Laws.{same_set, contains-from_list, contains-insert_all}
+use Rattle.ent_lists.specs.Sets as set
+use Rattle.ent_lists.specs.Laws.{same_set, contains-from_list, contains-insert_all}
 use Rattle.ent_value.specs.declared.value.Value.{Value}
 use Rattle.ent_value.specs.declared.value.Kind.{Kind}
 use Rattle.ent_value.specs.Value.{row_cmp, kinds_of}

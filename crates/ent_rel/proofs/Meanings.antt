@@ -11,9 +11,9 @@ use Rattle.std.specs.List.Sorted.{IsPermutation, IsStrictlySortedBy}
 use Rattle.std.proofs.lemmas.List.Sorted.{list_any-IsPermutation}
 use Rattle.std.proofs.lemmas.List.Kept.{IsStrictlySortedBy-filter}
 use Rattle.std.proofs.lemmas.Map.Keys.{IsDistinct-from_sorted}
-use Rattle.ent_set.specs.Sets as set
-use Rattle.ent_set.specs.Laws.{ascending-from_list, is_sorted_from, len-insert, without-list, insert_there}
-use Rattle.ent_set.specs.Laws.{without-nothing, without-filter, len-distinct, from_list-filter, IsDistinct-filter}
+use Rattle.ent_lists.specs.Sets as set
+use Rattle.ent_lists.specs.Laws.{ascending-from_list, is_sorted_from, len-insert, without-list, insert_there}
+use Rattle.ent_lists.specs.Laws.{without-nothing, without-filter, len-distinct, from_list-filter, IsDistinct-filter}
 use Rattle.ent_value.specs.Refusal.{◌>>=◌, Gives, Refuses}
 use Rattle.ent_value.specs.declared.refusal.Refusal.{Refusal}
 use Rattle.ent_value.specs.declared.refusal.Refusal.TheVariants.{Memory, Fault}

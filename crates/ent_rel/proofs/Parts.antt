@@ -6,8 +6,8 @@ use Rattle.std.specs.List.{filter, list_any, IsDistinct, AllByRecursion}
 use Rattle.std.specs.Ordering.{eq_by_cmp}
 use Rattle.std.proofs.lemmas.List.Elements.{All-cons, All-head, All-tail, All-nil}
 use Rattle.std.proofs.lemmas.Map.Keys.{IsDistinct-head, IsDistinct-tail}
-use Rattle.ent_set.specs.Sets as set
-use Rattle.ent_set.specs.Laws.{len-distinct, len-insert, IsDistinct-filter, without-list}
+use Rattle.ent_lists.specs.Sets as set
+use Rattle.ent_lists.specs.Laws.{len-distinct, len-insert, IsDistinct-filter, without-list}
 use Rattle.ent_lists.specs.Elements.{neither}
 use Rattle.ent_value.specs.declared.value.Value.{Value}
 use Rattle.ent_value.specs.Value.{row_cmp}

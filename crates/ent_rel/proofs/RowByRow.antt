@@ -5,9 +5,9 @@ use Rattle.std.specs.List.{list_any}
 use Rattle.std.specs.Ordering.{eq_by_cmp}
 use Rattle.std.proofs.lemmas.Bool.{or_cases}
 use Rattle.std.proofs.lemmas.Map.Views.{list_any-from_Contains, Contains-from_any}
-use Rattle.ent_set.specs.Sets as set
-use Rattle.ent_set.specs.Laws.{contains-insert, contains-retain, contains-insert_all, contains-ascending}
-use Rattle.ent_set.specs.Laws.{contains-without_all, one_passing, passes_where}
+use Rattle.ent_lists.specs.Sets as set
+use Rattle.ent_lists.specs.Laws.{contains-insert, contains-retain, contains-insert_all, contains-ascending}
+use Rattle.ent_lists.specs.Laws.{contains-without_all, one_passing, passes_where}
 use Rattle.ent_lists.specs.Elements.{and_both, or_second, turned}
 use Rattle.ent_value.specs.declared.value.Value.{Value}
 use Rattle.ent_value.specs.Value.{row_cmp}

@@ -1,6 +1,6 @@
 -- Which rows stand after a change, row by row.
 use Rattle.std.specs.Prelude.{◌≡◌, ℕ, Bool, List, Result, Ok, IsTrue, IsFalse, Contains, ◌↔◌, ◌⊎◌}
-use Rattle.ent_set.specs.Sets as set
+use Rattle.ent_lists.specs.Sets as set
 use Rattle.ent_value.specs.declared.value.Value.{Value}
 use Rattle.ent_rel.specs.Relation.{RowSet}
 use Rattle.ent_rel.specs.Change.{changed_rows, insertion, deletion, replacement}

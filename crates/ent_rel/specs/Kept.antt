@@ -1,6 +1,6 @@
 -- What a table keeps true of its set of keys.
 use Rattle.std.specs.Prelude.{◌≡◌, ℕ, List, map, ◌≤◌, IsTrue}
-use Rattle.ent_set.specs.Sets as set
+use Rattle.ent_lists.specs.Sets as set
 use Rattle.ent_value.specs.declared.value.Value.{Value}
 use Rattle.ent_value.specs.declared.value.Kind.{Kind}
 use Rattle.ent_page.specs.Key.{key_cmp}

@@ -2,7 +2,7 @@
 use Rattle.std.specs.Prelude.{◌≡◌, ℤ, ℕ, List, ◌⊎◌, refl, Result, Ok, Err, nat_le, if◌then◌else◌, IsTrue}
 use Rattle.std.specs.Coded.{Coded, code_by, coded⊎, coded×, coded_ℤ, coded_ℕ, coded_list, coded_bool}
 use Rattle.std.proofs.Common.{inl, inr, Bool, true, false}
-use Rattle.ent_set.specs.Sets as set
+use Rattle.ent_lists.specs.Sets as set
 use Rattle.ent_value.specs.Value.{row_cmp, kinds_of}
 use Rattle.ent_value.specs.declared.value.Value.{Value}
 use Rattle.ent_value.specs.declared.value.Value.TheVariants.{Int, Text}

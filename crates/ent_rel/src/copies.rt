@@ -1,6 +1,6 @@
 //! Copies and images of the rows of a list.
 ghost use Rattle.std.specs.Prelude.{◌≡◌, Bool, List, Result, IfOk, filter, All, length};
-ghost use Rattle.ent_set.specs.Sets as set;
+ghost use Rattle.ent_lists.specs.Sets as set;
 ghost use Rattle.ent_value.specs.Value.{row_cmp, kinds_of};
 ghost use Rattle.ent_value.specs.declared.value.Value.{Value as Cell};
 ghost use Rattle.ent_value.specs.declared.value.Kind.{Kind};

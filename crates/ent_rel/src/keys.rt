@@ -1,6 +1,6 @@
 //! The keys of a table's rows, and changes of them row by row.
 ghost use Rattle.std.specs.Prelude.{◌≡◌, ◌≤◌, IfOk, map, All};
-ghost use Rattle.ent_set.specs.Sets as set;
+ghost use Rattle.ent_lists.specs.Sets as set;
 ghost use Rattle.ent_value.specs.Refusal.{Gives};
 ghost use Rattle.ent_value.specs.Value.{row_cmp, kinds_of};
 ghost use Rattle.ent_page.specs.Key.{key_of, AreStorable};

@@ -1,6 +1,6 @@
 //! Rows of a walk that pass a test.
 ghost use Rattle.std.specs.Prelude.{◌≡◌, Bool, List, IfOk, filter};
-ghost use Rattle.ent_set.specs.Sets as set;
+ghost use Rattle.ent_lists.specs.Sets as set;
 ghost use Rattle.ent_value.specs.Value.{row_cmp};
 ghost use Rattle.ent_value.specs.declared.value.Value.{Value as Cell};
 ghost use Rattle.ent_rel.specs.Closure.{Computes};

@@ -1,6 +1,6 @@
 //! Sets of rows.
 ghost use Rattle.std.specs.Prelude.{◌≡◌, IfOk};
-ghost use Rattle.ent_set.specs.Sets as set;
+ghost use Rattle.ent_lists.specs.Sets as set;
 ghost use Rattle.ent_value.specs.Value.{row_cmp};
 
 use ent_value::Row;

@@ -5,8 +5,8 @@ use Rattle.std.specs.List.{AllByRecursion}
 use Rattle.std.proofs.lemmas.List.{length-map}
 use Rattle.std.proofs.lemmas.List.Concat.{length-flat_map}
 use Rattle.std.proofs.lemmas.List.Folds.{length-flat_map-take}
-use Rattle.ent_set.specs.Sets as set
-use Rattle.ent_set.specs.Laws.{ascending-from_list}
+use Rattle.ent_lists.specs.Sets as set
+use Rattle.ent_lists.specs.Laws.{ascending-from_list}
 use Rattle.ent_value.specs.Order.{exact_rows, rows_total}
 use Rattle.ent_value.specs.Value.{kind_of, kinds_of, row_cmp}
 use Rattle.ent_value.specs.declared.value.Value.{Value}

@@ -1,7 +1,7 @@
 -- Tables under the names that are declared, each once.
 use Rattle.std.proofs.Common.{◌≡◌, List, [], None}
 use Rattle.ent_tree.specs.declared.declaration.Create.{Create}
-use Rattle.ent_closed.specs.Form.{Tables}
+use Rattle.ent_semantics.specs.Form.{Tables}
 use Rattle.ent_form.specs.Catalogue.{schemas_of}
 use Rattle.ent_form.specs.OpeningFault.{declarations_fault}
 use Rattle.ent_form_laws.specs.Kinds.{AreKinded}

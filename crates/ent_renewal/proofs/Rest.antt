@@ -1,6 +1,6 @@
 -- Tables of states that can be closed.
 use Rattle.std.proofs.Common.{◌≡◌, None, ap, subst}
-use Rattle.ent_closed.specs.Form.{Tables}
+use Rattle.ent_semantics.specs.Form.{Tables}
 use Rattle.ent_semantics.specs.Database.{Database}
 use Rattle.ent_form.specs.OpeningFault.{opening_fault}
 use Rattle.ent_protocol.specs.Reached.{named_tables, settled, table_names}

@@ -1,7 +1,7 @@
 -- Openings, and states of their own, that go on where the tables of a database stand.
 use Rattle.std.specs.Prelude.{◌≡◌, ℕ, false, All, List, None, if◌then◌else◌}
 use Rattle.std.specs.List.{list_any, sum_by}
-use Rattle.ent_set.specs.Sets as set
+use Rattle.ent_lists.specs.Sets as set
 use Rattle.ent_tree.specs.declared.declaration.Create.{Create}
 use Rattle.ent_tree.specs.declared.declaration.Opening.{Opening}
 use Rattle.ent_semantics.specs.Database.{Database, Name, is_among, opening_database, same_name}

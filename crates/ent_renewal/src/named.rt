@@ -1,6 +1,6 @@
 //! Tables that are found by their names.
 ghost use Rattle.std.specs.Prelude.{◌≡◌, MatchOption};
-ghost use Rattle.ent_set.specs.Sets as set;
+ghost use Rattle.ent_lists.specs.Sets as set;
 ghost use Rattle.ent_semantics.specs.Database.{Database};
 ghost use Rattle.ent_book.specs.Tables.{tables_database};
 

@@ -1,6 +1,6 @@
 //! Tables under their names, and their rows as an opening has them.
 ghost use Rattle.std.specs.Prelude.{◌≡◌, ◌≤◌, ◌+◌, ◌++◌, OnOk, length};
-ghost use Rattle.ent_set.specs.Sets as set;
+ghost use Rattle.ent_lists.specs.Sets as set;
 ghost use Rattle.ent_semantics.specs.Kinds.{RowsHaveKinds};
 ghost use Rattle.ent_form.specs.Catalogue.{table_schema};
 ghost use Rattle.ent_form_laws.specs.Kinds.{column_kinds};

@@ -6,10 +6,10 @@ use Rattle.ent_value.specs.declared.value.Value.{Value}
 use Rattle.ent_tree.specs.declared.entangled.Entangled.{Entangled}
 use Rattle.ent_tree.specs.declared.script.Statement.{Statement}
 use Rattle.ent_tree.specs.declared.script.Statement.TheVariants as statements
-use Rattle.ent_closed.specs.declared.entangled.Entangled.{Entangled as ResolvedEntangled}
-use Rattle.ent_closed.specs.declared.operand.Known.{Known}
-use Rattle.ent_closed.specs.declared.statement.Statement.{Statement as Resolved}
-use Rattle.ent_closed.specs.declared.statement.Statement.TheVariants as resolved
+use Rattle.ent_semantics.specs.declared.entangled.Entangled.{Entangled as ResolvedEntangled}
+use Rattle.ent_semantics.specs.declared.operand.Known.{Known}
+use Rattle.ent_semantics.specs.declared.statement.Statement.{Statement as Resolved}
+use Rattle.ent_semantics.specs.declared.statement.Statement.TheVariants as resolved
 use Rattle.ent_semantics.specs.Database.{Name}
 use Rattle.ent_book.specs.Report.{line}
 use Rattle.ent_history.specs.declared.history.ToldMember.{ToldMember}

@@ -19,11 +19,12 @@ use crate::kinds::are_of_kinds;
 use crate::lists::take_last;
 use crate::reading::{any_member_line, known_member_line};
 use ent_book::written_variables;
-use ent_closed::{Entangled as ResolvedEntangled, Known, Statement as Resolved};
 use ent_form::resolve;
 use ent_history::{ToldJoint, ToldMember};
 use ent_line::LineFault;
-use ent_semantics::{Member, element};
+use ent_semantics::{
+    Entangled as ResolvedEntangled, Known, Member, Statement as Resolved, element,
+};
 use ent_tree::{Entangled, Statement};
 use ent_value::{Kind, Name, Refusal, Sequence, Value};
 use std::alloc::{AllocError, Global};

@@ -4,8 +4,8 @@ use Rattle.std.proofs.Common.{sym, ap, subst, ◌∙◌, arith, inl, inr, Some, 
 use Rattle.std.specs.List.{AllByRecursion}
 use Rattle.std.specs.List.Sorted.{IsStrictlySortedBy}
 use Rattle.std.specs.declared.cmp.Ordering.TheVariants.{Less}
-use Rattle.ent_set.specs.Laws.{ascending-from_list, is_sorted_from}
-use Rattle.ent_set.specs.Sets as set
+use Rattle.ent_lists.specs.Laws.{ascending-from_list, is_sorted_from}
+use Rattle.ent_lists.specs.Sets as set
 use Rattle.ent_value.specs.Order.{exact_rows, rows_total}
 use Rattle.ent_value.specs.Value.{row_cmp}
 use Rattle.ent_value.specs.declared.value.Value.{Value}

@@ -1,7 +1,7 @@
 -- What a report tells is formed.
 use Rattle.std.proofs.Common.{◌≡◌, ℕ, true, false, List, [], ◌∷◌, refl, sym, ap, subst, ◌∙◌, None}
 use Rattle.std.proofs.Common.{Result, Ok, Err, Contains, map}
-use Rattle.ent_set.specs.Sets as set
+use Rattle.ent_lists.specs.Sets as set
 use Rattle.ent_tree.specs.declared.declaration.Create.{Create}
 use Rattle.ent_tree.specs.declared.declaration.Opening.{Opening as Opened}
 use Rattle.ent_tree.specs.declared.script.Script.{Script as Scripted}

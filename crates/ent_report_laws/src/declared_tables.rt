@@ -7,7 +7,7 @@ ghost use Rattle.ent_form.specs.declared.script.Plain.{Plain};
 ghost use Rattle.ent_rules.specs.Formed.{is_declared};
 ghost use Rattle.ent_semantics.specs.Database.{Name, opening_database};
 ghost use Rattle.ent_semantics.specs.Uses.{changes};
-ghost use Rattle.ent_set.specs.Sets as set;
+ghost use Rattle.ent_lists.specs.Sets as set;
 ghost use Rattle.ent_tree.specs.declared.declaration.Create.{Create};
 ghost use Rattle.ent_tree.specs.declared.declaration.Opening.{Opening};
 ghost use Rattle.ent_tree.specs.declared.script.Script.{Script};

@@ -1,10 +1,16 @@
 -- Epochs that keep their number and their opening.
-use Rattle.std.proofs.Common.{◌≡◌, ◌∙◌, ℕ, zero, suc, Option, Some, None, IfSome, ap, ⊎_elim}
-use Rattle.ent_admission.specs.Admission.{Admission}
-use Rattle.ent_admission.specs.Moves.{Chain, Chooses, Enters, Goes, Moves, Runs, Settles}
-use Rattle.ent_epoch.specs.Epoch.{Epoch}
+use Rattle.std.proofs.Common.{◌≡◌, ◌∙◌, ℕ, zero, suc, Option, Some, None, IfSome, refl, sym, ap, subst, ⊎_elim}
+use Rattle.std.specs.BTreeSet.{BTreeSet, contains}
+use Rattle.std.specs.Ordering.{nat_cmp}
+use Rattle.ent_admission.specs.Admission.{Admission, IsAllTold, IsAtRest}
+use Rattle.ent_admission.specs.Moves.{Chain, Chooses, Enters, Goes, Moves, Runs, Settles, Tells}
+use Rattle.ent_admission.specs.Moves.{TellsCommits, TellsEndings}
+use Rattle.ent_epoch.specs.Epoch.{Epoch, begun}
+use Rattle.ent_protocol.specs.Reached.{CanClose}
 use Rattle.ent_semantics.specs.Database.{opening_database}
 use Rattle.ent_tree.specs.declared.declaration.Opening.{Opening}
+use Rattle.ent_waiting.specs.WaitingList.{WaitingList, is_stationed, waiter_of}
+use Rattle.ent_waiting.specs.declared.queues.Station.TheVariants.{Batch}
 use Rattle.ent_room.specs.Room.{Follows}
 use Rattle.ent_room.specs.declared.epoch_book.EpochBook.{EpochBook}
 
@@ -21,7 +27,13 @@ one_move old new move =
     (λ (enters : Enters old new). enters.takes.number)
     (λ over. ⊎_elim
     (λ (runs : Runs old new). ap number_of runs.epoch)
+    (λ last. ⊎_elim
     (λ (settles : Settles old new). ap number_of settles.epoch)
+    (λ (tells : Tells old new). ⊎_elim
+    (λ (commits : TellsCommits old new). ap number_of commits.publishes.all_told)
+    (λ (endings : TellsEndings old new). ap (λ (a : Admission). a.epoch.number) endings.is)
+    tells)
+    last)
     over)
     others)
     move
@@ -32,6 +44,23 @@ all_moves (suc count) old new chain = one_move chain.0 new chain.2 ∙ all_moves
 
 pub same_number : (old new : Admission) → Goes old new → new.epoch.number ≡ old.epoch.number
 same_number old new goes = all_moves goes.0 old new goes.1
+
+-- ---- an epoch that begins
+
+-- who was at rest is so before the next epoch, in which nothing is to be told yet
+pub rests_turned : (old new : Admission) (number : ℕ) (opening : Opening) → IsAtRest old
+    → new.epoch ≡ begun number opening → new.list ≡ old.list → new.coming ≡ old.coming → new.news ≡ old.news
+    → IsAtRest new
+rests_turned old new number opening rest epoch list coming news =
+    record {
+      over = record {
+        coming = λ t. ap (λ (s : BTreeSet ℕ). contains nat_cmp s t) coming ∙ rest.over.coming t;
+        closes = subst (λ (e : Epoch). CanClose e.core) (sym epoch) (refl, refl);
+        idle = λ t. ap (λ (l : WaitingList). is_stationed Batch (waiter_of l t)) list ∙ rest.over.idle t;
+      };
+      told = subst (λ (e : Epoch). IsAllTold (record new { epoch = e })) (sym epoch)
+          (record { commits = record { entries = refl; tables = refl }; endings = news ∙ rest.told.endings });
+    }
 
 -- ---- the book of the epoch before
 

@@ -1,5 +1,6 @@
 -- Rooms over the texts of inputs, and over rows that are given as values.
 use Rattle.std.specs.Prelude.{◌≡◌, ℕ, List, [], ◌∷◌, ◌++◌, None}
+use Rattle.ent_admission.specs.Admission.{no_groups}
 use Rattle.ent_engine.specs.Reading.{IsInput, IsRefused}
 use Rattle.ent_engine.specs.declared.fault.RunFault.{RunFault}
 use Rattle.ent_engine.specs.declared.fault.RunFault.TheVariants as faults
@@ -33,11 +34,13 @@ abbrev pub input_with : List GivenRow → Input → Input
 input_with rows input = record input { opening = with_rows rows input.opening }
 
 -- The epoch is over the opening of the input, and no script was submitted to it. The scripts of the input wait, in
--- order, and nobody else does.
-pub record IsRoomOf (input : Input) (number next : ℕ) (limits : Limits) (room : Room) : Type 0 where
+-- order, and nobody else does. There is no group yet, and nobody is to be told.
+pub record IsRoomOf (input : Input) (number next next_group : ℕ) (limits : Limits) (room : Room) : Type 0 where
   pub epoch : room.admission.epoch ≡ begun number input.opening
   pub list : room.admission.list ≡ all_put input.scripts (empty_list next limits)
   pub coming : room.admission.coming ≡ record { keys = [] }
+  pub feed : room.admission.feed ≡ no_groups next_group
+  pub news : room.admission.news ≡ []
   pub last : room.last ≡ None
 
 -- before one of the scripts comes in, as many wait as there may be, or no ticket is left
@@ -49,10 +52,10 @@ pub record AreTooMany (scripts : List Script) (list : WaitingList) : Type 0 wher
   pub full : IsFull (all_put taken list)
 
 -- the bytes are this input, and the room is that of the input with these rows behind its own
-abbrev pub Opens : List ℕ → List GivenRow → ℕ → ℕ → Limits → Room → Type 0
-Opens bytes rows number next limits room =
+abbrev pub Opens : List ℕ → List GivenRow → ℕ → ℕ → ℕ → Limits → Room → Type 0
+Opens bytes rows number next next_group limits room =
     (input : Input) × IsInput bytes input × CanStand input.opening rows
-    × IsRoomOf (input_with rows input) number next limits room
+    × IsRoomOf (input_with rows input) number next next_group limits room
 
 -- an opening has too many rows with these, else the first of them that has a fault has this one; or memory ran out
 abbrev pub RefusesRows : Opening → List GivenRow → Refusal NotOpened → Type 0

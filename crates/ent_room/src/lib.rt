@@ -2,13 +2,15 @@
 //!
 //! A [`Room`] takes scripts by their text, under tickets. [`Room::step`] makes at most two runs: the ordinary scripts
 //! that wait, and then meetings, which are scripts that need nobody else. Who isn't answered waits again, until it
-//! gives up or its client takes it back. What may become of a ticket, and what a step submits, are contracts of
-//! `ent_admission`; in which order those who wait are served is told in docs/ROOM.md, and promised by no clause.
+//! gives up or its client takes it back. [`Room::groups`] tells what committed, with all that it changed. What may become
+//! of a ticket, what a step submits, and what the groups tell, are contracts of `ent_admission`; in which order those who
+//! wait are served is told in docs/ROOM.md, and promised by no clause.
 #![tactic(auto)]
 
 mod batch;
 mod choosing;
 mod epoch_book;
+mod groups;
 mod law;
 mod prospects;
 mod putting;

@@ -84,6 +84,8 @@ impl Room {
         ensures list { OnOk result (self.new.admission.list ≡ with_put script stay self.old.admission.list) }
         ensures epoch { self.new.admission.epoch ≡ self.old.admission.epoch }
         ensures coming { self.new.admission.coming ≡ self.old.admission.coming }
+        ensures feed { self.new.admission.feed ≡ self.old.admission.feed }
+        ensures news { self.new.admission.news ≡ self.old.admission.news }
         ensures last { self.new.last ≡ self.old.last }
         ensures err { OnErr result (self.new ≡ self.old) }
         ensures full { IfErr result (λ refusal. (fault : FullSeen)
@@ -134,6 +136,8 @@ impl Room {
             (Puts self.old.admission text.now variables.now stay self.new.admission.list) }
         ensures epoch { self.new.admission.epoch ≡ self.old.admission.epoch }
         ensures coming { self.new.admission.coming ≡ self.old.admission.coming }
+        ensures feed { self.new.admission.feed ≡ self.old.admission.feed }
+        ensures news { self.new.admission.news ≡ self.old.admission.news }
         ensures last { self.new.last ≡ self.old.last }
         ensures err { OnErr result (self.new ≡ self.old) }
         ensures faulty { IfErr result (λ refusal. (fault : PrepareFaultSeen)
@@ -169,6 +173,8 @@ impl Room {
             (Restores self.old.admission ticket text.now variables.now stay batches self.new.admission.list) }
         ensures epoch { self.new.admission.epoch ≡ self.old.admission.epoch }
         ensures coming { self.new.admission.coming ≡ self.old.admission.coming }
+        ensures feed { self.new.admission.feed ≡ self.old.admission.feed }
+        ensures news { self.new.admission.news ≡ self.old.admission.news }
         ensures last { self.new.last ≡ self.old.last }
         ensures err { OnErr result (self.new ≡ self.old) }
         ensures faulty { IfErr result (λ refusal. (fault : PrepareFaultSeen)
@@ -213,6 +219,8 @@ impl Room {
         ensures idle { OnOk result (IsIdle self.old.admission.list ticket) }
         ensures epoch { self.new.admission.epoch ≡ self.old.admission.epoch }
         ensures coming { self.new.admission.coming ≡ self.old.admission.coming }
+        ensures feed { self.new.admission.feed ≡ self.old.admission.feed }
+        ensures news { self.new.admission.news ≡ self.old.admission.news }
         ensures last { self.new.last ≡ self.old.last }
         ensures err { OnErr result (self.new ≡ self.old) }
         ensures absent { IfErr result (λ refusal. refusal ≡ Fault Absent

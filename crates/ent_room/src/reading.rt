@@ -1,6 +1,7 @@
 //! A room over the text of an input, and over rows that are given as values.
 ghost use Rattle.std.specs.Prelude.{◌≡◌, [], IfErr, IfOk, None, OnOk};
 ghost use Rattle.std.specs.Result.{result_err};
+ghost use Rattle.ent_admission.specs.Admission.{no_groups};
 ghost use Rattle.ent_core.specs.Play.{input_fault, scripts_fault};
 ghost use Rattle.ent_engine.specs.Reading.{IsInput, IsRefused};
 ghost use Rattle.ent_epoch.specs.Epoch.{begun};
@@ -112,6 +113,8 @@ impl Room {
         ensures list { OnOk result (self.new.admission.list ≡ all_put scripts self.old.admission.list) }
         ensures epoch { self.new.admission.epoch ≡ self.old.admission.epoch }
         ensures coming { self.new.admission.coming ≡ self.old.admission.coming }
+        ensures feed { self.new.admission.feed ≡ self.old.admission.feed }
+        ensures news { self.new.admission.news ≡ self.old.admission.news }
         ensures last { self.new.last ≡ self.old.last }
         ensures full { IfErr result (λ refusal. (fault : FullSeen)
             → refusal ≡ Fault fault
@@ -130,6 +133,7 @@ impl Room {
         rows: &[GivenRow],
         number: u64,
         next: Ticket,
+        next_group: u64,
         limits: Limits,
     ) -> Result<Self, Refusal<NotOpened>>
         requires formed { opening_fault opening ≡ None }
@@ -137,6 +141,8 @@ impl Room {
         ensures epoch { IfOk result (λ room. room.admission.epoch ≡ begun number (with_rows rows.now opening)) }
         ensures list { IfOk result (λ room. room.admission.list ≡ empty_list next limits) }
         ensures coming { IfOk result (λ room. room.admission.coming ≡ record { keys = [] }) }
+        ensures feed { IfOk result (λ room. room.admission.feed ≡ no_groups next_group) }
+        ensures news { IfOk result (λ room. room.admission.news ≡ []) }
         ensures last { IfOk result (λ room. room.last ≡ None) }
         ensures refused { IfErr result (λ refusal. RefusesRows opening rows.now refusal) }
     {
@@ -147,7 +153,7 @@ impl Room {
         given_rows_come_last();
         first_fault_tells_its_row();
         let opening = with_rows(alloc, opening, rows)?;
-        match Room::open(alloc, opening, number, next, limits) {
+        match Room::open(alloc, opening, number, next, next_group, limits) {
             Ok(room) => Ok(room),
             Err(Refusal::Memory) => Err(Refusal::Memory),
             Err(Refusal::Fault(fault)) => Err(Refusal::Fault(NotOpened::NotARow(fault))),
@@ -156,24 +162,26 @@ impl Room {
 
     /// A room over the text of an input: its declarations, its opening rows and, behind them, the given ones; and its
     /// scripts. These wait in order, the first under the ticket `next`, each for as many batches as its WITHIN says.
-    /// The first epoch has this number. It tells the first fault of the text; else too many rows, or the first of the
-    /// given ones that doesn't fit; else that more scripts stand there than may wait.
+    /// The first epoch has this number, and the first group of the feed the number `next_group`. It tells the first fault
+    /// of the text; else too many rows, or the first of the given ones that doesn't fit; else that more scripts stand
+    /// there than may wait.
     pub fn read(
         alloc: Global,
         text: &[u8],
         rows: &[GivenRow],
         number: u64,
         next: Ticket,
+        next_group: u64,
         limits: Limits,
     ) -> Result<Self, Refusal<NotOpened>>
-        ensures opened { IfOk result (λ room. Opens text.now rows.now number next limits room) }
+        ensures opened { IfOk result (λ room. Opens text.now rows.now number next next_group limits room) }
         ensures refused { IfErr result (λ refusal. IsNotOpened text.now rows.now next limits refusal) }
     {
         let input = match input_of(alloc, text) {
             Ok(input) => input,
             Err(fault) => return Err(refusal_of(fault)),
         };
-        let mut room = Room::over(alloc, input.opening, rows, number, next, limits)?;
+        let mut room = Room::over(alloc, input.opening, rows, number, next, next_group, limits)?;
         match room.take_all(input.scripts) {
             Ok(()) => Ok(room),
             Err(Refusal::Memory) => Err(Refusal::Memory),

@@ -61,21 +61,23 @@ impl Model for Room {
 
 impl Room {
     /// A room over an opening, in which nobody waits; or the opening's first fault of form. Its first epoch has this
-    /// number. The first script that is put gets the ticket `next`; those below it are of an earlier process.
+    /// number. The first script that is put gets the ticket `next`, and the first group of the feed the number
+    /// `next_group`; those below them are of an earlier process.
     pub fn open(
         alloc: Global,
         opening: Opening,
         number: u64,
         next: Ticket,
+        next_group: u64,
         limits: Limits,
     ) -> Result<Self, Refusal<FormFault>>
         ensures { Gives (λ room. room) result (unless (opening_fault opening)
-            (without_book (fresh number opening next limits.most_waiters limits.most_ended))) }
+            (without_book (fresh number opening next next_group limits.most_waiters limits.most_ended))) }
     {
         let preparing = Preparing::of(alloc, &opening)?;
         Ok(Room {
             alloc,
-            admission: Admission::open(alloc, opening, number, next, limits)?,
+            admission: Admission::open(alloc, opening, number, next, next_group, limits)?,
             preparing,
             prospects: Prospects::new(alloc),
             batch: None,
@@ -119,6 +121,8 @@ impl Room {
             (carried_over drained.now self.old.admission.epoch.core) self.new.admission.epoch.core.opening) }
         ensures list { self.new.admission.list ≡ self.old.admission.list }
         ensures coming { self.new.admission.coming ≡ self.old.admission.coming }
+        ensures feed { self.new.admission.feed ≡ self.old.admission.feed }
+        ensures news { self.new.admission.news ≡ self.old.admission.news }
         ensures advances { AdmissionAdvances self.old.admission self.new.admission }
         ensures err { OnErr result (self.new ≡ self.old) }
         ensures busy { IfErr result (λ refusal. refusal ≡ Fault Busy → ¬ IsAtRest self.old.admission) }

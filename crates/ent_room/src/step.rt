@@ -10,6 +10,7 @@ use crate::law::acts_go_on;
 use crate::room::Room;
 use ent_admission::{Again, NotPlanned};
 use ent_epoch::NotTurned;
+use ent_feed::NoNumber;
 use ent_meetings::MOST_LOOKS;
 use ent_value::Refusal;
 use ent_waiting::{Rank, Station, Ticket};
@@ -32,7 +33,8 @@ pub enum NotStepped {
     /// E407: the epoch would have to end, and its tables have more rows together than an opening has. Draining tables
     /// is the cure.
     TooManyRows,
-    /// The epoch would have to end, and has the greatest number that there is.
+    /// The epoch would have to end, and has the greatest number that there is; or what came of the batch is to be told,
+    /// and needs more groups than there are numbers left.
     NoNumber,
 }
 
@@ -164,8 +166,8 @@ impl Room {
         Ok(())
     }
 
-    /// The batch that is on comes to its end.
-    fn end(&mut self) -> Result<(), AllocError>
+    /// The batch that is on comes to its end, and is told.
+    fn end(&mut self) -> Result<(), Refusal<NoNumber>>
         ensures advances { Advances self.old self.new }
         ensures at_rest { OnOk result (IsAtRest self.new.admission) }
     {
@@ -191,12 +193,14 @@ impl Room {
     }
 
     /// Goes on with the batch that is on, where one is, to its end.
-    fn finish(&mut self) -> Result<bool, AllocError>
+    fn finish(&mut self) -> Result<bool, Refusal<NotStepped>>
         ensures advances { Advances self.old self.new }
         ensures at_rest { OnOk result (IsAtRest self.new.admission) }
     {
         acts_go_on();
-        self.end()?;
+        if let Err(refusal) = self.end() {
+            return Err(not_told(refusal));
+        }
         let noted = self.note_last()?;
         Ok(noted)
     }
@@ -288,8 +292,9 @@ impl Room {
     }
 
     /// Makes at most two runs: first of the ordinary scripts that wait, then of meetings. Each script is submitted for
-    /// one run, and each run is made to its end; who has no fate of its own then waits again, or gives up. Where
-    /// memory runs out what was done stands, and the next step goes on there. After an idle step all who wait rest.
+    /// one run, and each run is made to its end; who has no fate of its own then waits again, or gives up. After each run
+    /// the feed tells what came of it. Where memory runs out, or no number is left, what was done stands, and the next
+    /// step goes on there. After an idle step all who wait rest.
     pub fn step(&mut self) -> Result<Stepped, Refusal<NotStepped>>
         ensures advances { Advances self.old self.new }
         ensures at_rest { OnOk result (IsAtRest self.new.admission) }
@@ -302,6 +307,14 @@ impl Room {
         let first = self.make_ordinary()?;
         let second = self.make_meetings()?;
         Ok(self.told(both(first, second)))
+    }
+}
+
+/// Why a step isn't made where what came of a batch can't be told.
+fn not_told(refusal: Refusal<NoNumber>) -> Refusal<NotStepped> {
+    match refusal {
+        Refusal::Memory => Refusal::Memory,
+        Refusal::Fault(NoNumber) => Refusal::Fault(NotStepped::NoNumber),
     }
 }
 

@@ -7,3 +7,4 @@ pub mod State
 pub mod Why
 pub mod Turning
 pub mod Text
+pub mod Groups

@@ -43,7 +43,7 @@ abbrev pub are_tables : Room → List ℕ → Bool
 are_tables room text = list_all (is_table room) (words text)
 
 -- the epoch ends, and its book is kept; the next one begins over its tables, of which those are empty whose names stand
--- in the text; who waits goes on waiting
+-- in the text; who waits goes on waiting, and the groups are kept
 abbrev pub Turns : List ℕ → Room → Room → Type 0
 Turns text old new =
     (are_tables old text ≡ true) × IsAtRest old.admission × IsBookOf old.admission.epoch new.last
@@ -51,6 +51,7 @@ Turns text old new =
     × IsRenewed old.admission.epoch.core.opening.tables (carried_over (words text) old.admission.epoch.core)
     new.admission.epoch.core.opening
     × (new.admission.list ≡ old.admission.list) × (new.admission.coming ≡ old.admission.coming)
+    × (new.admission.feed ≡ old.admission.feed)
 
 -- why it doesn't turn
 abbrev pub IsNotTurned : List ℕ → Room → RoomFault → Type 0

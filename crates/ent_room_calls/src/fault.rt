@@ -49,8 +49,8 @@ pub enum RoomFault {
     /// those that are given.
     #[error("E407: more than 65,536 rows stand in the tables together")]
     TooManyRows,
-    /// The epoch has the greatest number that there is.
-    #[error("the epoch has the greatest number that there is")]
+    /// The epoch, or the next group, has the greatest number that there is.
+    #[error("the epoch, or the next group, has the greatest number that there is")]
     NoNumber,
     /// A given row doesn't fit: it names no table, or has another number of values than its table has columns, or a
     /// value of another kind. The place of the fault is the number of the row, from 0.

@@ -2,11 +2,13 @@
 //! by numbers.
 //!
 //! [`BoundValues`] collects values for host variables, and [`GivenRows`] rows of tables. [`RoomFault`] is why a call of
-//! a room does nothing, with the numbers that C knows. Tables and books go out in the lines of a report.
+//! a room does nothing, with the numbers that C knows. Tables and books go out in the lines of a report, and the groups
+//! of the feed in lines of JSON.
 #![tactic(auto)]
 
 mod binding_words;
 mod fault;
+mod groups;
 mod rows;
 mod state;
 mod stay;
@@ -17,6 +19,7 @@ mod why;
 
 pub use binding_words::binding_line;
 pub use fault::RoomFault;
+pub use groups::group_lines;
 pub use rows::{GivenRows, given_text};
 pub use stay::stay_numbered;
 pub use text::{book_text, table_text};

@@ -9,6 +9,7 @@ use ent_waiting::Limits;
 pub(crate) struct Open {
     pub(crate) epoch: u64,
     pub(crate) next: u64,
+    pub(crate) next_group: u64,
     pub(crate) limits: Limits,
 }
 
@@ -68,6 +69,10 @@ pub(crate) enum Call<'a> {
     TurnReport(&'a str),
     State(u64),
     Submissions(u64),
+    /// The groups from a number on.
+    Groups(u64),
+    /// The groups up to a number are kept no longer.
+    Settled(u64),
     Table(&'a str),
     Book,
     BookReport,
@@ -75,15 +80,17 @@ pub(crate) enum Call<'a> {
     Fates,
 }
 
-/// `open EPOCH NEXT WAITERS ENDED`
+/// `open EPOCH NEXT WAITERS ENDED`, where the first group has the number 1, or `open EPOCH NEXT WAITERS ENDED GROUP`
 pub(crate) fn read_open(line: &str) -> Result<Open> {
     let about = line.strip_prefix("open ").context("no room is open")?;
     let (epoch, rest) = about.split_once(' ').context("the next ticket")?;
     let (next, rest) = rest.split_once(' ').context("the most waiters")?;
-    let (waiters, ended) = rest.split_once(' ').context("the most ended tickets")?;
+    let (waiters, rest) = rest.split_once(' ').context("the most ended tickets")?;
+    let (ended, group) = rest.split_once(' ').unwrap_or((rest, "1"));
     Ok(Open {
         epoch: number(epoch)?,
         next: number(next)?,
+        next_group: number(group)?,
         limits: Limits {
             most_waiters: count(waiters)?,
             most_ended: count(ended)?,
@@ -121,6 +128,8 @@ fn read_words<'a>(word: &str, about: &'a str) -> Result<Call<'a>> {
         "turn_report" => Ok(Call::TurnReport(about)),
         "state" => Ok(Call::State(number(about)?)),
         "submissions" => Ok(Call::Submissions(number(about)?)),
+        "groups" => Ok(Call::Groups(number(about)?)),
+        "settled" => Ok(Call::Settled(number(about)?)),
         "table" => Ok(Call::Table(about)),
         _ => bail!("no call is named so"),
     }

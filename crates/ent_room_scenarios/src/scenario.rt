@@ -31,7 +31,15 @@ fn opened(alloc: Global, input: &str, open: Open, calls: &str) -> Result<String>
         taken = taken.saturating_add(1);
     }
     let (text, given, next) = (input.as_bytes(), rows.as_slice(), Ticket::new(open.next));
-    match Room::read(alloc, text, given, open.epoch, next, open.limits) {
+    match Room::read(
+        alloc,
+        text,
+        given,
+        open.epoch,
+        next,
+        open.next_group,
+        open.limits,
+    ) {
         Ok(room) => played(alloc, room, calls, taken),
         Err(Refusal::Memory) => bail!("no memory"),
         Err(Refusal::Fault(fault)) => not_opened(alloc, fault),

@@ -107,6 +107,8 @@ impl Stage {
             Call::TurnReport(names) => self.turn(names, true),
             Call::State(ticket) => self.state(Ticket::new(ticket)),
             Call::Submissions(ticket) => self.submissions(Ticket::new(ticket)),
+            Call::Groups(from) => told::groups(self.alloc, self.room.groups(from)),
+            Call::Settled(number) => self.settle(number),
             Call::Table(name) => self.table(name),
             Call::Book => told::book(self.alloc, self.room.book()),
             Call::BookReport => told::book_report(self.alloc, self.room.book()),
@@ -264,6 +266,12 @@ impl Stage {
             Ok(()) => told::turned(self.alloc, self.room.book(), is_told),
             Err(refusal) => told::not_turned(self.alloc, refusal),
         }
+    }
+
+    /// The groups up to a number are kept no longer.
+    fn settle(&mut self, number: u64) -> Result<String> {
+        self.room.settled_through(number);
+        told::settled(self.alloc, self.room.next_group())
     }
 
     fn state(&self, ticket: Ticket) -> Result<String> {

@@ -2,6 +2,7 @@
 use anyhow::{Context, Result, bail};
 use ent_book::{append_table, write_report_2};
 use ent_bound::BindingFault;
+use ent_feed::{Group, append_line};
 use ent_prepare::PrepareFault;
 use ent_rel::Table;
 use ent_renewal::FinishedBook;
@@ -169,6 +170,23 @@ fn ending(alloc: Global, ending: Ending) -> Result<String> {
         Ending::GaveUp => format!(in alloc; "gave up\n")?,
         Ending::Withdrawn => format!(in alloc; "withdrawn\n")?,
     })
+}
+
+/// The line of each group; that there is none, where there is none.
+pub(crate) fn groups(alloc: Global, groups: &[Group]) -> Result<String> {
+    if groups.is_empty() {
+        return Ok(format!(in alloc; "no group\n")?);
+    }
+    let mut lines = Vec::new(alloc);
+    for group in groups {
+        append_line(alloc, &mut lines, group)?;
+    }
+    text_of(lines)
+}
+
+/// Groups are kept no longer; the number of the next one.
+pub(crate) fn settled(alloc: Global, next: u64) -> Result<String> {
+    Ok(format!(in alloc; "next group {next}\n")?)
 }
 
 pub(crate) fn submissions(alloc: Global, submissions: &[Submission]) -> Result<String> {

@@ -12,8 +12,9 @@ use std::sync::Wait;
 use std::thread::Threads;
 
 /// The examples, each an input and its report.
-const EXAMPLES: [&str; 13] = [
+const EXAMPLES: [&str; 14] = [
     "auction",
+    "clerks",
     "concert",
     "doubleclick",
     "first",

@@ -1,8 +1,8 @@
 -- Tables that are shown, and tables that no script changes.
 use Rattle.std.proofs.Common.{◌≡◌, ℕ, suc, Bool, true, false, cond, ◌||◌, List, [], ◌∷◌, refl, sym, ap, subst, ◌∙◌}
 use Rattle.std.proofs.Common.{inl, inr, Some, Result, Ok}
-use Rattle.ent_set.specs.Laws.{from_list-ascending}
-use Rattle.ent_set.specs.Sets as set
+use Rattle.ent_lists.specs.Laws.{from_list-ascending}
+use Rattle.ent_lists.specs.Sets as set
 use Rattle.ent_value.specs.Order.{rows_total, exact_rows}
 use Rattle.ent_value.specs.Value.{row_cmp}
 use Rattle.ent_tree.specs.declared.declaration.Create.{Create}

@@ -1,7 +1,7 @@
 -- What is asked of a history beside the rules: what its text already tells.
 use Rattle.std.specs.Prelude.{◌≡◌, ◌≢◌, ◌<◌, true, false, Bool, List, [], length, map, AllPairs, Contains}
 use Rattle.std.specs.List.{list_any}
-use Rattle.ent_set.specs.Sets as set
+use Rattle.ent_lists.specs.Sets as set
 use Rattle.ent_value.specs.Value.{row_cmp}
 use Rattle.ent_tree.specs.declared.declaration.Create.{Create}
 use Rattle.ent_tree.specs.declared.script.Script.{Script}

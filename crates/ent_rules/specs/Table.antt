@@ -1,6 +1,6 @@
 -- The rule of tables: each is shown as the scripts leave it.
 use Rattle.std.specs.Prelude.{ℕ, suc, List, [], ◌∷◌, ◌++◌, Option, Some, None}
-use Rattle.ent_set.specs.Sets as set
+use Rattle.ent_lists.specs.Sets as set
 use Rattle.ent_semantics.specs.Database.{Database}
 use Rattle.ent_history.specs.declared.history.Shown.{Shown}
 use Rattle.ent_rules.specs.Alike.{same_rows}

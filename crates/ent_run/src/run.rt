@@ -40,13 +40,12 @@ use crate::moves::any_of;
 use crate::search::{is_among, member_by_number, member_in, member_numbers};
 use crate::start::fresh_members;
 use crate::waits::awaits;
-use ent_closed::Statement;
 use ent_group::{Groups, MOST_MEMBERS, Members, Tx};
 use ent_lock::{Holder, LockTable};
 use ent_members::{
     Entrant, Member, MemberAnswer, Progress, RunAttempts, Use, exclusive_table, statement_uses,
 };
-use ent_semantics::Answer;
+use ent_semantics::{Answer, Statement};
 use ent_value::{Name, Value};
 use std::alloc::{AllocError, Global};
 use std::marker::Model;

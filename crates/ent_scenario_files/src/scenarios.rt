@@ -1,5 +1,6 @@
 //! Stored scenarios, played.
-ghost use Rattle.std.specs.Prelude.{◌≡◌, OnOk};
+ghost use Rattle.std.specs.Prelude.{◌≡◌, ◌≢◌, IfOk, OnErr, OnOk, length};
+ghost use Rattle.std.specs.Str.Lines.{lines};
 
 use anyhow::{Context, Result, bail};
 use std::alloc::Global;
@@ -50,9 +51,12 @@ fn check<F: Fn(Global, &str) -> Result<String>>(
     count_equal(given.as_str(), wanted.as_str())
 }
 
-/// How many lines of replies there are, where they are those that are expected; else it names the first that isn't.
+/// How many lines of replies there are, exactly where they are those that are expected; else it names the first that
+/// isn't.
 fn count_equal(given: &str, wanted: &str) -> Result<usize>
     ensures equal { OnOk result (given.now ≡ wanted.now) }
+    ensures count { IfOk result (λ count. count ≡ length (lines given.now)) }
+    ensures differs { OnErr result (given.now ≢ wanted.now) }
 {
     if given == wanted {
         return Ok(given.lines().count());

@@ -4,7 +4,7 @@ use crate::classes::put_classes;
 use crate::reply::{Out, put, put_number, yes_or_no};
 use crate::words::{first_word, index, kinds, name, value};
 use anyhow::{Context, Result, bail};
-use ent_closed::{Atom, Term};
+use ent_semantics::{Atom, Term};
 use ent_tree::MOST_PARTS;
 use ent_unify::{MemberAtom, unifies, unify};
 use ent_value::{Kind, Limited, Value};

@@ -2,18 +2,18 @@
 ghost use Rattle.std.specs.Prelude.{◌≡◌, ◌≢◌, Contains, IsTrue};
 ghost use Rattle.std.specs.List.{list_any};
 ghost use Rattle.ent_value.specs.declared.value.Value.{Value as Held};
-ghost use Rattle.ent_closed.specs.declared.entangled.Atom.{Atom as HeadAtom};
+ghost use Rattle.ent_semantics.specs.declared.entangled.Atom.{Atom as HeadAtom};
 ghost use Rattle.ent_plan.specs.Ranged.{AreRanged, IsRanged, is_variable, stands_in};
 ghost use Rattle.ent_plan.specs.Plan.{HasDistinctHeads, HaveDistinctHeads};
 
 use crate::reply::{Out, Show, put, put_number, put_shown};
 use anyhow::{Context, Result, bail};
-use ent_closed::{Atom, Entangled, Membership, Term};
 use ent_group::Tx;
 use ent_join::first_with;
 use ent_match::{Pool, Posted};
 use ent_plan::{JoinPlan, combine};
 use ent_rel::{NumberedTable, Table};
+use ent_semantics::{Atom, Entangled, Membership, Term};
 use ent_value::{Sequence, Ticks, Value};
 use std::alloc::Global;
 use std::sync::Arc;

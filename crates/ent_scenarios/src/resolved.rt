@@ -2,8 +2,10 @@
 use crate::reply::{Out, Show, put, put_list, put_number, put_shown};
 use crate::trees::{put_end, put_tests, put_where};
 use crate::values::put_kind;
-use ent_closed::{Atom, Binding, Entangled, Known, Membership, Operand, Select, Statement, Term};
 use ent_form::Plain;
+use ent_semantics::{
+    Atom, Binding, Entangled, Known, Membership, Operand, Select, Statement, Term,
+};
 use ent_tree::Script;
 use ent_value::{Kind, Name};
 use std::alloc::Global;

@@ -1,10 +1,10 @@
 //! Entangled statements as an input has them, resolved and closed.
 use crate::opening::tables;
 use anyhow::{Context, Result, bail};
-use ent_closed::{Entangled, Statement};
 use ent_closing::{Environment, closed};
 use ent_form::{Catalogue, Plain, resolve};
 use ent_rel::Table;
+use ent_semantics::{Entangled, Statement};
 use ent_sql::parse_input;
 use ent_tree::{Input, Opening};
 use ent_value::Value;

@@ -13,6 +13,7 @@ ghost use Rattle.ent_protocol.specs.Reached.{CanClose, IsFinishedBook, IsReached
 ghost use Rattle.ent_protocol.specs.Step.{Step};
 ghost use Rattle.ent_headline.specs.Resolved.{resolved_forms};
 ghost use Rattle.ent_sched.specs.Tally.{MakesEvent};
+ghost use Rattle.ent_sched.specs.Watching.{heard_of};
 ghost use Rattle.ent_semantics.specs.Book.{IsLegal};
 ghost use Rattle.ent_protocol_laws.specs.Attempts.{AsksForRun};
 ghost use Rattle.ent_value.specs.declared.refusal.Refusal.TheVariants.{Fault};
@@ -117,7 +118,7 @@ impl Counted {
     /// The same, and a watcher is told.
     pub(crate) fn recall_watched<W: Watcher>(&mut self, watcher: &mut W) -> Reply
         ensures made { MakesEvent resolved_forms Recall (reply_seen result) self.old self.new }
-        ensures told { W.hears watcher.old (Recall, reply_seen result) watcher.new }
+        ensures told { W.hears watcher.old (heard_of Recall (reply_seen result) self.new.core) watcher.new }
     {
         let reply = self.core.recall();
         self.ticks.add();
@@ -130,7 +131,8 @@ impl Counted {
         ensures ok { IfOk result (λ reply.
             MakesEvent resolved_forms StartRun (reply_seen reply) self.old self.new) }
         ensures err { OnErr result ((self.new ≡ self.old) × (watcher.new ≡ watcher.old)) }
-        ensures told { IfOk result (λ reply. W.hears watcher.old (StartRun, reply_seen reply) watcher.new) }
+        ensures told { IfOk result (λ reply.
+            W.hears watcher.old (heard_of StartRun (reply_seen reply) self.new.core) watcher.new) }
     {
         let reply = self.core.start_run()?;
         self.ticks.add();
@@ -161,7 +163,7 @@ impl Counted {
         requires { Step resolved_forms self.old.core (Begin tx) (begin_refusal_seen refusal) self.old.core }
         ensures made { MakesEvent resolved_forms (Begin tx) (begin_refusal_seen refusal) self.old self.new }
         ensures same { self.new.core ≡ self.old.core }
-        ensures told { W.hears watcher.old (Begin tx, begin_refusal_seen refusal) watcher.new }
+        ensures told { W.hears watcher.old (heard_of (Begin tx) (begin_refusal_seen refusal) self.new.core) watcher.new }
     {
         self.ticks.add();
         if watcher.listens() {
@@ -179,7 +181,8 @@ impl Counted {
         ensures ok { IfOk result (λ reply.
             MakesEvent resolved_forms (Begin found.tx) (reply_seen reply) self.old self.new) }
         ensures err { OnErr result ((self.new ≡ self.old) × (watcher.new ≡ watcher.old)) }
-        ensures told { IfOk result (λ reply. W.hears watcher.old (Begin found.tx, reply_seen reply) watcher.new) }
+        ensures told { IfOk result (λ reply.
+            W.hears watcher.old (heard_of (Begin found.tx) (reply_seen reply) self.new.core) watcher.new) }
     {
         let reply = self.core.begin_free(found)?;
         self.ticks.add();
@@ -197,7 +200,8 @@ impl Counted {
         ensures ok { IfOk result (λ reply.
             MakesEvent resolved_forms (Finish done) (reply_seen reply) self.old self.new) }
         ensures err { OnErr result ((self.new ≡ self.old) × (watcher.new ≡ watcher.old)) }
-        ensures told { IfOk result (λ reply. W.hears watcher.old (Finish done, reply_seen reply) watcher.new) }
+        ensures told { IfOk result (λ reply.
+            W.hears watcher.old (heard_of (Finish done) (reply_seen reply) self.new.core) watcher.new) }
     {
         let mark = watcher.mark(&done);
         let reply = self.core.finish_at_once(done)?;
@@ -210,7 +214,8 @@ impl Counted {
     pub(crate) fn pick<W: Watcher>(&mut self, watcher: &mut W) -> Result<Reply, AllocError>
         ensures ok { IfOk result (λ reply. MakesEvent resolved_forms Pick (reply_seen reply) self.old self.new) }
         ensures err { OnErr result ((self.new ≡ self.old) × (watcher.new ≡ watcher.old)) }
-        ensures told { IfOk result (λ reply. W.hears watcher.old (Pick, reply_seen reply) watcher.new) }
+        ensures told { IfOk result (λ reply.
+            W.hears watcher.old (heard_of Pick (reply_seen reply) self.new.core) watcher.new) }
     {
         let reply = self.core.pick()?;
         self.ticks.add();
@@ -229,7 +234,8 @@ impl Counted {
         ensures ok { IfOk result (λ reply.
             MakesEvent resolved_forms (JoinAnswer done) (reply_seen reply) self.old self.new) }
         ensures err { OnErr result ((self.new ≡ self.old) × (watcher.new ≡ watcher.old)) }
-        ensures told { IfOk result (λ reply. W.hears watcher.old (JoinAnswer done, reply_seen reply) watcher.new) }
+        ensures told { IfOk result (λ reply.
+            W.hears watcher.old (heard_of (JoinAnswer done) (reply_seen reply) self.new.core) watcher.new) }
     {
         let mark = watcher.mark(&done);
         let reply = self.core.join_answer_at_once(done)?;
@@ -241,7 +247,7 @@ impl Counted {
     /// Breaks a deadlock, where there is one. It takes no memory.
     pub(crate) fn break_cycle<W: Watcher>(&mut self, watcher: &mut W) -> Reply
         ensures made { MakesEvent resolved_forms BreakCycle (reply_seen result) self.old self.new }
-        ensures told { W.hears watcher.old (BreakCycle, reply_seen result) watcher.new }
+        ensures told { W.hears watcher.old (heard_of BreakCycle (reply_seen result) self.new.core) watcher.new }
     {
         let reply = self.core.break_cycle();
         self.ticks.add();
@@ -253,7 +259,8 @@ impl Counted {
     pub(crate) fn end_run<W: Watcher>(&mut self, watcher: &mut W) -> Result<Reply, AllocError>
         ensures ok { IfOk result (λ reply. MakesEvent resolved_forms EndRun (reply_seen reply) self.old self.new) }
         ensures err { OnErr result ((self.new ≡ self.old) × (watcher.new ≡ watcher.old)) }
-        ensures told { IfOk result (λ reply. W.hears watcher.old (EndRun, reply_seen reply) watcher.new) }
+        ensures told { IfOk result (λ reply.
+            W.hears watcher.old (heard_of EndRun (reply_seen reply) self.new.core) watcher.new) }
     {
         let reply = self.core.end_run()?;
         self.ticks.add();

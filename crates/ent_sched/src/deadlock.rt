@@ -5,7 +5,7 @@ ghost use Rattle.ent_protocol.specs.Event.{BreakCycle, NoCycle};
 ghost use Rattle.ent_headline.specs.Resolved.{resolved_forms};
 ghost use Rattle.ent_sched.specs.Onward.{TicksOn};
 ghost use Rattle.ent_sched.specs.Progress.{UsesUp};
-ghost use Rattle.ent_sched.specs.Watching.{IsWatched};
+ghost use Rattle.ent_sched.specs.Watching.{IsWatchedInRun};
 
 use crate::counted::Counted;
 use crate::law::events_add_up;
@@ -18,7 +18,7 @@ use ent_termination::{jobs_are_lent_by_replies, progress_uses_up};
 pub(crate) fn break_deadlock<W: Watcher>(counted: &mut Counted, watcher: &mut W) -> bool
     requires none_lent { counted.old.core.lent ≡ [] }
     ensures events { TicksOn resolved_forms 1 counted.old counted.new }
-    ensures watched { IsWatched resolved_forms W.hears counted.old counted.new watcher.old watcher.new }
+    ensures watched { IsWatchedInRun resolved_forms W.hears counted.old counted.new watcher.old watcher.new }
     ensures none_lent { counted.new.core.lent ≡ [] }
     ensures progress { result ≡ true → UsesUp counted.old.core counted.new.core }
     ensures idle { result ≡ false

@@ -5,7 +5,7 @@ ghost use Rattle.ent_protocol.specs.Event.{Nothing, Pick};
 ghost use Rattle.ent_headline.specs.Resolved.{resolved_forms};
 ghost use Rattle.ent_sched.specs.Onward.{TicksOn};
 ghost use Rattle.ent_sched.specs.Progress.{IsJustLent, UsesUp};
-ghost use Rattle.ent_sched.specs.Watching.{IsWatched};
+ghost use Rattle.ent_sched.specs.Watching.{IsWatchedInRun};
 
 use crate::counted::Counted;
 use crate::law::events_add_up;
@@ -28,7 +28,7 @@ fn join_answer<W: Watcher>(
 ) -> Result<(), AllocError>
     requires lent { IsJustLent resolved_forms Pick done.job counted.old.core }
     ensures events { TicksOn resolved_forms 1 counted.old counted.new }
-    ensures watched { IsWatched resolved_forms W.hears counted.old counted.new watcher.old watcher.new }
+    ensures watched { IsWatchedInRun resolved_forms W.hears counted.old counted.new watcher.old watcher.new }
     ensures none_lent { OnOk result (counted.new.core.lent ≡ []) }
     ensures progress { OnOk result (UsesUp counted.old.core counted.new.core) }
 {
@@ -59,7 +59,7 @@ fn answer<W: Watcher>(
 ) -> Result<(), AllocError>
     requires lent { IsJustLent resolved_forms Pick job counted.old.core }
     ensures events { TicksOn resolved_forms 1 counted.old counted.new }
-    ensures watched { IsWatched resolved_forms W.hears counted.old counted.new watcher.old watcher.new }
+    ensures watched { IsWatchedInRun resolved_forms W.hears counted.old counted.new watcher.old watcher.new }
     ensures none_lent { OnOk result (counted.new.core.lent ≡ []) }
     ensures progress { OnOk result (UsesUp counted.old.core counted.new.core) }
 {
@@ -83,7 +83,7 @@ pub(crate) fn answer_component<W: Watcher>(
 ) -> Result<bool, AllocError>
     requires none_lent { counted.old.core.lent ≡ [] }
     ensures events { TicksOn resolved_forms 2 counted.old counted.new }
-    ensures watched { IsWatched resolved_forms W.hears counted.old counted.new watcher.old watcher.new }
+    ensures watched { IsWatchedInRun resolved_forms W.hears counted.old counted.new watcher.old watcher.new }
     ensures none_lent { OnOk result (counted.new.core.lent ≡ []) }
     ensures progress { IfOk result (λ moved. moved ≡ true → UsesUp counted.old.core counted.new.core) }
     ensures idle { IfOk result (λ moved. moved ≡ false

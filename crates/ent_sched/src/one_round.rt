@@ -4,7 +4,7 @@ ghost use Rattle.ent_termination.specs.Within.{IsBelow, IsWithin};
 ghost use Rattle.ent_termination.specs.Idle.{IsIdleRound};
 ghost use Rattle.ent_headline.specs.Resolved.{resolved_forms};
 ghost use Rattle.ent_sched.specs.Onward.{TicksOn, events_of_round};
-ghost use Rattle.ent_sched.specs.Watching.{IsWatched};
+ghost use Rattle.ent_sched.specs.Watching.{IsWatchedInRun};
 
 use crate::counted::Counted;
 use crate::deadlock::break_deadlock;
@@ -27,7 +27,7 @@ pub(crate) fn round_watched<W: Watcher>(
 ) -> Result<bool, AllocError>
     requires none_lent { counted.old.core.lent ≡ [] }
     ensures events { TicksOn resolved_forms (events_of_round counted.old.core) counted.old counted.new }
-    ensures watched { IsWatched resolved_forms W.hears counted.old counted.new watcher.old watcher.new }
+    ensures watched { IsWatchedInRun resolved_forms W.hears counted.old counted.new watcher.old watcher.new }
     ensures none_lent { OnOk result (counted.new.core.lent ≡ []) }
     ensures progress { IfOk result (λ moved. moved ≡ true
         → (most left : ℕ)

@@ -6,7 +6,7 @@ ghost use Rattle.ent_protocol.specs.Reached.{CanClose};
 ghost use Rattle.ent_headline.specs.Resolved.{resolved_forms};
 ghost use Rattle.ent_sched.specs.Onward.{TicksOn};
 ghost use Rattle.ent_sched.specs.Bounds.{events_of_run, run_start};
-ghost use Rattle.ent_sched.specs.Watching.{IsWatched};
+ghost use Rattle.ent_sched.specs.Watching.{IsRunWatched, IsWatchedInRun};
 
 use crate::counted::Counted;
 use crate::law::{events_add_up, events_use_up_tries};
@@ -20,7 +20,7 @@ use std::alloc::{AllocError, Global};
 fn start<W: Watcher>(counted: &mut Counted, watcher: &mut W) -> Result<bool, AllocError>
     requires none_lent { counted.old.core.lent ≡ [] }
     ensures events { TicksOn resolved_forms 1 counted.old counted.new }
-    ensures watched { IsWatched resolved_forms W.hears counted.old counted.new watcher.old watcher.new }
+    ensures watched { IsRunWatched resolved_forms W.hears counted.old counted.new watcher.old watcher.new }
     ensures none_lent { counted.new.core.lent ≡ [] }
     ensures on { IfOk result (λ on. on ≡ true
         → (¬ CanClose counted.old.core)
@@ -43,7 +43,7 @@ fn start<W: Watcher>(counted: &mut Counted, watcher: &mut W) -> Result<bool, All
 fn end<W: Watcher>(counted: &mut Counted, watcher: &mut W) -> Result<(), AllocError>
     requires idle { IsIdleRound resolved_forms counted.old.core }
     ensures events { TicksOn resolved_forms 1 counted.old counted.new }
-    ensures watched { IsWatched resolved_forms W.hears counted.old counted.new watcher.old watcher.new }
+    ensures watched { IsWatchedInRun resolved_forms W.hears counted.old counted.new watcher.old watcher.new }
     ensures none_lent { OnOk result (counted.new.core.lent ≡ []) }
     ensures ended { OnOk result (counted.new.core.running ≡ false) }
 {
@@ -64,7 +64,7 @@ pub fn run_watched<W: Watcher>(
 ) -> Result<(), AllocError>
     requires none_lent { counted.old.core.lent ≡ [] }
     ensures events { TicksOn resolved_forms (events_of_run counted.old.core) counted.old counted.new }
-    ensures watched { IsWatched resolved_forms W.hears counted.old counted.new watcher.old watcher.new }
+    ensures watched { IsRunWatched resolved_forms W.hears counted.old counted.new watcher.old watcher.new }
     ensures none_lent { OnOk result (counted.new.core.lent ≡ []) }
     ensures ended { OnOk result (counted.new.core.running ≡ false) }
     ensures tries { OnOk result (¬ CanClose counted.old.core

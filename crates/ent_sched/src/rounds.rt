@@ -4,7 +4,7 @@ ghost use Rattle.ent_termination.specs.Idle.{IsIdleRound};
 ghost use Rattle.ent_headline.specs.Resolved.{resolved_forms};
 ghost use Rattle.ent_sched.specs.Onward.{TicksOn};
 ghost use Rattle.ent_sched.specs.Bounds.{events_of_rounds};
-ghost use Rattle.ent_sched.specs.Watching.{IsWatched};
+ghost use Rattle.ent_sched.specs.Watching.{IsWatchedInRun};
 
 use crate::counted::Counted;
 use crate::law::events_add_up;
@@ -29,7 +29,7 @@ fn counted_rounds<L: Ledger, W: Watcher>(
     requires whole { ledger.parts ≡ 1 }
     requires none_lent { counted.old.core.lent ≡ [] }
     ensures events { TicksOn resolved_forms (events_of_rounds counted.old.core) counted.old counted.new }
-    ensures watched { IsWatched resolved_forms W.hears counted.old counted.new watcher.old watcher.new }
+    ensures watched { IsWatchedInRun resolved_forms W.hears counted.old counted.new watcher.old watcher.new }
     ensures idle { OnOk result (IsIdleRound resolved_forms counted.new.core) }
 {
     runs_are_within();
@@ -50,7 +50,7 @@ pub(crate) fn rounds<W: Watcher>(
 ) -> Result<(), AllocError>
     requires none_lent { counted.old.core.lent ≡ [] }
     ensures events { TicksOn resolved_forms (events_of_rounds counted.old.core) counted.old counted.new }
-    ensures watched { IsWatched resolved_forms W.hears counted.old counted.new watcher.old watcher.new }
+    ensures watched { IsWatchedInRun resolved_forms W.hears counted.old counted.new watcher.old watcher.new }
     ensures idle { OnOk result (IsIdleRound resolved_forms counted.new.core) }
 {
     counted_rounds::<Brand, W>(alloc, counted, watcher, Blank::new(1))

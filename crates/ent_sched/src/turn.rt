@@ -8,7 +8,7 @@ ghost use Rattle.ent_core.specs.Begin.{IsFreeMember};
 ghost use Rattle.ent_headline.specs.Resolved.{resolved_forms};
 ghost use Rattle.ent_sched.specs.Onward.{TicksOn};
 ghost use Rattle.ent_sched.specs.Progress.{IsJustLent, UsesUp};
-ghost use Rattle.ent_sched.specs.Watching.{IsWatched};
+ghost use Rattle.ent_sched.specs.Watching.{IsWatchedInRun};
 
 use crate::counted::Counted;
 use crate::law::events_add_up;
@@ -31,7 +31,7 @@ use std::alloc::{AllocError, Global};
 fn finish<W: Watcher>(counted: &mut Counted, watcher: &mut W, done: Done) -> Result<(), AllocError>
     requires lent { (tx : ℕ) × IsJustLent resolved_forms (Begin tx) done.job counted.old.core }
     ensures events { TicksOn resolved_forms 1 counted.old counted.new }
-    ensures watched { IsWatched resolved_forms W.hears counted.old counted.new watcher.old watcher.new }
+    ensures watched { IsWatchedInRun resolved_forms W.hears counted.old counted.new watcher.old watcher.new }
     ensures none_lent { OnOk result (counted.new.core.lent ≡ []) }
     ensures progress { OnOk result (UsesUp counted.old.core counted.new.core) }
 {
@@ -61,7 +61,7 @@ fn carry_out<W: Watcher>(
 ) -> Result<(), AllocError>
     requires lent { (tx : ℕ) × IsJustLent resolved_forms (Begin tx) job counted.old.core }
     ensures events { TicksOn resolved_forms 1 counted.old counted.new }
-    ensures watched { IsWatched resolved_forms W.hears counted.old counted.new watcher.old watcher.new }
+    ensures watched { IsWatchedInRun resolved_forms W.hears counted.old counted.new watcher.old watcher.new }
     ensures none_lent { OnOk result (counted.new.core.lent ≡ []) }
     ensures progress { OnOk result (UsesUp counted.old.core counted.new.core) }
 {
@@ -88,7 +88,7 @@ fn begin<W: Watcher>(
     requires free { IsFreeMember counted.old.core found }
     requires ready { (turn : Turn) × (standing counted.old.core found.tx ≡ Some (Ready turn)) }
     ensures events { TicksOn resolved_forms 2 counted.old counted.new }
-    ensures watched { IsWatched resolved_forms W.hears counted.old counted.new watcher.old watcher.new }
+    ensures watched { IsWatchedInRun resolved_forms W.hears counted.old counted.new watcher.old watcher.new }
     ensures none_lent { OnOk result (counted.new.core.lent ≡ []) }
     ensures progress { IfOk result (λ moved. moved ≡ true → UsesUp counted.old.core counted.new.core) }
     ensures idle { IfOk result (λ moved. moved ≡ false
@@ -121,7 +121,7 @@ fn turn<W: Watcher>(
 ) -> Result<bool, AllocError>
     requires none_lent { counted.old.core.lent ≡ [] }
     ensures events { TicksOn resolved_forms 2 counted.old counted.new }
-    ensures watched { IsWatched resolved_forms W.hears counted.old counted.new watcher.old watcher.new }
+    ensures watched { IsWatchedInRun resolved_forms W.hears counted.old counted.new watcher.old watcher.new }
     ensures none_lent { OnOk result (counted.new.core.lent ≡ []) }
     ensures progress { IfOk result (λ moved. moved ≡ true → UsesUp counted.old.core counted.new.core) }
     ensures idle { IfOk result (λ moved. moved ≡ false
@@ -148,7 +148,7 @@ pub(crate) fn take_turns<W: Watcher>(
 ) -> Result<bool, AllocError>
     requires none_lent { counted.old.core.lent ≡ [] }
     ensures events { TicksOn resolved_forms (2 * length (running_members counted.old.core)) counted.old counted.new }
-    ensures watched { IsWatched resolved_forms W.hears counted.old counted.new watcher.old watcher.new }
+    ensures watched { IsWatchedInRun resolved_forms W.hears counted.old counted.new watcher.old watcher.new }
     ensures none_lent { OnOk result (counted.new.core.lent ≡ []) }
     ensures progress { IfOk result (λ moved. moved ≡ true → UsesUp counted.old.core counted.new.core) }
     ensures idle { IfOk result (λ moved. moved ≡ false

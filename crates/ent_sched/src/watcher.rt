@@ -3,7 +3,7 @@ ghost use Rattle.std.specs.Prelude.{◌≡◌, false};
 ghost use Rattle.ent_core.specs.Reply.{reply_seen};
 ghost use Rattle.ent_protocol.specs.Event.{Event};
 ghost use Rattle.ent_protocol.specs.Job as jobs;
-ghost use Rattle.ent_sched.specs.Watching.{Exchange, TellsOf};
+ghost use Rattle.ent_sched.specs.Watching.{Heard, TellsOf, heard_of};
 
 use ent_core::{Core, Reply};
 use ent_eval::Done;
@@ -23,19 +23,19 @@ pub enum Told<M> {
     Recall,
 }
 
-/// Is told each event of a core with its reply, as soon as it was made. Contracts see of it what it hears: how it may
-/// be behind an event and its reply, from how it was before.
+/// Is told each event of a core with its reply, as soon as it was made, and sees the core then. Contracts see of it
+/// what it hears: how it may be behind an event, its reply and the state that these led to, from how it was before.
 pub trait Watcher {
     /// What is kept of a result while it is handed in.
     type Mark: Drop;
 
-    ghost hears: { Self → Exchange → Self → Type 0 };
+    ghost hears: { Self → Heard → Self → Type 0 };
 
     ghost marks: { Self.Mark → jobs.Done → Type 0 };
 
     /// Whether it wants to be told. One that doesn't hears of any event without a change, and needn't be told of it.
     fn listens(&self) -> bool
-        ensures { result ≡ false → (one : Exchange) → hears self.now one self.now };
+        ensures { result ≡ false → (heard : Heard) → hears self.now heard self.now };
 
     /// A mark of a result that is about to be handed in.
     fn mark(&self, done: &Done) -> Self::Mark
@@ -46,7 +46,7 @@ pub trait Watcher {
     fn tell(&mut self, told: Told<Self::Mark>, reply: &Reply, core: &Core)
         ensures { (event : Event)
             → TellsOf marks told event
-            → hears self.old (event, reply_seen reply.now) self.new };
+            → hears self.old (heard_of event (reply_seen reply.now) core.now) self.new };
 }
 
 /// The watcher that wants to be told nothing.
@@ -56,7 +56,7 @@ pub struct Silent;
 impl Watcher for Silent {
     type Mark = ();
 
-    ghost hears = { λ old one new. new ≡ old };
+    ghost hears = { λ old heard new. new ≡ old };
 
     ghost marks = { λ mark done. Unit {0} };
 

@@ -4,12 +4,12 @@ use Rattle.std.proofs.Common.{append_assoc}
 use Rattle.std.specs.List.{filter, flat_map}
 use Rattle.std.proofs.lemmas.List.{map-append, append-nil}
 use Rattle.std.proofs.lemmas.List.Elements.{filter-append}
-use Rattle.ent_set.specs.Sets as set
+use Rattle.ent_lists.specs.Sets as set
 use Rattle.ent_value.specs.declared.value.Value.{Value}
 use Rattle.ent_rel.specs.Relation.{Relation}
 use Rattle.ent_tree.specs.declared.operand.Test.{Test}
 use Rattle.ent_semantics.specs.Selection.{meets, combinations}
-use Rattle.ent_closed.specs.declared.operand.Operand.{Operand}
+use Rattle.ent_semantics.specs.declared.operand.Operand.{Operand}
 use Rattle.ent_select.specs.Combined.{combined, shown_of}
 use Rattle.ent_select.specs.Tables.{rows_in, rows_listed}
 use Rattle.ent_select.specs.Worth.{worth_over}

@@ -9,8 +9,8 @@ use Rattle.ent_value.specs.declared.value.Value.{Value}
 use Rattle.ent_tree.specs.declared.operand.Test.{Test}
 use Rattle.ent_semantics.specs.Selection.{compares, holds, meets}
 use Rattle.ent_semantics.specs.Term.{no_value}
-use Rattle.ent_closed.specs.declared.operand.Operand.{Operand}
-use Rattle.ent_closed.specs.declared.operand.Operand.TheVariants as operands
+use Rattle.ent_semantics.specs.declared.operand.Operand.{Operand}
+use Rattle.ent_semantics.specs.declared.operand.Operand.TheVariants as operands
 use Rattle.ent_select.specs.Combined.{combined, shown_of}
 use Rattle.ent_select.specs.Early.{value_there, may_compare, may_hold, may_meet}
 use Rattle.ent_select.specs.Worth.{worth_over}

@@ -4,8 +4,8 @@ use Rattle.std.specs.Prelude.{IsTrue, ◌&&◌}
 use Rattle.std.specs.List.{filter, AllByRecursion}
 use Rattle.std.proofs.lemmas.List.Elements.{recursion_from_All, All-contains_itself}
 use Rattle.std.proofs.lemmas.Map.Views.{list_any-from_Contains}
-use Rattle.ent_set.specs.Sets as set
-use Rattle.ent_set.specs.Laws.{contains-ascending}
+use Rattle.ent_lists.specs.Sets as set
+use Rattle.ent_lists.specs.Laws.{contains-ascending}
 use Rattle.ent_value.specs.Order.{rows_equal}
 use Rattle.ent_value.specs.declared.value.Value.{Value}
 use Rattle.ent_rel.specs.Relation.{RowSet}

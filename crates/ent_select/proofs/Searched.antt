@@ -4,12 +4,12 @@ use Rattle.std.proofs.Common.{length, take, drop, get_or, arith, ◌≤◌, ◌-
 use Rattle.std.proofs.lemmas.List.{append-nil, take_all}
 use Rattle.std.specs.Prelude.{IsTrue}
 use Rattle.std.specs.List.{filter, flat_map, AllByRecursion}
-use Rattle.ent_set.specs.Sets as set
+use Rattle.ent_lists.specs.Sets as set
 use Rattle.ent_value.specs.declared.value.Value.{Value}
 use Rattle.ent_rel.specs.Relation.{RowSet}
 use Rattle.ent_tree.specs.declared.operand.Test.{Test}
 use Rattle.ent_semantics.specs.Selection.{meets}
-use Rattle.ent_closed.specs.declared.operand.Operand.{Operand}
+use Rattle.ent_semantics.specs.declared.operand.Operand.{Operand}
 use Rattle.ent_select.specs.Combined.{combined, shown_of, AreNarrowed}
 use Rattle.ent_select.specs.Early.{may_meet}
 use Rattle.ent_select.specs.Worth.{worth_over}

@@ -14,7 +14,7 @@ use Rattle.ent_tree.specs.declared.operand.Comparison.TheVariants.{Equal}
 use Rattle.ent_tree.specs.declared.operand.Test.{Test}
 use Rattle.ent_semantics.specs.Selection.{compares, holds}
 use Rattle.ent_semantics.specs.Term.{no_value}
-use Rattle.ent_closed.specs.declared.operand.Operand.{Operand}
+use Rattle.ent_semantics.specs.declared.operand.Operand.{Operand}
 use Rattle.ent_select.specs.Early.{value_there}
 use Rattle.ent_select.specs.Worth.{worth_over}
 use Rattle.ent_select.proofs.Fronts.{there_worth}

@@ -1,12 +1,12 @@
 -- The item rows of combinations, source by source.
 use Rattle.std.specs.Prelude.{◌≡◌, Bool, IsTrue, List, [], ◌∷◌, ◌++◌, map}
 use Rattle.std.specs.List.{filter, flat_map}
-use Rattle.ent_set.specs.Sets as set
+use Rattle.ent_lists.specs.Sets as set
 use Rattle.ent_value.specs.declared.value.Value.{Value}
 use Rattle.ent_rel.specs.Relation.{RowSet}
 use Rattle.ent_tree.specs.declared.operand.Test.{Test}
 use Rattle.ent_semantics.specs.Selection.{meets}
-use Rattle.ent_closed.specs.declared.operand.Operand.{Operand}
+use Rattle.ent_semantics.specs.declared.operand.Operand.{Operand}
 use Rattle.ent_select.specs.Worth.{worth_over}
 
 -- one row of each list, in all ways, side by side behind a row

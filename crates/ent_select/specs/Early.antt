@@ -6,8 +6,8 @@ use Rattle.ent_value.specs.declared.value.Value.{Value}
 use Rattle.ent_tree.specs.declared.operand.Comparison.{Comparison}
 use Rattle.ent_tree.specs.declared.operand.Test.{Test}
 use Rattle.ent_semantics.specs.Selection.{compares}
-use Rattle.ent_closed.specs.declared.operand.Operand.{Operand}
-use Rattle.ent_closed.specs.declared.operand.Operand.TheVariants as operands
+use Rattle.ent_semantics.specs.declared.operand.Operand.{Operand}
+use Rattle.ent_semantics.specs.declared.operand.Operand.TheVariants as operands
 
 -- the value of an operand, where the front has it
 abbrev pub value_there : List Value → Operand Value → Option Value

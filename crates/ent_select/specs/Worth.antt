@@ -1,8 +1,8 @@
 -- What operands of a closed statement are worth.
 use Rattle.std.specs.Prelude.{List}
 use Rattle.ent_value.specs.declared.value.Value.{Value}
-use Rattle.ent_closed.specs.declared.operand.Operand.{Operand}
-use Rattle.ent_closed.specs.Form.{operand_worth}
+use Rattle.ent_semantics.specs.declared.operand.Operand.{Operand}
+use Rattle.ent_semantics.specs.Form.{operand_worth}
 
 -- a value is worth itself
 abbrev pub itself : Value → Value

@@ -4,7 +4,7 @@ ghost use Rattle.ent_semantics.specs.Selection.{compares, holds, meets};
 ghost use Rattle.ent_select.specs.Worth.{worth_over};
 
 use crate::term::operand_value;
-use ent_closed::Operand;
+use ent_semantics::Operand;
 use ent_tree::{Comparison, Test};
 use ent_value::Value;
 use std::cmp::Ordering;

@@ -9,7 +9,7 @@ ghost use Rattle.ent_semantics.specs.Term.{no_value};
 ghost use Rattle.ent_select.specs.Worth.{worth_over};
 
 use crate::term::operand_there;
-use ent_closed::Operand;
+use ent_semantics::Operand;
 use ent_tree::{Comparison, Test};
 use ent_value::{Kind, Value};
 use std::alloc::{AllocError, Global};

@@ -9,8 +9,8 @@ ghost use Rattle.ent_select.specs.Prepared.{prepared_there, prepared_may_hold, p
 ghost use Rattle.ent_select.specs.Worth.{worth_over};
 
 use crate::condition::compares;
-use ent_closed::Operand;
 use ent_rel::{Cell, KnownValue, StoredRow};
+use ent_semantics::Operand;
 use ent_tree::{Comparison, Test};
 use ent_value::{Sequence, Value};
 use std::alloc::{AllocError, Global};

@@ -4,8 +4,8 @@ ghost use Rattle.ent_semantics.specs.Term.{no_value};
 ghost use Rattle.ent_select.specs.Worth.{worth_over};
 
 use crate::term::operand_value;
-use ent_closed::Operand;
 use ent_rel::StoredRow;
+use ent_semantics::Operand;
 use ent_value::{Row, Value};
 use std::alloc::{AllocError, Global};
 

@@ -4,7 +4,7 @@
 //! equality want there, and those of the last one are read where they stand.
 ghost use Rattle.std.specs.Prelude.{◌≡◌, [], ◌∷◌, ◌++◌, IfOk, OnOk, map};
 ghost use Rattle.std.specs.List.{filter};
-ghost use Rattle.ent_set.specs.Sets as set;
+ghost use Rattle.ent_lists.specs.Sets as set;
 ghost use Rattle.ent_rel.specs.Numbered.{relation_of};
 ghost use Rattle.ent_semantics.specs.Selection.{meets, selection};
 ghost use Rattle.ent_select.specs.Combined.{combined, shown_of, AreNarrowed};
@@ -16,8 +16,8 @@ use crate::condition::meets;
 use crate::first::first_values;
 use crate::prepared::PreparedTests;
 use crate::row::{item_row, joined, shown_row};
-use ent_closed::{Operand, Select};
 use ent_rel::{NumberedTable, RowCursor, Table, ascending};
+use ent_semantics::{Operand, Select};
 use ent_tree::Test;
 use ent_value::{Row, Sequence, Value};
 use std::alloc::{AllocError, Global};

@@ -5,7 +5,7 @@ ghost use Rattle.ent_semantics.specs.Term.{no_value};
 ghost use Rattle.ent_select.specs.Early.{value_there};
 ghost use Rattle.ent_select.specs.Worth.{worth_over};
 
-use ent_closed::Operand;
+use ent_semantics::Operand;
 use ent_value::Value;
 
 /// The value of an operand over a row; a column that isn't there stands for `none`.

@@ -3,8 +3,8 @@ use Rattle.std.proofs.Common.{◌≡◌, Bool, true, false, ◌&&◌, ◌||◌, 
 use Rattle.std.specs.Cmp.{Equal-is}
 use Rattle.std.specs.List.{AllByRecursion, list_any}
 use Rattle.std.specs.Ordering.{eq_by_cmp}
-use Rattle.ent_set.specs.Sets as set
-use Rattle.ent_set.specs.Laws.{contains-ascending, contains-from_list, contains-insert, contains-retain}
+use Rattle.ent_lists.specs.Sets as set
+use Rattle.ent_lists.specs.Laws.{contains-ascending, contains-from_list, contains-insert, contains-retain}
 use Rattle.ent_lists.specs.Elements.{and_both, or_second}
 use Rattle.ent_value.specs.Order.{rows_total, exact_rows, rows_equal}
 use Rattle.ent_value.specs.Value.{row_cmp}

@@ -1,7 +1,7 @@
 -- The rows of a SELECT's result have the kinds of its items.
 use Rattle.std.proofs.Common.{◌≡◌, Bool, List, [], ◌∷◌, ◌++◌, map, refl, ap, ◌∙◌}
 use Rattle.std.specs.List.{AllByRecursion, filter, flat_map}
-use Rattle.ent_set.specs.Sets as set
+use Rattle.ent_lists.specs.Sets as set
 use Rattle.ent_lists.specs.Elements.{all_joined, all_filtered}
 use Rattle.ent_value.specs.Value.{kinds_of, kind_of}
 use Rattle.ent_value.specs.declared.value.Kind.{Kind}

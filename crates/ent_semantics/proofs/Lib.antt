@@ -4,3 +4,4 @@ pub mod EachRow
 pub mod NumberKinds
 pub mod Numbered
 pub mod ItemKinds
+pub mod Over

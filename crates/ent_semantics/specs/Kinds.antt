@@ -1,7 +1,7 @@
 -- Values of a kind, and rows of kinds.
 use Rattle.std.specs.Prelude.{◌≡◌, ◌≤◌, ◌<◌, true, List, length, IsTrue}
 use Rattle.std.specs.List.{AllByRecursion, flat_map}
-use Rattle.ent_set.specs.Sets as set
+use Rattle.ent_lists.specs.Sets as set
 use Rattle.ent_value.specs.Value.{kinds_of}
 use Rattle.ent_value.specs.declared.text.TheConstants.{LONGEST_TEXT}
 use Rattle.ent_value.specs.declared.value.Kind.{Kind}

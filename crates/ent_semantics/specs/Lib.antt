@@ -13,3 +13,6 @@ pub mod Book
 pub mod Uses
 pub mod Further
 pub mod Kinds
+pub mod Form
+pub mod Closing
+pub mod FormKinds

@@ -5,18 +5,36 @@
 //! an oracle that answers their entangled statements; a [`Book`] is legal where such a run gives it. Contracts above
 //! compare what the program answers with what they say.
 //!
+//! [`Statement`] is a statement in the form in which it is matched and carried out. Names are numbers there. A table is
+//! its number in the order of declaration, a column its number in the row of the statement's sources side by side, and
+//! a written variable its number in the order of first appearance. `K` is what is known before any row is read: a
+//! [`Known`] in a resolved statement, and an [`ent_value::Value`] in a closed one, where values have replaced the host
+//! variables. One definition gives both their meaning, from what a `K` is worth. [`ent_tree::Duplicate`] copies them,
+//! and [`ent_tree::Same`] compares them.
+//!
 //! Three small functions work by these definitions, for the crates above: [`element`], [`is_column_among`] and
-//! [`Failure::name`]. The functions of `law` have no body: their contracts are laws of the definitions.
+//! [`Failure::name`]. The functions of `law` and `closing_law` have no body: their contracts are laws of the
+//! definitions.
 #![tactic(auto)]
 
 mod answer;
 mod book;
 mod by_number;
+mod closing_law;
 mod column;
+mod copies;
+mod entangled;
+mod equality;
 mod law;
+mod operand;
+mod statement;
 
 pub use answer::{Answer, Fact, Failure};
 pub use book::{Book, Entry, Fate, Fated, JointAnswer, Member};
 pub use by_number::element;
+pub use closing_law::closing_keeps_the_meaning;
 pub use column::is_column_among;
+pub use entangled::{Atom, Binding, Entangled, Membership, Term};
 pub use law::{results_are_of_item_kinds, runs_go_on, statements_keep_to_their_uses};
+pub use operand::{Known, Operand};
+pub use statement::{Select, Statement};

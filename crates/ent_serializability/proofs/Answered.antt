@@ -6,7 +6,7 @@ use Rattle.ent_semantics.specs.declared.answer.Fact.{Fact}
 use Rattle.ent_semantics.specs.declared.book.Member.{Member as JointMember}
 use Rattle.ent_semantics.specs.Entangled.{Valuation}
 use Rattle.ent_semantics.specs.Serial.{Operation, numbered}
-use Rattle.ent_closed.specs.Form.{Tables, form_heads, form_posts, is_form_grounding}
+use Rattle.ent_semantics.specs.Form.{Tables, form_heads, form_posts, is_form_grounding}
 use Rattle.ent_coordination.specs.Choice.{AreGroundings, all_posts, all_heads}
 use Rattle.ent_coordination.specs.Pool.{Posted}
 use Rattle.ent_protocol.specs.Member.{is_tx, Asks, next_of}

@@ -17,7 +17,7 @@ use Rattle.ent_semantics.specs.Serial.{run}
 use Rattle.ent_semantics.specs.Serial.{ended, script_run, ran_first, scripts_run, read_views, script_read_views}
 use Rattle.ent_semantics.specs.Serial.{seen_from}
 use Rattle.ent_semantics.specs.Serial.{scripts_read_views, numbered}
-use Rattle.ent_closed.specs.Form.{Tables}
+use Rattle.ent_semantics.specs.Form.{Tables}
 use Rattle.ent_form_laws.specs.Tables.{database_of}
 use Rattle.ent_protocol.specs.Member.{environment_of}
 use Rattle.ent_protocol.specs.Reached.{IsReached, book_of, named_tables, settled}

@@ -7,9 +7,9 @@ use Rattle.ent_semantics.specs.declared.answer.Answer.{Answer}
 use Rattle.ent_semantics.specs.declared.answer.Answer.TheVariants as answers
 use Rattle.ent_semantics.specs.Serial.{Operation}
 use Rattle.ent_semantics.specs.Database.{Environment, nothing_bound}
-use Rattle.ent_closed.specs.Form.{Tables, closed_worth, form_meaning}
-use Rattle.ent_closed.specs.Kinds.{changed_tables}
-use Rattle.ent_closed.specs.declared.statement.Statement.{Statement}
+use Rattle.ent_semantics.specs.Form.{Tables, closed_worth, form_meaning}
+use Rattle.ent_semantics.specs.FormKinds.{changed_tables}
+use Rattle.ent_semantics.specs.declared.statement.Statement.{Statement}
 use Rattle.ent_form_laws.specs.Tables.{database_of}
 use Rattle.ent_protocol.specs.Begin.{replaced}
 use Rattle.ent_protocol.specs.Finish.{variable_of, with_change, with_bound, noted, stepped, finished}

@@ -17,12 +17,12 @@ use Rattle.ent_semantics.specs.Joint.{IsGrounded}
 use Rattle.ent_semantics.specs.Serial.{Operation, Run, answered_first, after, run, seen, seen_after, read_views}
 use Rattle.ent_semantics.specs.Statement.{statement_meaning}
 use Rattle.ent_semantics.specs.Uses.{changes, Agree, Covers, EffectsAlike, KeepsOthers, RunsAlike, CoversAll}
-use Rattle.ent_closed.specs.Closing.{closed, closed_entangled}
-use Rattle.ent_closed.specs.Form.{Tables, closed_worth, known_worth, form_meaning, is_form_grounding}
-use Rattle.ent_closed.specs.Form.{form_heads, form_posts}
-use Rattle.ent_closed.specs.declared.entangled.Entangled.{Entangled as FormEntangled}
-use Rattle.ent_closed.specs.declared.operand.Known.{Known}
-use Rattle.ent_closed.specs.declared.statement.Statement.{Statement as FormStatement}
+use Rattle.ent_semantics.specs.Closing.{closed, closed_entangled}
+use Rattle.ent_semantics.specs.Form.{Tables, closed_worth, known_worth, form_meaning, is_form_grounding}
+use Rattle.ent_semantics.specs.Form.{form_heads, form_posts}
+use Rattle.ent_semantics.specs.declared.entangled.Entangled.{Entangled as FormEntangled}
+use Rattle.ent_semantics.specs.declared.operand.Known.{Known}
+use Rattle.ent_semantics.specs.declared.statement.Statement.{Statement as FormStatement}
 use Rattle.ent_protocol.specs.Member.{environment_of}
 use Rattle.ent_protocol.specs.State.{Member, Use}
 use Rattle.ent_serializability.specs.Faithful.{table_number, is_used, is_owned}

@@ -17,14 +17,14 @@ use Rattle.ent_semantics.specs.Joint.{IsGrounded}
 use Rattle.ent_semantics.specs.Serial.{Operation, seen, numbered}
 use Rattle.ent_semantics.specs.Statement.{statement_meaning}
 use Rattle.ent_semantics.specs.Uses.{Covers, CoversAll}
-use Rattle.ent_closed.specs.Closing.{closed, closed_entangled}
-use Rattle.ent_closed.specs.Form.{Tables, closed_worth, known_worth, form_meaning, form_heads, form_bound}
-use Rattle.ent_closed.specs.Form.{is_form_grounding}
-use Rattle.ent_closed.specs.Kinds.{changed_tables}
-use Rattle.ent_closed.specs.declared.entangled.Entangled.{Entangled}
-use Rattle.ent_closed.specs.declared.operand.Known.{Known}
-use Rattle.ent_closed.specs.declared.statement.Statement.{Statement}
-use Rattle.ent_closed.specs.declared.statement.Statement.TheVariants as statements
+use Rattle.ent_semantics.specs.Closing.{closed, closed_entangled}
+use Rattle.ent_semantics.specs.Form.{Tables, closed_worth, known_worth, form_meaning, form_heads, form_bound}
+use Rattle.ent_semantics.specs.Form.{is_form_grounding}
+use Rattle.ent_semantics.specs.FormKinds.{changed_tables}
+use Rattle.ent_semantics.specs.declared.entangled.Entangled.{Entangled}
+use Rattle.ent_semantics.specs.declared.operand.Known.{Known}
+use Rattle.ent_semantics.specs.declared.statement.Statement.{Statement}
+use Rattle.ent_semantics.specs.declared.statement.Statement.TheVariants as statements
 use Rattle.ent_form_laws.specs.Tables.{database_of, AreWide, effect_of, Answers}
 use Rattle.ent_protocol.specs.Finish.{with_change, with_bound}
 use Rattle.ent_protocol.specs.Member.{Ordinary, statement_next, environment_of}

@@ -5,7 +5,7 @@ use Rattle.std.proofs.Common.{Ok, Err}
 use Rattle.std.proofs.Common.{slice_set, flat_map, nat_le}
 use Rattle.std.specs.List.{list_all}
 use Rattle.std.proofs.lemmas.List.{get_or-set_same}
-use Rattle.ent_set.specs.Sets as set
+use Rattle.ent_lists.specs.Sets as set
 use Rattle.ent_value.specs.declared.limits.TheConstants.{MOST_ROWS}
 use Rattle.ent_value.specs.declared.value.Value.{Value}
 use Rattle.ent_tree.specs.declared.declaration.Create.{Create}
@@ -18,13 +18,13 @@ use Rattle.ent_semantics.specs.Effect.{Effect, changed, or_overflow, insertion, 
 use Rattle.ent_semantics.specs.Entangled.{Valuation}
 use Rattle.ent_semantics.specs.Selection.{meets, selection, holds}
 use Rattle.ent_semantics.specs.Term.{expression_value}
-use Rattle.ent_closed.specs.Kinds.{changed_tables}
-use Rattle.ent_closed.specs.declared.entangled.Entangled.{Entangled}
-use Rattle.ent_closed.specs.declared.entangled.Membership.{Membership}
-use Rattle.ent_closed.specs.declared.statement.Statement.{Statement}
-use Rattle.ent_closed.specs.declared.statement.Statement.TheVariants as statements
-use Rattle.ent_closed.specs.Form.{Tables, table_numbered, closed_worth, operand_worth, term_worth, form_rows}
-use Rattle.ent_closed.specs.Form.{membership_holds, is_form_grounding, form_meaning}
+use Rattle.ent_semantics.specs.FormKinds.{changed_tables}
+use Rattle.ent_semantics.specs.declared.entangled.Entangled.{Entangled}
+use Rattle.ent_semantics.specs.declared.entangled.Membership.{Membership}
+use Rattle.ent_semantics.specs.declared.statement.Statement.{Statement}
+use Rattle.ent_semantics.specs.declared.statement.Statement.TheVariants as statements
+use Rattle.ent_semantics.specs.Form.{Tables, table_numbered, closed_worth, operand_worth, term_worth, form_rows}
+use Rattle.ent_semantics.specs.Form.{membership_holds, is_form_grounding, form_meaning}
 use Rattle.ent_protocol.specs.Finish.{variable_of, with_change, with_bound}
 use Rattle.ent_protocol.specs.Job.{Outcome, Shown, Changed, Bound, Choice, Fault, laid, tables_of}
 use Rattle.ent_protocol.specs.Job.{applied, rows_to_change, IsEffect}

@@ -9,9 +9,9 @@ use Rattle.ent_tree.specs.declared.script.Script.{Script}
 use Rattle.ent_semantics.specs.Database.{Database, opening_database}
 use Rattle.ent_semantics.specs.Serial.{numbered}
 use Rattle.ent_semantics.specs.declared.book.Fated.{Fated}
-use Rattle.ent_closed.specs.declared.operand.Known.{Known}
-use Rattle.ent_closed.specs.declared.statement.Statement.{Statement}
-use Rattle.ent_closed.specs.Form.{Tables}
+use Rattle.ent_semantics.specs.declared.operand.Known.{Known}
+use Rattle.ent_semantics.specs.declared.statement.Statement.{Statement}
+use Rattle.ent_semantics.specs.Form.{Tables}
 use Rattle.ent_protocol.specs.Job.{Work, One, Joint, tables_of}
 use Rattle.ent_protocol.specs.Member.{next_in, is_of}
 use Rattle.ent_protocol.specs.Reached.{opened}

@@ -16,11 +16,11 @@ use Rattle.ent_semantics.specs.Further.{behind, one_more}
 use Rattle.ent_semantics.specs.Joint.{IsGrounded}
 use Rattle.ent_semantics.specs.Serial.{Operation, Run, answered_first, after, run, seen, seen_after, read_views}
 use Rattle.ent_semantics.specs.Statement.{statement_meaning}
-use Rattle.ent_closed.specs.Closing.{closed}
-use Rattle.ent_closed.specs.declared.entangled.Entangled.{Entangled}
-use Rattle.ent_closed.specs.declared.operand.Known.{Known}
-use Rattle.ent_closed.specs.declared.statement.Statement.{Statement}
-use Rattle.ent_closed.specs.declared.statement.Statement.TheVariants as statements
+use Rattle.ent_semantics.specs.Closing.{closed}
+use Rattle.ent_semantics.specs.declared.entangled.Entangled.{Entangled}
+use Rattle.ent_semantics.specs.declared.operand.Known.{Known}
+use Rattle.ent_semantics.specs.declared.statement.Statement.{Statement}
+use Rattle.ent_semantics.specs.declared.statement.Statement.TheVariants as statements
 use Rattle.ent_protocol.specs.Member.{Ordinary, Asks, Commits, statement_next, end_next}
 use Rattle.ent_protocol.specs.Member.{environment_of, next_in}
 use Rattle.ent_protocol.specs.State.{Submitted, Member}

@@ -5,7 +5,7 @@ use Rattle.std.proofs.Common.{subst, ◌∙◌, inl, inr, append_assoc, slice_se
 use Rattle.std.specs.List.{AllByRecursion, filter, list_any}
 use Rattle.ent_tree.specs.declared.declaration.Create.{Create}
 use Rattle.ent_semantics.specs.Database.{Name, Rows, Database}
-use Rattle.ent_closed.specs.Form.{Tables}
+use Rattle.ent_semantics.specs.Form.{Tables}
 use Rattle.ent_form_laws.specs.Tables.{database_of, AreWide}
 use Rattle.ent_protocol.specs.Member.{is_tx}
 use Rattle.ent_protocol.specs.Rollback.{put_back}

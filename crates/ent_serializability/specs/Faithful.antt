@@ -13,12 +13,12 @@ use Rattle.ent_semantics.specs.Effect.{Effect}
 use Rattle.ent_semantics.specs.Entangled.{Valuation, written_variables, is_grounding, heads, posts}
 use Rattle.ent_semantics.specs.Statement.{statement_meaning}
 use Rattle.ent_semantics.specs.Uses.{uses, changes}
-use Rattle.ent_closed.specs.Closing.{closed}
-use Rattle.ent_closed.specs.Form.{Tables, known_worth, form_meaning, form_heads, form_posts, is_form_grounding}
-use Rattle.ent_closed.specs.declared.entangled.Entangled.{Entangled}
-use Rattle.ent_closed.specs.declared.operand.Known.{Known}
-use Rattle.ent_closed.specs.declared.statement.Statement.{Statement}
-use Rattle.ent_closed.specs.declared.statement.Statement.TheVariants as forms
+use Rattle.ent_semantics.specs.Closing.{closed}
+use Rattle.ent_semantics.specs.Form.{Tables, known_worth, form_meaning, form_heads, form_posts, is_form_grounding}
+use Rattle.ent_semantics.specs.declared.entangled.Entangled.{Entangled}
+use Rattle.ent_semantics.specs.declared.operand.Known.{Known}
+use Rattle.ent_semantics.specs.declared.statement.Statement.{Statement}
+use Rattle.ent_semantics.specs.declared.statement.Statement.TheVariants as forms
 use Rattle.ent_form_laws.specs.Tables.{database_of, AreWide, effect_of, Answers}
 use Rattle.ent_protocol.specs.Reached.{table_names}
 use Rattle.ent_protocol.specs.Run.{Forms}

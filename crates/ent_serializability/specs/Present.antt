@@ -1,7 +1,7 @@
 -- Uses that members hold, and what lent jobs saw.
 use Rattle.std.specs.Prelude.{◌≡◌, ◌≢◌, ℕ, true, false, List, Contains, slice_index_or}
-use Rattle.ent_set.specs.Sets as set
-use Rattle.ent_closed.specs.Form.{Tables}
+use Rattle.ent_lists.specs.Sets as set
+use Rattle.ent_semantics.specs.Form.{Tables}
 use Rattle.ent_coordination.specs.Pool.{Posted}
 use Rattle.ent_protocol.specs.Job.{Job, Single, One, Joint, tables_of}
 use Rattle.ent_protocol.specs.Member.{Ordinary, next_of}

@@ -15,9 +15,8 @@ ghost use Rattle.ent_serializability.specs.GroupRuns.{GroupRuns, UnownedIsSettle
 ghost use Rattle.ent_serializability.specs.Present.{LentIsPresent, UsesAreApart};
 ghost use Rattle.ent_serializability.specs.SerialState.{IsSerialState};
 
-use ent_closed::closing_keeps_the_meaning;
 use ent_protocol::commits_are_numbered;
-use ent_semantics::{runs_go_on, statements_keep_to_their_uses};
+use ent_semantics::{closing_keeps_the_meaning, runs_go_on, statements_keep_to_their_uses};
 
 /// Every state that is reached is a serial state: the committed transactions, run alone in the order of their commits,
 /// give the settled database, and the members of the run, each once, one after the other from there, give the present

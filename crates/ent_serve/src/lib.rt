@@ -2,8 +2,8 @@
 //!
 //! A [`Manager`] keeps an [`ent_desk::Desk`] behind one lock, and gives out sessions, one for each client.
 //! [`Manager::submit`] takes a script, [`Manager::work`] makes the next step, whoever submitted the script,
-//! [`Manager::fate`] tells the fate of a transaction, and [`Manager::close`] gives the book. [`serve`] does all of this
-//! for one input and a number of workers.
+//! [`Manager::fate`] tells the fate of a transaction, [`Manager::look`] shows the core, and [`Manager::close`] gives
+//! the book. [`serve`] does all of this for one input and a number of workers.
 //!
 //! Contracts promise that the core behind the lock is reached, and its book legal, each time a thread takes the lock;
 //! that sessions hold exactly what the manager was given and has committed; and that the book of [`serve`] is a
@@ -16,12 +16,12 @@ mod gate;
 mod manager;
 mod workers;
 
-pub use ent_core::PlayFault;
+pub use ent_core::{Core, PlayFault};
 pub use ent_desk::{
     Blanks, Both, CloseFault, First, Naming, NotSubmitted, Receipt, Seats, Session, SubmitFault,
     Ticket,
 };
 pub use fault::ServeFault;
 pub use gate::{Gate, Open};
-pub use manager::{Manager, NotClosed, Turn};
+pub use manager::{MOST_SESSIONS, Manager, NotClosed, Turn};
 pub use workers::{serve, serve_input};

@@ -2,6 +2,7 @@
 ghost use Rattle.std.specs.Prelude.{◌≡◌, ◌≢◌, ◌-◌, ◌<◌, ◌≤◌, ◌==◌, ◌∷◌};
 ghost use Rattle.std.specs.Prelude.{◌↔◌, None, Some, IfErr, IfOk, IfSome, OnErr, OnOk};
 ghost use Rattle.std.specs.Prelude.{find, length, replicate, vec_len};
+ghost use Rattle.std.specs.Fn.{FnOnceReturnsAt, FnOnceTakesAt};
 ghost use Rattle.ent_book.specs.Tables.{book_seen};
 ghost use Rattle.ent_core.specs.Play.{input_fault};
 ghost use Rattle.ent_desk.specs.Closed.{IsClosedBook};
@@ -10,11 +11,14 @@ ghost use Rattle.ent_desk.specs.Seen.{GetsReceipts, with_ticket};
 ghost use Rattle.ent_desk.specs.Told.{fate_of};
 ghost use Rattle.ent_desk.specs.declared.closing.CloseFault.TheVariants.{SessionsOut};
 ghost use Rattle.ent_form.specs.declared.fault.FormFault.{FormFault};
+ghost use Rattle.ent_protocol.specs.State.{State};
+ghost use Rattle.ent_serve.specs.Look.{IsBehindLock};
+ghost use Rattle.ent_serve.specs.declared.manager.TheConstants.{MOST_SESSIONS};
 ghost use Rattle.ent_value.specs.declared.refusal.Refusal.TheVariants.{Fault};
 
 use crate::gate::Gate;
 use ent_book::NamedTable;
-use ent_core::PlayFault;
+use ent_core::{Core, PlayFault};
 use ent_desk::{
     Advance, Blanks, CloseFault, Desk, Naming, NotSubmitted, Seats, Session, Stopped, open,
 };
@@ -25,6 +29,9 @@ use ent_tree::{Duplicate, Input, Script};
 use ent_value::{Refusal, Sequence};
 use std::alloc::{AllocError, Global};
 use std::sync::{Mutex, Wait};
+
+/// The most sessions of a manager.
+pub const MOST_SESSIONS: usize = 64;
 
 /// How far a call of [`Manager::work`] came.
 #[derive(Clone, Copy, Debug, PartialEq, Eq)]
@@ -58,9 +65,9 @@ pub struct NotClosed<L: Naming, G: Gate> {
 }
 
 impl<L: Naming, G: Gate> Manager<L, G> {
-    /// A manager over an input, whose scripts are submitted, in order, and so many sessions, the first of which has
-    /// their tickets; else the input's first fault of form. Each ledger of `blank` has a part for each session. It
-    /// waits for nobody.
+    /// A manager over an input, whose scripts are submitted, in order, and so many sessions, at least one and at most
+    /// [`MOST_SESSIONS`], the first of which has their tickets; else the input's first fault of form. Each ledger of
+    /// `blank` has a part for each session. It waits for nobody.
     pub fn open(
         alloc: Global,
         blank: Blanks,
@@ -69,6 +76,7 @@ impl<L: Naming, G: Gate> Manager<L, G> {
         sessions: usize,
     ) -> Result<(Self, Vec<Session<L>>), PlayFault>
         requires nonempty { 0 < sessions }
+        requires bound { sessions ≤ MOST_SESSIONS }
         requires names { (blank.scripts.name ≡ L.Scripts.name) × (blank.entries.name ≡ L.Entries.name) }
         requires blank { (blank.scripts.parts ≡ sessions) × (blank.entries.parts ≡ sessions) }
         requires scripts { (L.Scripts.seats ≡ sessions) × (L.Scripts.parts ≡ sessions) }
@@ -187,6 +195,18 @@ impl<L: Naming, G: Gate> Manager<L, G> {
             Some(fate) => Some(fate),
             None => self.desk.lock(rt).fate(tx),
         }
+    }
+
+    /// What a closure tells of the core, which it sees with the lock held: a core to which events led from its own
+    /// opening, and whose book is legal. It is to be quick, since nobody else gets on meanwhile, and to make no call of
+    /// the manager.
+    pub fn look<R: Wait, T, F: FnOnce(&Core) -> T>(&self, rt: &R, tell: F) -> T
+        requires { (core : State) → IsBehindLock core → FnOnceTakesAt F.FnOnce tell core }
+        ensures { (core : State) × IsBehindLock core × FnOnceReturnsAt F.FnOnce tell core result }
+    {
+        let desk = self.desk.lock(rt);
+        let told = tell(desk.core());
+        told
     }
 
     /// The book of all, where all sessions are given and every transaction has its fate; the sessions come back. Else

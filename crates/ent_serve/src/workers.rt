@@ -8,6 +8,7 @@ ghost use Rattle.ent_desk.specs.Seen.{SessionState};
 ghost use Rattle.ent_form.specs.declared.fault.FormFault.{FormFault};
 ghost use Rattle.ent_serve.specs.Seats.{KeepsSeats, SameSeats};
 ghost use Rattle.ent_serve.specs.declared.fault.ServeFault.TheVariants.{Form};
+ghost use Rattle.ent_serve.specs.declared.manager.TheConstants.{MOST_SESSIONS};
 ghost use Rattle.ent_value.specs.declared.refusal.Refusal.TheVariants.{Fault};
 
 use crate::bell::Bell;
@@ -152,9 +153,10 @@ fn close_all<L: Naming, G: Gate, R: Wait>(
     unreachable!()
 }
 
-/// Opens a manager over an input, has so many workers work on its scripts, each in a thread of its own and with a
-/// session of its own, until each has its fate, and closes it: the book. Else the input's first fault of form, or E502.
-/// Where memory runs out in any of them, all is dropped. The gate is called before each evaluation.
+/// Opens a manager over an input, has so many workers, 1 to [`MOST_SESSIONS`](crate::MOST_SESSIONS), work on its
+/// scripts, each in a thread of its own and with a session of its own, until each has its fate, and closes it: the
+/// book. Else the input's first fault of form, or E502. Where memory runs out in any of them, all is dropped. The gate
+/// is called before each evaluation.
 pub fn serve<L: Naming + Send + Sync, G: Gate + Sync, R: Threads + Wait + Sync>(
     rt: &R,
     alloc: Global,
@@ -164,6 +166,7 @@ pub fn serve<L: Naming + Send + Sync, G: Gate + Sync, R: Threads + Wait + Sync>(
     gate: G,
 ) -> Result<Book<Sequence<NamedTable>>, Refusal<ServeFault>>
     requires nonempty { 0 < workers }
+    requires bound { workers ≤ MOST_SESSIONS }
     requires names { (blank.scripts.name ≡ L.Scripts.name) × (blank.entries.name ≡ L.Entries.name) }
     requires blank { (blank.scripts.parts ≡ workers) × (blank.entries.parts ≡ workers) }
     requires scripts { (L.Scripts.seats ≡ workers) × (L.Scripts.parts ≡ workers) }
@@ -202,6 +205,7 @@ fn serve_by<
     gate: G,
 ) -> Result<Book<Sequence<NamedTable>>, Refusal<ServeFault>>
     requires nonempty { 0 < workers }
+    requires bound { workers ≤ MOST_SESSIONS }
     requires names { (blank.scripts.name ≡ S.name) × (blank.entries.name ≡ E.name) }
     requires blank { (blank.scripts.parts ≡ workers) × (blank.entries.parts ≡ workers) }
     requires scripts { (S.seats ≡ workers) × (S.parts ≡ workers) }
@@ -215,7 +219,7 @@ fn serve_by<
     serve::<Both<S, E>, G, R>(rt, alloc, blank, input, workers, gate)
 }
 
-/// [`serve`] for a caller who needs no session: with two ledgers of its own. There is one worker at least.
+/// [`serve`] for a caller who needs no session: with two ledgers of its own.
 pub fn serve_input<G: Gate + Sync, R: Threads + Wait + Sync>(
     rt: &R,
     alloc: Global,
@@ -223,7 +227,8 @@ pub fn serve_input<G: Gate + Sync, R: Threads + Wait + Sync>(
     workers: usize,
     gate: G,
 ) -> Result<Book<Sequence<NamedTable>>, Refusal<ServeFault>>
-    requires { 0 < workers }
+    requires nonempty { 0 < workers }
+    requires bound { workers ≤ MOST_SESSIONS }
     ensures served { IfOk result (λ book. IsServed input.opening input.scripts (book_seen book)) }
     ensures formed { OnOk result (input_fault input.opening input.scripts ≡ None) }
     ensures fault { IfErr result (λ refusal. (fault : FormFault)

@@ -4,7 +4,7 @@ ghost use Rattle.std.specs.Prelude.{◌≡◌};
 use crate::gates::{Flags, Hold};
 use anyhow::{Context, Result, ensure};
 use ent_semantics::Fate;
-use ent_serve::{Blanks, Both, Manager, Naming, Seats, Session, Turn};
+use ent_serve::{Blanks, Both, Core, Manager, Naming, Seats, Session, Turn};
 use ent_sql::parse_input;
 use std::alloc::{AllocError, Global};
 use std::marker::Brand;
@@ -28,9 +28,8 @@ fn work_on<'a, L: Naming, R: Wait>(
     for _ in rt.forever() {
         match manager.work(rt, &mut session) {
             Ok(Turn::Done) => break,
-            Ok(Turn::Idle) => thread::yield_now(),
+            Ok(Turn::Idle) | Err(AllocError) => thread::yield_now(),
             Ok(Turn::Moved) => {}
-            Err(AllocError) => break,
         }
         if session.fate(2).is_some() {
             flags.release();
@@ -95,6 +94,11 @@ fn check_of<L: Naming + Send + Sync, R: Threads + Wait + Sync>(
     for session in &sessions {
         ensure!(are_told(rt, &manager, session), "a fate is another");
     }
+    let length_of = |core: &Core| -> usize { core.journal().len() };
+    ensure!(
+        manager.look(rt, length_of) == 2,
+        "a look tells another journal"
+    );
     let (book, _) = manager
         .close(sessions)
         .ok()

@@ -1,7 +1,7 @@
 //! The load: a manager, and its clients in threads.
 ghost use Rattle.std.specs.Prelude.{◌≡◌};
 
-use crate::client::{Client, serve};
+use crate::client::{Client, Tally, serve};
 use anyhow::{Context, Result};
 use ent_serve::{Blanks, Both, Manager, Naming, Open, Seats, Session};
 use ent_sql::parse_input;
@@ -27,7 +27,7 @@ INSERT INTO Stock VALUES (2, 200);
 pub(crate) struct Load {
     pub(crate) commits: usize,
     pub(crate) took: Duration,
-    pub(crate) longest: Duration,
+    pub(crate) tally: Tally,
 }
 
 /// So many scripts of one client: each looks at the stock, and orders an item.
@@ -56,7 +56,7 @@ fn seated<L: Naming>(
         clients.push(Client {
             session,
             scripts: scripts_of(alloc, number, count)?,
-            longest: Duration::ZERO,
+            tally: Tally::new(),
         })?;
     }
     Ok(clients)
@@ -83,10 +83,10 @@ fn load_of<L: Naming + Send + Sync, R: Threads + Wait + Clock + Sync>(
     let start = Instant::now(rt)?;
     let clients = thread::map_vec(rt, clients, &work)?;
     let took = start.elapsed(rt)?;
-    let mut longest = Duration::ZERO;
+    let mut tally = Tally::new();
     let mut sessions = Vec::new(alloc);
     for client in clients {
-        longest = longest.max(client.longest);
+        tally.add(client.tally);
         sessions.push(client.session)?;
     }
     let (book, _) = manager
@@ -96,7 +96,7 @@ fn load_of<L: Naming + Send + Sync, R: Threads + Wait + Clock + Sync>(
     Ok(Load {
         commits: book.journal.len(),
         took,
-        longest,
+        tally,
     })
 }
 

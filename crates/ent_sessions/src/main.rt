@@ -2,16 +2,19 @@
 //! of which prints the same for every schedule:
 //!
 //! - sessions of two threads, each held at a gate until the other has come far enough; a manager that called the gate
-//!   with the lock held, or did jobs one after the other, would exceed the limit of polls;
+//!   with the lock held would exceed the limit of polls. So a lent job waits at the gate with no lock held. A manager
+//!   that took the lock behind the gate, for the evaluation, would go through all of this;
 //! - two friends who book through one session, in one thread, where each call that runs out of memory is made again:
 //!   once with their scripts submitted one by one, and once with a manager that is opened over them;
-//! - the load of an ordinary service: eight sessions in threads, each of which submits 50 scripts while all work.
+//! - the load of an ordinary service: eight sessions in threads, each of which submits 50 scripts while all work. Each
+//!   call that runs out of memory is made again.
 //!
-//! With the word `memory` it makes the second run alone: `tools/check refusals --sessions` refuses its allocations in
-//! turn. Standard error says which call was made again, if any was. If memory runs out outside the manager, while the
-//! text is read or a report is made, the program ends with status 1 and writes nothing. With `load [COUNT]` it makes
-//! the third run alone, with so many scripts a session. Standard error says how long it took, and how long a submit
-//! waited at most.
+//! With the word `memory` it makes the second run alone, and with `load [COUNT]` the third one, with so many scripts a
+//! session. `tools/check refusals --sessions` refuses the allocations of both in turn; of the third one, so, a call of
+//! one session in the midst of the others'. Standard error says which call was made again in the second run, and how
+//! many were in the third, if any was. If memory runs out outside the manager, while a text is read or a report is
+//! made, the program ends with status 1 and writes nothing. Of the third run standard error also says how long it took,
+//! and how long a submit waited at most.
 #![tactic(auto)]
 
 mod again;
@@ -102,8 +105,11 @@ fn main(rt: HostRuntime) -> Result<()> {
         eprintln!(rt;
             "{} ms, longest wait of a submit {} us",
             load.took.as_millis(),
-            load.longest.as_micros()
+            load.tally.longest.as_micros()
         )?;
+        if load.tally.again > 0 {
+            eprintln!(rt; "calls made again: {}", load.tally.again)?;
+        }
     }
     Ok(())
 }

@@ -3,3 +3,4 @@ pub mod Notes
 pub mod Changing
 pub mod Leaving
 pub mod Opening
+pub mod Settled

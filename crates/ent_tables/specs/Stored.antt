@@ -2,13 +2,14 @@
 use Rattle.std.specs.Prelude.{◌≡◌, ℕ, ◌==◌, Bool, not, List, [], ◌∷◌, map, reverse, slice_get, slice_index_or}
 use Rattle.std.specs.Prelude.{slice_set, Some}
 use Rattle.std.specs.List.{AllByRecursion, filter, list_any}
-use Rattle.ent_set.specs.Sets as set
+use Rattle.ent_lists.specs.Sets as set
 use Rattle.ent_value.specs.declared.value.Kind.{Kind}
 use Rattle.ent_value.specs.declared.value.Value.{Value}
 use Rattle.ent_tree.specs.declared.declaration.Create.{Create}
 use Rattle.ent_rel.specs.Relation.{Relation}
 use Rattle.ent_undo.specs.Change.{Change as Noted}
-use Rattle.ent_closed.specs.Form.{Tables}
+use Rattle.ent_semantics.specs.Database.{Rows}
+use Rattle.ent_semantics.specs.Form.{Tables}
 use Rattle.ent_select.specs.Tables.{kinds_in, rows_in}
 use Rattle.ent_protocol.specs.Finish.{noted, with_change}
 use Rattle.ent_protocol.specs.Rollback.{is_among, put_back}
@@ -53,6 +54,13 @@ relation_at stored table =
       kinds = slice_index_or stored.kinds table [];
       rows = slice_index_or stored.tables table set.empty;
     }
+
+-- the rows of a table, and the kinds of its columns
+abbrev pub rows_of : Relation → Rows
+rows_of table = table.rows
+
+abbrev pub kinds_of : Relation → List Kind
+kinds_of table = table.kinds
 
 -- ---- what becomes of it
 

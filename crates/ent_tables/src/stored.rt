@@ -7,15 +7,16 @@ ghost use Rattle.ent_tree.specs.declared.declaration.Create.{Create};
 ghost use Rattle.ent_form.specs.Catalogue.{schemas_of};
 ghost use Rattle.ent_form.specs.OpeningFault.{opening_fault};
 ghost use Rattle.ent_select.specs.Tables.{kinds_in, rows_in};
-ghost use Rattle.ent_eval.specs.Change.{IsApplicable};
+ghost use Rattle.ent_effect.specs.Change.{IsApplicable};
 ghost use Rattle.ent_protocol.specs.Member.{seen_now};
 ghost use Rattle.ent_protocol.specs.Reached.{opened};
+ghost use Rattle.ent_protocol.specs.Rollback.{put_back};
 ghost use Rattle.ent_protocol.specs.State.{Member};
-ghost use Rattle.ent_tables.specs.Stored.{changed, kinds_declared, relation_at, rolled_back, rolled_back_with};
-ghost use Rattle.ent_tables.specs.Stored.{settled, settled_with, taken_back};
+ghost use Rattle.ent_tables.specs.Stored.{changed, kinds_declared, kinds_of, relation_at, rolled_back};
+ghost use Rattle.ent_tables.specs.Stored.{rolled_back_with, rows_of, settled, settled_with, taken_back};
 
 use crate::at_number::tables_seen;
-use ent_eval::table_changed;
+use ent_effect::table_changed;
 use ent_form::Catalogue;
 use ent_group::{Members, Tx};
 use ent_loading::load_tables;
@@ -87,6 +88,19 @@ impl StoredTables {
         match self.tables.get(number) {
             Some(table) => Some(&**table),
             None => None,
+        }
+    }
+
+    /// The table of a number as it stood before the first change of it that may still be taken back, else as it stands,
+    /// where there is one. It takes no memory.
+    pub fn settled(&self, number: usize) -> Option<&Arc<Table>>
+        ensures rows { option_map (λ table. rows_of (arc_value table.now)) result
+            ≡ slice_get (put_back self.now.changes self.now.tables) number }
+        ensures kinds { option_map (λ table. kinds_of (arc_value table.now)) result ≡ slice_get self.now.kinds number }
+    {
+        match self.log.oldest_of(number) {
+            Some(before) => Some(before),
+            None => self.tables.get(number),
         }
     }
 

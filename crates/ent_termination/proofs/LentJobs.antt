@@ -6,8 +6,8 @@ use Rattle.ent_tree.specs.declared.script.End.{End}
 use Rattle.ent_tree.specs.declared.script.End.TheVariants as ends
 use Rattle.ent_tree.specs.declared.script.Script.{Script}
 use Rattle.ent_semantics.specs.Serial.{numbered}
-use Rattle.ent_closed.specs.declared.operand.Known.{Known}
-use Rattle.ent_closed.specs.declared.statement.Statement.{Statement}
+use Rattle.ent_semantics.specs.declared.operand.Known.{Known}
+use Rattle.ent_semantics.specs.declared.statement.Statement.{Statement}
 use Rattle.ent_coordination.specs.Pool.{Posted}
 use Rattle.ent_protocol.specs.Begin.{single_job}
 use Rattle.ent_protocol.specs.Finish.{IsTaken}

@@ -4,7 +4,7 @@ use Rattle.std.proofs.Common.{subst, Contains}
 use Rattle.std.specs.Prelude.{◌↔◌}
 use Rattle.ent_protocol_laws.proofs.ByNumber.{posted_tx}
 use Rattle.ent_protocol_laws.specs.Numbered.{Below, one_of, same_lists, below_apart}
-use Rattle.ent_closed.specs.Closing.{closed}
+use Rattle.ent_semantics.specs.Closing.{closed}
 use Rattle.ent_coordination.specs.Component.{SetOfTransactions, IsComponent, IsInRemainder, AreJoined}
 use Rattle.ent_coordination.specs.Pool.{Posted}
 use Rattle.ent_protocol.specs.Member.{pool}

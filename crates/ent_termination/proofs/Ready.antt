@@ -4,8 +4,8 @@ use Rattle.std.proofs.Common.{refl, sym, ap, subst, ◌∙◌, Option, Some, Non
 use Rattle.std.specs.List.{filter}
 use Rattle.ent_value.specs.declared.value.Value.{Value}
 use Rattle.ent_semantics.specs.declared.book.Fated.{Fated}
-use Rattle.ent_closed.specs.declared.entangled.Entangled.{Entangled}
-use Rattle.ent_closed.specs.declared.statement.Statement.{Statement}
+use Rattle.ent_semantics.specs.declared.entangled.Entangled.{Entangled}
+use Rattle.ent_semantics.specs.declared.statement.Statement.{Statement}
 use Rattle.ent_protocol.specs.Begin.{Begins, BeginsCommit, BeginsEntangled, BeginsMember, BeginsNext, BeginsOrdinary}
 use Rattle.ent_protocol.specs.Begin.{BeginsUnless, Posts}
 use Rattle.ent_protocol.specs.Commit.{preparing, is_ready}

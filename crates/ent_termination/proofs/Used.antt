@@ -8,7 +8,7 @@ use Rattle.ent_value.specs.declared.value.Value.{Value}
 use Rattle.ent_group.specs.declared.members.TheConstants.{MOST_MEMBERS}
 use Rattle.ent_semantics.specs.Entangled.{Valuation}
 use Rattle.ent_semantics.specs.declared.book.Fate.{Fate}
-use Rattle.ent_closed.specs.declared.statement.Statement.{Statement}
+use Rattle.ent_semantics.specs.declared.statement.Statement.{Statement}
 use Rattle.ent_coordination.specs.Pool.{Posted}
 use Rattle.ent_protocol.specs.Begin.{lending, posting, replaced}
 use Rattle.ent_protocol.specs.Commit.{committing, preparing}

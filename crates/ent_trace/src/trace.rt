@@ -60,7 +60,7 @@ impl<E: Eprint> Watcher for Trace<'_, E> {
     type Mark = u64;
 
     // What is written isn't said here.
-    ghost hears = { λ old one new. Unit {0} };
+    ghost hears = { λ old heard new. Unit {0} };
 
     ghost marks = { λ mark done. Unit {0} };
 

@@ -85,6 +85,23 @@ newest_first members (c ∷ log) tables = by (is_of members c) refl (newest_firs
     by true mine rest = rolled_back-older members c log tables mine ∙ ap (λ ts. set ts c.table c.before) rest
     by false other rest = rolled_back-other members c log tables other ∙ rest
 
+-- the oldest record of a table holds what stood before the oldest change of it
+pub oldest_seen : (table : ℕ) (records : List UndoRecord)
+    → option_map (λ (undo : UndoRecord). arc_value undo.before) (find (λ undo. undo.table == table) records)
+    ≡ option_map (λ (change : Change). change.before) (find (λ change. change.table == table) (changes_in records))
+oldest_seen table [] = refl
+oldest_seen table (r ∷ records) = by (r.table == table) (oldest_seen table records)
+  where
+    by : (b : Bool)
+        → option_map (λ (undo : UndoRecord). arc_value undo.before) (find (λ undo. undo.table == table) records)
+        ≡ option_map (λ (change : Change). change.before) (find (λ change. change.table == table) (changes_in records))
+        → option_map (λ (undo : UndoRecord). arc_value undo.before)
+        (cond b (Some r) (find (λ undo. undo.table == table) records))
+        ≡ option_map (λ (change : Change). change.before)
+        (cond b (Some (change_of r)) (find (λ change. change.table == table) (changes_in records)))
+    by true rest = refl
+    by false rest = rest
+
 module _ (members : List ℕ) (records now : List UndoRecord) (left j : ℕ) (r : UndoRecord) (above : left ≡ j + 1)
     (len : length now ≡ length records) (within : left ≤ length records)
     (rest : take left now ≡ take left records) (at : r ≡ get_or now j r) where

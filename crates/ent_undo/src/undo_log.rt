@@ -1,6 +1,7 @@
 //! The log of the tables that transactions changed, each as it stood before.
-ghost use Rattle.std.specs.Prelude.{◌≡◌, List, [], ◌∷◌, ◌++◌, map, filter, OnOk, OnErr, IfErr, slice_set};
+ghost use Rattle.std.specs.Prelude.{◌≡◌, ◌==◌, List, [], ◌∷◌, ◌++◌, map, filter, find, OnOk, OnErr, IfErr, slice_set};
 ghost use Rattle.std.specs.Arc.{arc_value};
+ghost use Rattle.std.specs.Option.{option_copied, option_map};
 ghost use Rattle.ent_undo.specs.Change.{Change, of_others, rolled_back};
 ghost use Rattle.ent_undo.specs.Records.{changes_in, is_record_of_others};
 
@@ -42,6 +43,13 @@ fn put_back(records: &mut [UndoRecord], members: &Members, tables: &mut [Arc<Tab
             exchange(&mut records[index], tables);
         }
     }
+}
+
+/// The first record of a table, where there is one.
+fn first_of(records: &[UndoRecord], table: usize) -> Option<&UndoRecord>
+    ensures { option_copied result ≡ find (λ undo. undo.table == table) records.now }
+{
+    records.iter().find(|undo| undo.table == table)
 }
 
 /// Takes these transactions' records out.
@@ -131,6 +139,17 @@ impl UndoLog {
     {
         if let Some(mut undo) = self.records.pop() {
             exchange(&mut undo, tables);
+        }
+    }
+
+    /// A table as it stood before the oldest change of it that is noted, where one is. It takes no memory.
+    pub fn oldest_of(&self, table: usize) -> Option<&Arc<Table>>
+        ensures { option_map (λ before. arc_value before.now) result
+            ≡ option_map (λ change. change.before) (find (λ change. change.table == table) self.now) }
+    {
+        match first_of(self.records.as_slice(), table) {
+            Some(oldest) => Some(&oldest.before),
+            None => None,
         }
     }
 

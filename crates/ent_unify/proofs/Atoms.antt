@@ -10,9 +10,9 @@ use Rattle.ent_value.specs.declared.value.Value.TheVariants.{Int, Text}
 use Rattle.ent_semantics.specs.Entangled.{Valuation}
 use Rattle.ent_semantics.specs.Kinds.{IsOfKind}
 use Rattle.ent_semantics.specs.Term.{no_value}
-use Rattle.ent_closed.specs.Form.{term_worth}
-use Rattle.ent_closed.specs.declared.entangled.Atom.{Atom}
-use Rattle.ent_closed.specs.declared.entangled.Term.{Term}
+use Rattle.ent_semantics.specs.Form.{term_worth}
+use Rattle.ent_semantics.specs.declared.entangled.Atom.{Atom}
+use Rattle.ent_semantics.specs.declared.entangled.Term.{Term}
 use Rattle.ent_coordination.specs.Pool.{AreOfKinds, Unify, fact_under}
 use Rattle.ent_unify.specs.Side.{Assignment, worth, side_kind}
 use Rattle.ent_unify.specs.Equation.{HaveSolution, AreRefuted, IsDecided}

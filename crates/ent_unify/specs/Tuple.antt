@@ -3,8 +3,8 @@ use Rattle.std.specs.Prelude.{◌≢◌, ℕ, List, [], ◌∷◌, Option, Some,
 use Rattle.ent_value.specs.declared.value.Kind.{Kind}
 use Rattle.ent_value.specs.declared.value.Value.{Value}
 use Rattle.ent_semantics.specs.Term.{no_value}
-use Rattle.ent_closed.specs.declared.entangled.Term.{Term}
-use Rattle.ent_closed.specs.declared.entangled.Term.TheVariants as terms
+use Rattle.ent_semantics.specs.declared.entangled.Term.{Term}
+use Rattle.ent_semantics.specs.declared.entangled.Term.TheVariants as terms
 use Rattle.ent_unify.specs.declared.tuple.Tuple.{Tuple}
 use Rattle.ent_unify.specs.declared.variable.Representative.{Representative}
 use Rattle.ent_unify.specs.declared.variable.Representative.TheVariants.{Constant, Variable}

@@ -8,7 +8,7 @@ use Rattle.ent_value.specs.declared.value.Kind.{Kind}
 use Rattle.ent_value.specs.declared.value.Value.{Value}
 use Rattle.ent_semantics.specs.Entangled.{Valuation}
 use Rattle.ent_semantics.specs.Term.{no_value}
-use Rattle.ent_closed.specs.declared.entangled.Atom.{Atom}
+use Rattle.ent_semantics.specs.declared.entangled.Atom.{Atom}
 use Rattle.ent_coordination.specs.Pool.{AreOfKinds, fact_under}
 use Rattle.ent_unify.specs.declared.unifier.Binding.{Binding}
 use Rattle.ent_unify.specs.declared.unifier.MemberAtom.{MemberAtom}

@@ -4,7 +4,7 @@ ghost use Rattle.ent_coordination.specs.Pool.{Unify};
 ghost use Rattle.ent_unify.specs.Unifier.{AreApart};
 
 use crate::tuple::Tuple;
-use ent_closed::Atom;
+use ent_semantics::Atom;
 use ent_value::{Kind, Value};
 
 pub(crate) fn has_relation_of(atom: &Atom<Value>, other: &Atom<Value>) -> bool

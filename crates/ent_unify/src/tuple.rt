@@ -8,7 +8,7 @@ ghost use Rattle.ent_unify.specs.Tuple.{AreOtherValues, term_side, tuple_equatio
 use crate::equation::{Equation, solve};
 use crate::side::{Side, value_is_within_bounds};
 use crate::variable::Variable;
-use ent_closed::Term;
+use ent_semantics::Term;
 use ent_tree::MOST_PARTS;
 use ent_value::{Kind, Value};
 

@@ -15,7 +15,7 @@ use crate::equation::{Equation, solve};
 use crate::side::Side;
 use crate::tuple::Tuple;
 use crate::variable::{Representative, Variable};
-use ent_closed::Atom;
+use ent_semantics::Atom;
 use ent_value::{Kind, Value};
 use std::alloc::{AllocError, Global};
 use std::marker::Model;

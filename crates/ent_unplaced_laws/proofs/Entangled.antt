@@ -1,7 +1,7 @@
 -- What an entangled statement offers, demands, answers and binds hangs on no place.
 use Rattle.std.proofs.Common.{◌≡◌, ◌&&◌, ◌==◌, List, [], ◌∷◌, ◌++◌, length, map, flat_map, refl, ap, ◌∙◌, Option}
 use Rattle.std.proofs.Common.{Some, None}
-use Rattle.ent_set.specs.Sets as set
+use Rattle.ent_lists.specs.Sets as set
 use Rattle.ent_value.specs.declared.value.Value.{Value}
 use Rattle.ent_tree.specs.Places.{unplaced_identifier, unplaced_term, unplaced_item, unplaced_condition}
 use Rattle.ent_tree.specs.Places.{unplaced_entangled}

@@ -12,10 +12,10 @@ use Rattle.ent_semantics.specs.Database.{opening_database}
 use Rattle.ent_semantics.specs.Entangled.{written_variables}
 use Rattle.ent_semantics.specs.Serial.{numbered}
 use Rattle.ent_book.specs.Report2.{member_variables, script_statement, statement_variables}
-use Rattle.ent_closed.specs.declared.entangled.Entangled.{Entangled}
-use Rattle.ent_closed.specs.declared.operand.Known.{Known}
-use Rattle.ent_closed.specs.declared.statement.Statement.{Statement}
-use Rattle.ent_closed.specs.declared.statement.Statement.TheVariants as forms
+use Rattle.ent_semantics.specs.declared.entangled.Entangled.{Entangled}
+use Rattle.ent_semantics.specs.declared.operand.Known.{Known}
+use Rattle.ent_semantics.specs.declared.statement.Statement.{Statement}
+use Rattle.ent_semantics.specs.declared.statement.Statement.TheVariants as forms
 use Rattle.ent_form.specs.AllFaults.{fault_of, head_of}
 use Rattle.ent_form.specs.Catalogue.{schemas_of}
 use Rattle.ent_form.specs.Form.{script_in, statement_in}

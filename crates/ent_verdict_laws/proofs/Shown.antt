@@ -1,6 +1,6 @@
 -- The tables that a history shows are shown so by its book.
 use Rattle.std.proofs.Common.{◌≡◌, ◌≢◌, List, [], ◌∷◌, map, refl, sym, ap, ◌∙◌, inl, inr}
-use Rattle.ent_set.specs.Sets as set
+use Rattle.ent_lists.specs.Sets as set
 use Rattle.ent_tree.specs.declared.declaration.Create.{Create}
 use Rattle.ent_semantics.specs.Database.{Database, Name}
 use Rattle.ent_history.specs.declared.history.History.{History}

@@ -10,12 +10,12 @@ ghost use Rattle.ent_waits.specs.Free.{IsFree, is_posting};
 ghost use Rattle.ent_waits.specs.Waits.{state_with};
 
 use crate::waiting::is_waiting;
-use ent_closed::Statement;
 use ent_group::Tx;
 use ent_job::Job;
 use ent_members::Member;
 use ent_next::{SubmittedScript, next_form};
 use ent_run::Run;
+use ent_semantics::Statement;
 
 /// Whether a member that isn't prepared is at its turn, and nobody blocks what it does next. It takes no memory.
 pub(crate) fn is_free(

@@ -2,7 +2,7 @@
 ghost use Rattle.std.specs.Prelude.{◌≡◌, ◌↔◌, IfOk, IsTrue, false};
 ghost use Rattle.ent_value.specs.declared.value.Value.{Value};
 ghost use Rattle.ent_lock.specs.Use.{IsLeastIfAny};
-ghost use Rattle.ent_closed.specs.declared.entangled.Entangled.{Entangled};
+ghost use Rattle.ent_semantics.specs.declared.entangled.Entangled.{Entangled};
 ghost use Rattle.ent_coordination.specs.Pool.{IsSafe};
 ghost use Rattle.ent_pool_laws.specs.Pooled.{IsPoolOf};
 ghost use Rattle.ent_protocol.specs.Begin.{pool_with};

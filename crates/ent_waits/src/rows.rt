@@ -10,12 +10,12 @@ ghost use Rattle.ent_waits.specs.Waits.{awaits_now, nothing};
 
 use crate::changers::{ChangersRow, row_of_changer};
 use crate::waiting::is_waiting;
-use ent_closed::{Known, Statement};
 use ent_group::{MOST_MEMBERS, Row, Tx, with_mark};
 use ent_job::Job;
 use ent_members::{Member, Use, exclusive_table, statement_uses};
 use ent_next::{SubmittedScript, next_form};
 use ent_run::Run;
+use ent_semantics::{Known, Statement};
 
 /// Those of a group who ask for uses: whoever of it does, or one member only.
 #[derive(Clone, Copy)]

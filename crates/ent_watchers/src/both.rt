@@ -1,7 +1,7 @@
 //! Two watchers that are told the same.
 ghost use Rattle.ent_core.specs.Reply.{reply_seen};
 ghost use Rattle.ent_protocol.specs.Event.{Event};
-ghost use Rattle.ent_sched.specs.Watching.{TellsOf};
+ghost use Rattle.ent_sched.specs.Watching.{TellsOf, heard_of};
 
 use ent_core::{Core, Reply};
 use ent_eval::Done;
@@ -35,7 +35,7 @@ fn parted<A: Watcher, B: Watcher>(told: Told<(A::Mark, B::Mark)>) -> (Told<A::Ma
 impl<A: Watcher, B: Watcher> Watcher for Both<A, B> {
     type Mark = (A::Mark, B::Mark);
 
-    ghost hears = { λ old one new. A.hears old.first one new.first × B.hears old.second one new.second };
+    ghost hears = { λ old heard new. A.hears old.first heard new.first × B.hears old.second heard new.second };
 
     ghost marks = { λ mark done. A.marks mark.0 done × B.marks mark.1 done };
 
@@ -52,8 +52,8 @@ impl<A: Watcher, B: Watcher> Watcher for Both<A, B> {
     fn tell(&mut self, told: Told<(A::Mark, B::Mark)>, reply: &Reply, core: &Core)
         ensures { (event : Event)
             → TellsOf (λ mark done. A.marks mark.0 done × B.marks mark.1 done) told event
-            → A.hears self.old.first (event, reply_seen reply.now) self.new.first
-            × B.hears self.old.second (event, reply_seen reply.now) self.new.second }
+            → A.hears self.old.first (heard_of event (reply_seen reply.now) core.now) self.new.first
+            × B.hears self.old.second (heard_of event (reply_seen reply.now) core.now) self.new.second }
     {
         let (first, second) = parted::<A, B>(told);
         self.first.tell(first, reply, core);

@@ -28,7 +28,7 @@ impl<E: Eprint, D: Display + Drop> Watcher for Foreword<'_, E, D> {
     type Mark = ();
 
     // What is written isn't said here.
-    ghost hears = { λ old one new. Unit {0} };
+    ghost hears = { λ old heard new. Unit {0} };
 
     ghost marks = { λ mark done. Unit {0} };
 

@@ -1,10 +1,10 @@
 //! A look at a core: what stops the members of its run.
-use ent_closed::{Atom, Term};
 use ent_core::{BeginRefusal, Core, Obstacle};
 use ent_group::{Members, Tx};
 use ent_match::Demand;
 use ent_members::Conflict;
 use ent_reasons::{Block, Need, Observation, Observations};
+use ent_semantics::{Atom, Term};
 use ent_tree::{Duplicate, Opening};
 use ent_value::{Value, print_value};
 use std::alloc::{AllocError, Global};

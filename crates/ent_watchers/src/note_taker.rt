@@ -155,7 +155,7 @@ fn see(
 impl Watcher for NoteTaker {
     type Mark = Option<Members>;
 
-    ghost hears = { λ old one new. IsHeard old.notes one new.notes };
+    ghost hears = { λ old heard new. IsHeard old.notes heard.one new.notes };
 
     ghost marks = { Marks };
 

@@ -1,5 +1,5 @@
 use Rattle.std.proofs.Common.{◌≡◌, ◌∙◌, List, ap}
-use Rattle.ent_set.specs.Sets as set
+use Rattle.ent_lists.specs.Sets as set
 use Rattle.ent_tree.specs.declared.declaration.Create.{Create}
 use Rattle.ent_semantics.specs.Database.{opening_database}
 use Rattle.ent_book.specs.Report2.{declared_columns}

@@ -1,5 +1,5 @@
 use Rattle.std.proofs.Common.{◌≡◌, take, map}
-use Rattle.ent_closed.specs.Form.{atom_fact}
+use Rattle.ent_semantics.specs.Form.{atom_fact}
 use Rattle.ent_select.specs.Worth.{itself}
 use Rattle.ent_check.proofs.facts.facts_of.Given as goal
 

@@ -1,8 +1,8 @@
 use Rattle.std.proofs.Common.{◌∙◌, ap}
 use Rattle.std.specs.List.{list_any}
 use Rattle.std.specs.Ordering.{eq_by_cmp}
-use Rattle.ent_set.specs.Laws.{contains-list, from_list-ascending}
-use Rattle.ent_set.specs.Sets as set
+use Rattle.ent_lists.specs.Laws.{contains-list, from_list-ascending}
+use Rattle.ent_lists.specs.Sets as set
 use Rattle.ent_value.specs.Order.{exact_rows, rows_total}
 use Rattle.ent_value.specs.Value.{row_cmp}
 use Rattle.ent_check.proofs.ground.is_among.Goals as goal

@@ -1,4 +1,4 @@
-use Rattle.std.proofs.Common.{◌≡◌, ◌++◌, [], true, false, sym, ap, ◌∙◌, arith, rules, is_some}
+use Rattle.std.proofs.Common.{◌≡◌, [], true, false, sym, ap, ◌∙◌, is_some}
 use Rattle.ent_semantics.specs.Book.{all_members}
 use Rattle.ent_rules.specs.Account.{accounts_from}
 use Rattle.ent_rules.specs.Joint.{left_out_findings, members_findings}

@@ -1,5 +1,4 @@
 use Rattle.std.proofs.Common.{◌≡◌, true, false, sym, ap, ◌∙◌, arith, rules, is_some}
-use Rattle.ent_rules.specs.Account.{commit_number}
 use Rattle.ent_rules.specs.Joint.{all_stand}
 use Rattle.ent_check.proofs.Accounts.{account_of}
 use Rattle.ent_check.proofs.Joints.{members_in}

@@ -1,5 +1,4 @@
-use Rattle.std.proofs.Common.{◌≡◌, ◌+◌, ◌<◌, ◌≤◌, true, false, length, sym, ◌∙◌, arith, rules}
-use Rattle.std.specs.List.{list_all}
+use Rattle.std.proofs.Common.{◌≡◌, ◌<◌, ◌≤◌, true, false, length, sym, ◌∙◌, arith, rules}
 use Rattle.ent_rules.specs.Account.{accounts_from}
 use Rattle.ent_check.proofs.Joints.{judged_all, judged_begun, judged_more, judged_off}
 use Rattle.ent_check.proofs.joint.members_finding.Goals as goal

@@ -1,4 +1,4 @@
-use Rattle.std.proofs.Common.{◌≡◌, ◌+◌, ◌<◌, ◌≤◌, true, false, length, filter, refl, sym, ap, subst, ◌∙◌, arith, rules}
+use Rattle.std.proofs.Common.{◌≡◌, ◌+◌, ◌<◌, ◌≤◌, true, false, length, filter, sym, ap, subst, ◌∙◌, arith, rules}
 use Rattle.ent_tree.specs.declared.declaration.OpeningRow.{OpeningRow}
 use Rattle.ent_semantics.specs.Database.{row_of, same_name}
 use Rattle.ent_check.proofs.Posts.{mapped_many}

@@ -1,4 +1,4 @@
-use Rattle.std.proofs.Common.{◌≡◌, ◌<◌, ◌≤◌, ◌^◌, length, sum_by, ap, subst, ◌∙◌, arith, rules}
+use Rattle.std.proofs.Common.{◌<◌, ◌≤◌, ◌^◌, length, sum_by, ap, subst, ◌∙◌, arith, rules}
 use Rattle.ent_check.proofs.Sums.{all_taken}
 use Rattle.ent_check.proofs.line.total.Goals as goal
 

@@ -1,6 +1,6 @@
 use Rattle.std.proofs.Common.{◌≡◌, ◌<◌, true, false, length, map, sym, ap, subst, ◌∙◌, arith, rules, IfOk}
 use Rattle.std.specs.Arc.{arc_value}
-use Rattle.ent_set.specs.Sets as set
+use Rattle.ent_lists.specs.Sets as set
 use Rattle.ent_select.specs.Tables.{rows_in}
 use Rattle.ent_semantics.specs.Database.{Rows, same_name}
 use Rattle.ent_check.proofs.Found.{NamedBehind, named_here, named_later, named_nowhere}

@@ -1,14 +1,14 @@
 use Rattle.std.proofs.Common.{◌≡◌, ◌<◌, ℕ, [], ◌∷◌, length, map, refl, sym, ap, subst, ◌∙◌}
 use Rattle.std.specs.Arc.{arc_value}
 use Rattle.std.specs.Prelude.{slice_index_or, slice_set}
-use Rattle.ent_set.specs.Sets as set
-use Rattle.ent_closed.specs.Form.{closed_worth, form_meaning}
-use Rattle.ent_closed.specs.Kinds.{tables_named}
+use Rattle.ent_lists.specs.Sets as set
+use Rattle.ent_semantics.specs.Form.{closed_worth, form_meaning}
+use Rattle.ent_semantics.specs.FormKinds.{tables_named}
 use Rattle.ent_closing.specs.Environment.{environment_of}
-use Rattle.ent_eval.specs.Change.{IsApplicable}
-use Rattle.ent_eval.specs.Meant.{changed_number, effect_of, set_variable}
-use Rattle.ent_eval.specs.declared.outcome.Outcome.{Outcome}
-use Rattle.ent_eval.specs.declared.outcome.Outcome.TheVariants as outcomes
+use Rattle.ent_effect.specs.Change.{IsApplicable}
+use Rattle.ent_effect.specs.Meant.{changed_number, effect_of, set_variable}
+use Rattle.ent_effect.specs.declared.outcome.Outcome.{Outcome}
+use Rattle.ent_effect.specs.declared.outcome.Outcome.TheVariants as outcomes
 use Rattle.ent_rel.specs.Change.{changed_rows}
 use Rattle.ent_rel.specs.Numbered.{relation_of}
 use Rattle.ent_rel.specs.Relation.{Relation}

@@ -1,7 +1,7 @@
 use Rattle.std.proofs.Common.{subst}
 use Rattle.std.specs.Prelude.{Contains}
-use Rattle.ent_desk.specs.Accounted.{receipt}
-use Rattle.ent_desk.specs.Seen.{SessionState, ticket}
+use Rattle.ent_desk.specs.Receipts.{receipt}
+use Rattle.ent_desk.specs.Seen.{SessionState}
 use Rattle.ent_desk.proofs.Accounting.{contains_flat}
 use Rattle.ent_desk.proofs.account.have_receipt.Goals as goal
 

@@ -1,13 +1,11 @@
-use Rattle.std.proofs.Common.{◌≡◌, ◌<◌, sym, ap, subst, ◌∙◌, Result, IfOk, IfErr}
+use Rattle.std.proofs.Common.{◌≡◌, ◌<◌, sym, subst, IfOk, IfErr}
 use Rattle.ent_protocol.specs.Reached.{opened}
 use Rattle.ent_renewal.specs.Renewal.{GoesOn, HoldsTablesOf, IsRenewed, drained, present_database, rows_together}
 use Rattle.ent_renewal.specs.declared.opening.TooManyRows.{TooManyRows as TooManyRowsSeen}
 use Rattle.ent_semantics.specs.Database.{Database}
 use Rattle.ent_tree.specs.declared.declaration.Opening.{Opening}
 use Rattle.ent_tree.specs.declared.limits.TheConstants.{MOST_OPENING_ROWS}
-use Rattle.ent_value.specs.declared.refusal.Refusal.{Refusal}
 use Rattle.ent_value.specs.declared.refusal.Refusal.TheVariants.{Fault}
-use Rattle.ent_epoch.specs.Epoch.{carried_over}
 use Rattle.ent_epoch.proofs.turn.next_opening.Goals as goal
 
 pub drained_opening-made-requires-clause-holds : goal.drained_opening-made-requires-clause-holds

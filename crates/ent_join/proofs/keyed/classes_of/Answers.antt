@@ -4,8 +4,8 @@ use Rattle.std.specs.Ordering.{nat_cmp}
 use Rattle.std.proofs.Math.Dec.{eqb}
 use Rattle.std.proofs.lemmas.Cmp.{nat_cmp_total}
 use Rattle.std.proofs.lemmas.List.Filters.{dedup_is}
-use Rattle.ent_set.specs.Sets as set
-use Rattle.ent_set.specs.Laws.{ascending-from_sorted}
+use Rattle.ent_lists.specs.Sets as set
+use Rattle.ent_lists.specs.Laws.{ascending-from_sorted}
 use Rattle.ent_join.proofs.Keys.{nat_exact, nat_ties}
 use Rattle.ent_join.proofs.keyed.classes_of.Goals as goal
 

@@ -1,6 +1,6 @@
 use Rattle.std.proofs.Common.{◌∙◌, sym, ap, map, arith}
 use Rattle.ent_rel.specs.Relation.{Relation}
-use Rattle.ent_set.specs.Sets as set
+use Rattle.ent_lists.specs.Sets as set
 use Rattle.ent_value.specs.Value.{row_cmp}
 use Rattle.ent_loading.proofs.Loading.{rows_of_table, rows_fit, fits_always, full_is, loaded_is}
 use Rattle.ent_loading.proofs.load.load_table.Goals as goal

@@ -1,6 +1,6 @@
 use Rattle.std.proofs.Common.{◌<◌, ◌+◌, [], ◌∷◌, ap, arith, get_or, length, length-append, subst, sym, ◌∙◌}
 use Rattle.ent_value.specs.declared.value.Value.{Value}
-use Rattle.ent_closed.specs.declared.entangled.Entangled.{Entangled}
+use Rattle.ent_semantics.specs.declared.entangled.Entangled.{Entangled}
 use Rattle.ent_match.specs.Demand.{AreOwners}
 use Rattle.ent_match.specs.Fault.{IsOwner}
 use Rattle.ent_match.proofs.Owners.{owners_pushed}

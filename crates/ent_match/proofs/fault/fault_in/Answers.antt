@@ -1,6 +1,6 @@
 use Rattle.std.proofs.Common.{length, arith, sym, ap, ◌∙◌, true≢false}
 use Rattle.ent_value.specs.declared.value.Value.{Value}
-use Rattle.ent_closed.specs.declared.entangled.Entangled.{Entangled}
+use Rattle.ent_semantics.specs.declared.entangled.Entangled.{Entangled}
 use Rattle.ent_match.specs.Fault.{MeetsOne}
 use Rattle.ent_match.proofs.Faults.{one_more, old_post, all_posts}
 use Rattle.ent_match.proofs.fault.fault_in.Goals as goal

@@ -1,6 +1,6 @@
 use Rattle.std.proofs.Common.{◌+◌, List, length, arith, sym, ap, subst, ◌∙◌, true≢false, Vec, Global}
 use Rattle.ent_value.specs.declared.value.Value.{Value}
-use Rattle.ent_closed.specs.declared.entangled.Entangled.{Entangled}
+use Rattle.ent_semantics.specs.declared.entangled.Entangled.{Entangled}
 use Rattle.ent_match.specs.declared.offers.Offer.{Offer}
 use Rattle.ent_match.proofs.Offered.{MetSoFar, met_all, met_more, met_same}
 use Rattle.ent_match.proofs.offers.push_met.Goals as goal

@@ -1,6 +1,6 @@
 use Rattle.std.proofs.Common.{length, arith, ap}
 use Rattle.ent_value.specs.declared.value.Value.{Value}
-use Rattle.ent_closed.specs.declared.entangled.Entangled.{Entangled}
+use Rattle.ent_semantics.specs.declared.entangled.Entangled.{Entangled}
 use Rattle.ent_match.proofs.Linked.{unmet, offered_more, all_offered}
 use Rattle.ent_match.proofs.remainder.push_links.Goals as goal
 

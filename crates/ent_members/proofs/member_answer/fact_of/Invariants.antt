@@ -1,5 +1,5 @@
 use Rattle.std.proofs.Common.{◌≡◌, take, map}
-use Rattle.ent_closed.specs.Form.{term_worth}
+use Rattle.ent_semantics.specs.Form.{term_worth}
 use Rattle.ent_members.proofs.member_answer.fact_of.Given as goal
 
 -- what the terms so far are worth

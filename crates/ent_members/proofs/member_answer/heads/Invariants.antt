@@ -1,5 +1,5 @@
 use Rattle.std.proofs.Common.{◌≡◌, take, map}
-use Rattle.ent_closed.specs.Form.{atom_fact}
+use Rattle.ent_semantics.specs.Form.{atom_fact}
 use Rattle.ent_members.proofs.member_answer.heads.Given as goal
 
 -- the heads so far

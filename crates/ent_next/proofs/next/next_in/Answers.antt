@@ -3,7 +3,7 @@ use Rattle.std.specs.Arc.{arc_value}
 use Rattle.ent_value.specs.declared.value.Value.{Value}
 use Rattle.ent_semantics.specs.Database.{Name, nothing_bound, with_values}
 use Rattle.ent_semantics.specs.Serial.{numbered}
-use Rattle.ent_closed.specs.Closing.{closed}
+use Rattle.ent_semantics.specs.Closing.{closed}
 use Rattle.ent_protocol.specs.Member.{Asks, Next, statement_next}
 use Rattle.ent_next.specs.Asked.{IsAskedAt}
 use Rattle.ent_next.specs.Next.{next_seen}

@@ -6,8 +6,8 @@ use Rattle.std.proofs.lemmas.Cmp.{nat_cmp_total}
 use Rattle.std.proofs.lemmas.List.{take_all}
 use Rattle.std.proofs.lemmas.List.Filters.{dedup_is}
 use Rattle.std.proofs.lemmas.Map.Lookups.{exact_unsigned}
-use Rattle.ent_set.specs.Sets as set
-use Rattle.ent_set.specs.Laws.{ascending-from_sorted}
+use Rattle.ent_lists.specs.Sets as set
+use Rattle.ent_lists.specs.Laws.{ascending-from_sorted}
 use Rattle.ent_plan.specs.Tables.{sources_of}
 use Rattle.ent_plan.proofs.table.tables_of.Goals as goal
 

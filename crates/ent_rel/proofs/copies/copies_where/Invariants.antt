@@ -1,6 +1,6 @@
 use Rattle.std.proofs.Common.{◌≡◌, Bool, List, take}
 use Rattle.std.specs.List.{filter}
-use Rattle.ent_set.specs.Sets as set
+use Rattle.ent_lists.specs.Sets as set
 use Rattle.ent_value.specs.Value.{row_cmp}
 use Rattle.ent_rel.specs.Closure.{Computes}
 use Rattle.ent_rel.specs.Part.{IsPart}

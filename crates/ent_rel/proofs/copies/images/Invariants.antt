@@ -1,5 +1,5 @@
 use Rattle.std.proofs.Common.{◌≡◌, Bool, List, Result, Ok, All, length, take}
-use Rattle.ent_set.specs.Sets as set
+use Rattle.ent_lists.specs.Sets as set
 use Rattle.ent_value.specs.Value.{row_cmp, kinds_of}
 use Rattle.ent_rel.specs.Change.{images_of}
 use Rattle.ent_rel.specs.Closure.{Answers, KeepsKinds}

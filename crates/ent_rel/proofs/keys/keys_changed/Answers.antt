@@ -1,6 +1,6 @@
 use Rattle.std.proofs.Common.{◌≡◌, [], ap, sym, subst, ◌∙◌, rules}
-use Rattle.ent_set.specs.Sets as set
-use Rattle.ent_set.specs.Laws.{without-nothing}
+use Rattle.ent_lists.specs.Sets as set
+use Rattle.ent_lists.specs.Laws.{without-nothing}
 use Rattle.ent_value.specs.Refusal.{Gives}
 use Rattle.ent_value.specs.Order.{rows_total, exact_rows}
 use Rattle.ent_rel.specs.Relation.{RowSet, bounded}

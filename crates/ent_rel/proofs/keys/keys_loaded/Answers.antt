@@ -1,5 +1,5 @@
 use Rattle.std.proofs.Common.{ap, sym, ◌∙◌, arith, Ok}
-use Rattle.ent_set.specs.Sets as set
+use Rattle.ent_lists.specs.Sets as set
 use Rattle.ent_value.specs.Value.{row_cmp}
 use Rattle.ent_rel.proofs.Keyed.{rows_load, hold_load, len_rows}
 use Rattle.ent_rel.proofs.Meanings.{bounded_within, bounded_beyond}

@@ -1,5 +1,5 @@
 use Rattle.std.proofs.Common.{ap, sym, ◌∙◌, arith, Ok}
-use Rattle.ent_set.specs.Sets as set
+use Rattle.ent_lists.specs.Sets as set
 use Rattle.ent_rel.specs.Change.{changed_rows}
 use Rattle.ent_rel.specs.Kept.{rows_of}
 use Rattle.ent_rel.proofs.Keyed.{rows_merged, hold_merged, len_rows}

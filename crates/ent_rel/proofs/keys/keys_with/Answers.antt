@@ -1,7 +1,7 @@
 use Rattle.std.proofs.Common.{◌≡◌, ◌+◌, [], drop, ap, sym, subst, ◌∙◌, arith}
 use Rattle.std.proofs.lemmas.List.{drop_all}
 use Rattle.std.proofs.lemmas.List.Elements.{All-get_or}
-use Rattle.ent_set.specs.Sets as set
+use Rattle.ent_lists.specs.Sets as set
 use Rattle.ent_value.specs.Value.{kinds_of}
 use Rattle.ent_page.specs.Key.{key_of, AreStorable}
 use Rattle.ent_rel.specs.Relation.{bounded}

@@ -1,5 +1,5 @@
 use Rattle.std.proofs.Common.{◌≡◌, drop}
-use Rattle.ent_set.specs.Sets as set
+use Rattle.ent_lists.specs.Sets as set
 use Rattle.ent_rel.specs.Kept.{rows_of, HoldRows}
 use Rattle.ent_rel.proofs.keys.keys_with.Given as goal
 

@@ -1,7 +1,7 @@
 use Rattle.std.proofs.Common.{◌≡◌, ◌+◌, ◌∷◌, [], drop, ap, sym, subst, ◌∙◌, arith, false, true}
 use Rattle.std.proofs.lemmas.List.{drop_all}
-use Rattle.ent_set.specs.Sets as set
-use Rattle.ent_set.specs.Laws.{without-nothing, without-append}
+use Rattle.ent_lists.specs.Sets as set
+use Rattle.ent_lists.specs.Laws.{without-nothing, without-append}
 use Rattle.ent_value.specs.Value.{kinds_of}
 use Rattle.ent_value.specs.Order.{rows_total, exact_rows}
 use Rattle.ent_page.specs.Key.{key_of, AreStorable}

@@ -1,5 +1,5 @@
 use Rattle.std.proofs.Common.{◌≡◌, ◌≤◌, All, List, length, sym, ap, subst, ◌∙◌, arith}
-use Rattle.ent_set.specs.Sets as set
+use Rattle.ent_lists.specs.Sets as set
 use Rattle.ent_value.specs.declared.value.Value.{Value}
 use Rattle.ent_tree.specs.declared.limits.TheConstants.{MOST_PARTS}
 use Rattle.ent_semantics.specs.Database.{Rows}

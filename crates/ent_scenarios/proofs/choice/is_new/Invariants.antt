@@ -1,7 +1,7 @@
 use Rattle.std.proofs.Common.{◌≢◌, ℕ, ◌<◌}
 use Rattle.std.specs.Prelude.{slice_index_or}
 use Rattle.ent_value.specs.declared.value.Value.{Value}
-use Rattle.ent_closed.specs.declared.entangled.Atom.{Atom}
+use Rattle.ent_semantics.specs.declared.entangled.Atom.{Atom}
 use Rattle.ent_scenarios.proofs.choice.is_new.Given as goal
 
 abbrev pub invariant-loop-other : goal.invariant-loop-other

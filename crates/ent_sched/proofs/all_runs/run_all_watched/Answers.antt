@@ -13,7 +13,7 @@ use Rattle.ent_sched.specs.Watching.{IsWatched}
 use Rattle.ent_sched.proofs.Adding.{unmoved}
 use Rattle.ent_sched.proofs.Running.{HasRun, finished_so, has_run_into, has_run_more, has_run_out, is_run_out}
 use Rattle.ent_sched.proofs.Running.{just_recalled}
-use Rattle.ent_sched.proofs.Watched.{one_watched, watched_on}
+use Rattle.ent_sched.proofs.Watched.{both_told, one_told}
 use Rattle.ent_sched.proofs.all_runs.run_all_watched.Goals as goal
 
 pub runs-init : goal.runs-init
@@ -22,7 +22,7 @@ runs-init g c =
       none_lent = ap (λ (x : State). x.lent) c.recall_watched.ensures.made.step.1;
       ran = just_recalled resolved_forms (reply_seen c.recall_watched.result) c.args.counted c.recall_watched.new.self
           c.recall_watched.ensures.made;
-      watched = one_watched resolved_forms g.W.Watcher.hears Recall (reply_seen c.recall_watched.result) c.args.counted
+      watched = one_told resolved_forms g.W.Watcher.hears Recall (reply_seen c.recall_watched.result) c.args.counted
           c.recall_watched.new.self c.args.watcher.now c.recall_watched.new.watcher c.recall_watched.ensures.made
           c.recall_watched.ensures.told;
     }
@@ -83,8 +83,8 @@ runs-preserved g c =
       none_lent = search rules;
       ran = has_run_more resolved_forms (c.events_lead_on.ensures.joined resolved_forms) c.args.counted middle
           c.run_watched.new.counted before undone c.run_watched.ensures.events ended;
-      watched = watched_on resolved_forms g.W.Watcher.hears c.args.counted middle c.run_watched.new.counted
-          c.args.watcher.now c.runs.watcher c.run_watched.new.watcher so_far c.run_watched.ensures.watched;
+      watched = both_told resolved_forms g.W.Watcher.hears c.args.counted middle c.run_watched.new.counted
+          c.args.watcher.now c.runs.watcher c.run_watched.new.watcher so_far c.run_watched.ensures.watched.0;
     }
 
 pub returns-in-Ok-clause-watched : goal.returns-in-Ok-clause-watched
@@ -101,8 +101,8 @@ returns-then-is_err-clause-watched_so_far g c =
     let before = subst (λ (t : Tally).
     IsWatched resolved_forms g.W.Watcher.hears c.args.counted t c.args.watcher.now c.runs.watcher)
     (sym c.in-Err.ensures.returned) c.runs.invariant.watched in
-    watched_on resolved_forms g.W.Watcher.hears c.args.counted c.in-Err.refused.counted c.run_watched.new.counted
-    c.args.watcher.now c.runs.watcher c.run_watched.new.watcher before c.run_watched.ensures.watched
+    both_told resolved_forms g.W.Watcher.hears c.args.counted c.in-Err.refused.counted c.run_watched.new.counted
+    c.args.watcher.now c.runs.watcher c.run_watched.new.watcher before c.run_watched.ensures.watched.0
 
 pub runs-smaller : goal.runs-smaller
 runs-smaller g c =

@@ -39,4 +39,4 @@ pub returns-clause-watched : goal.returns-clause-watched
 returns-clause-watched g c =
     one_watched resolved_forms g.W.Watcher.hears BreakCycle (reply_seen c.break_cycle-reply.result) c.args.counted.now
     c.break_cycle-reply.new.self c.args.watcher.now c.break_cycle-reply.new.watcher
-    c.break_cycle-reply.ensures.made c.break_cycle-reply.ensures.told
+    c.break_cycle-reply.ensures.made c.break_cycle-reply.ensures.told (λ e. cc)

@@ -7,7 +7,7 @@ use Rattle.ent_protocol.specs.Step.{Step}
 use Rattle.ent_headline.specs.Resolved.{resolved_forms}
 use Rattle.ent_sched.proofs.Moving.{nothing_picked}
 use Rattle.ent_sched.proofs.NoneLent.{lends_none}
-use Rattle.ent_sched.proofs.Watched.{one_watched, watched_on}
+use Rattle.ent_sched.proofs.Watched.{one_watched, unwatched, watched_on}
 use Rattle.ent_sched.proofs.joint.answer_component.Goals as goal
 
 pub returns-in_err-answer-in-Lent-clause-events : goal.returns-in_err-answer-in-Lent-clause-events
@@ -47,7 +47,7 @@ returns-in_default g c =
       events = c.events_add_up.ensures.widened resolved_forms 1 2 first last (omega arith)
           (c.events_add_up.ensures.one resolved_forms Pick reply first last c.in_ok-reply.ensures.ok refl);
       watched = one_watched resolved_forms g.W.Watcher.hears Pick reply first last c.args.watcher.now
-          c.pick.new.watcher c.in_ok-reply.ensures.ok c.in_ok-reply.ensures.told;
+          c.pick.new.watcher c.in_ok-reply.ensures.ok c.in_ok-reply.ensures.told (λ e. cc);
       none_lent = ap (λ (x : State). x.lent) none.1 ∙ c.requires.none_lent;
       progress = λ (moved : false ≡ true). absurd cc;
       idle = λ still.
@@ -59,7 +59,7 @@ returns-in_err-answer-in-Lent-clause-watched g c =
     let first = c.args.counted.now in
     let middle = c.pick.new.self in
     let one = one_watched resolved_forms g.W.Watcher.hears Pick (reply_seen c.in_ok-reply.reply) first middle
-    c.args.watcher.now c.pick.new.watcher c.in_ok-reply.ensures.ok c.in_ok-reply.ensures.told in
+    c.args.watcher.now c.pick.new.watcher c.in_ok-reply.ensures.ok c.in_ok-reply.ensures.told (λ e. cc) in
     watched_on resolved_forms g.W.Watcher.hears first middle c.answer.new.counted c.args.watcher.now
     c.pick.new.watcher c.answer.new.watcher one c.in_err-answer-in-Lent.ensures.watched
 
@@ -68,6 +68,11 @@ returns-in_ok-answer-in-Lent-clause-watched g c =
     let first = c.args.counted.now in
     let middle = c.pick.new.self in
     let one = one_watched resolved_forms g.W.Watcher.hears Pick (reply_seen c.in_ok-reply.reply) first middle
-    c.args.watcher.now c.pick.new.watcher c.in_ok-reply.ensures.ok c.in_ok-reply.ensures.told in
+    c.args.watcher.now c.pick.new.watcher c.in_ok-reply.ensures.ok c.in_ok-reply.ensures.told (λ e. cc) in
     watched_on resolved_forms g.W.Watcher.hears first middle c.answer.new.counted c.args.watcher.now
     c.pick.new.watcher c.answer.new.watcher one c.in_ok-answer-in-Lent.ensures.watched
+
+pub returns-in_err-reply-clause-watched : goal.returns-in_err-reply-clause-watched
+returns-in_err-reply-clause-watched g c =
+    unwatched resolved_forms g.W.Watcher.hears c.args.counted.now c.pick.new.self c.args.watcher.now
+    c.pick.new.watcher c.is_reached.ensures.bound c.in_err-reply.ensures.err.0 c.in_err-reply.ensures.err.1

@@ -3,7 +3,7 @@ use Rattle.ent_core.specs.Reply.{reply_seen}
 use Rattle.ent_protocol.specs.Event.{EndRun}
 use Rattle.ent_headline.specs.Resolved.{resolved_forms}
 use Rattle.ent_sched.proofs.Started.{run_over}
-use Rattle.ent_sched.proofs.Watched.{one_watched}
+use Rattle.ent_sched.proofs.Watched.{one_watched, unwatched}
 use Rattle.ent_sched.proofs.one_run.end.Goals as goal
 
 pub returns-clause-events : goal.returns-clause-events
@@ -37,3 +37,9 @@ pub returns-clause-watched : goal.returns-clause-watched
 returns-clause-watched g c =
     one_watched resolved_forms g.W.Watcher.hears EndRun (reply_seen c.in_ok-end_run.field-0) c.args.counted.now
     c.end_run.new.self c.args.watcher.now c.end_run.new.watcher c.in_ok-end_run.ensures.ok c.in_ok-end_run.ensures.told
+    (λ e. cc)
+
+pub returns-in_err-end_run-clause-watched : goal.returns-in_err-end_run-clause-watched
+returns-in_err-end_run-clause-watched g c =
+    unwatched resolved_forms g.W.Watcher.hears c.args.counted.now c.end_run.new.self c.args.watcher.now
+    c.end_run.new.watcher c.is_reached.ensures.bound c.in_err-end_run.ensures.err.0 c.in_err-end_run.ensures.err.1

@@ -4,7 +4,7 @@ use Rattle.ent_headline.specs.Resolved.{resolved_forms}
 use Rattle.ent_sched.specs.Bounds.{events_of_rounds, run_start}
 use Rattle.ent_sched.proofs.Counting.{AddUp, rounds_made, run_made}
 use Rattle.ent_sched.proofs.Started.{on_ok}
-use Rattle.ent_sched.proofs.Watched.{watched_on}
+use Rattle.ent_sched.proofs.Watched.{run_on}
 use Rattle.ent_sched.proofs.one_run.run_watched.Goals as goal
 
 pub returns-in_err-rounds-clause-events : goal.returns-in_err-rounds-clause-events
@@ -55,14 +55,14 @@ returns-clause-same g c =
 
 pub returns-in_err-rounds-clause-watched : goal.returns-in_err-rounds-clause-watched
 returns-in_err-rounds-clause-watched g c =
-    watched_on resolved_forms g.W.Watcher.hears c.args.counted.now c.start.new.counted c.rounds.new.counted
+    run_on resolved_forms g.W.Watcher.hears c.args.counted.now c.start.new.counted c.rounds.new.counted
     c.args.watcher.now c.start.new.watcher c.rounds.new.watcher c.start.ensures.watched c.rounds.ensures.watched
 
 pub returns-clause-watched : goal.returns-clause-watched
 returns-clause-watched g c =
     let first = c.args.counted.now in
     let middle = c.rounds.new.counted in
-    let before = watched_on resolved_forms g.W.Watcher.hears first c.start.new.counted middle c.args.watcher.now
+    let before = run_on resolved_forms g.W.Watcher.hears first c.start.new.counted middle c.args.watcher.now
     c.start.new.watcher c.rounds.new.watcher c.start.ensures.watched c.rounds.ensures.watched in
-    watched_on resolved_forms g.W.Watcher.hears first middle c.end.new.counted c.args.watcher.now
+    run_on resolved_forms g.W.Watcher.hears first middle c.end.new.counted c.args.watcher.now
     c.rounds.new.watcher c.end.new.watcher before c.end.ensures.watched

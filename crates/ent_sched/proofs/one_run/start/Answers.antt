@@ -3,7 +3,7 @@ use Rattle.ent_core.specs.Reply.{reply_seen}
 use Rattle.ent_protocol.specs.Event.{StartRun}
 use Rattle.ent_headline.specs.Resolved.{resolved_forms}
 use Rattle.ent_sched.proofs.Started.{lent_of, off_of, on_of, started}
-use Rattle.ent_sched.proofs.Watched.{one_watched}
+use Rattle.ent_sched.proofs.Watched.{not_started, start_watched}
 use Rattle.ent_sched.proofs.one_run.start.Goals as goal
 
 pub returns-clause-events : goal.returns-clause-events
@@ -37,6 +37,16 @@ returns-clause-off g c none =
 
 pub returns-clause-watched : goal.returns-clause-watched
 returns-clause-watched g c =
-    one_watched resolved_forms g.W.Watcher.hears StartRun (reply_seen c.in_ok-start_run.field-0) c.args.counted.now
+    start_watched resolved_forms g.W.Watcher.hears (reply_seen c.in_ok-start_run.field-0) c.args.counted.now
     c.start_run.new.self c.args.watcher.now c.start_run.new.watcher c.in_ok-start_run.ensures.ok
     c.in_ok-start_run.ensures.told
+
+pub returns-then-running-clause-watched : goal.returns-then-running-clause-watched
+returns-then-running-clause-watched g c =
+    not_started resolved_forms g.W.Watcher.hears c.args.counted.now c.args.counted.now c.args.watcher.now
+    c.args.watcher.now c.is_reached.ensures.bound refl refl
+
+pub returns-in_err-start_run-clause-watched : goal.returns-in_err-start_run-clause-watched
+returns-in_err-start_run-clause-watched g c =
+    not_started resolved_forms g.W.Watcher.hears c.args.counted.now c.start_run.new.self c.args.watcher.now
+    c.start_run.new.watcher c.is_reached.ensures.bound c.in_err-start_run.ensures.err.0 c.in_err-start_run.ensures.err.1

@@ -1,10 +1,10 @@
-use Rattle.std.proofs.Common.{◌-◌, ◌∙◌, length, subst, sym}
+use Rattle.std.proofs.Common.{◌-◌, ◌∙◌, length, refl, rules, subst, sym}
 use Rattle.ent_termination.specs.Idle.{IsIdleRound}
 use Rattle.ent_protocol.specs.State.{members}
 use Rattle.ent_headline.specs.Resolved.{resolved_forms}
 use Rattle.ent_sched.specs.Bounds.{most_progress}
 use Rattle.ent_sched.proofs.Counting.{AddUp, last_round_made, one_made, round_made}
-use Rattle.ent_sched.proofs.Watched.{watched_on}
+use Rattle.ent_sched.proofs.Watched.{unwatched, watched_on}
 use Rattle.ent_sched.proofs.rounds.counted_rounds.Goals as goal
 
 pub returns-in_err-round_watched-clause-events : goal.returns-in_err-round_watched-clause-events
@@ -68,3 +68,15 @@ returns-clause-watched g c =
     let now = c.rounds in
     watched_on resolved_forms g.W.Watcher.hears c.args.counted.now now.counted c.round_watched.new.counted
     c.args.watcher.now now.watcher c.round_watched.new.watcher now.invariant.watched c.round_watched.ensures.watched
+
+pub rounds-init : goal.rounds-init
+rounds-init g c =
+    record {
+      whole = search rules;
+      none_lent = search rules;
+      few = search rules;
+      within = search rules;
+      events = search rules;
+      watched = unwatched resolved_forms g.W.Watcher.hears c.args.counted.now c.args.counted.now c.args.watcher.now
+          c.args.watcher.now c.is_reached.ensures.bound refl refl;
+    }

@@ -4,7 +4,7 @@ use Rattle.ent_protocol.specs.State.{members}
 use Rattle.ent_headline.specs.Resolved.{resolved_forms}
 use Rattle.ent_sched.specs.Onward.{TicksOn, events_of_round}
 use Rattle.ent_sched.specs.Bounds.{most_progress}
-use Rattle.ent_sched.specs.Watching.{IsWatched}
+use Rattle.ent_sched.specs.Watching.{IsWatchedInRun}
 use Rattle.ent_sched.proofs.rounds.counted_rounds.Given as goal
 
 -- so many rounds made progress, and as many steps of it are gone
@@ -16,7 +16,7 @@ invariant-rounds g l =
       few : l.progress.total ≤ most_progress first;
       within : IsWithin (length (members first)) (most_progress first - l.progress.total) l.counted.core;
       events : TicksOn resolved_forms (l.progress.total * events_of_round first) l.fn.counted l.counted;
-      watched : IsWatched resolved_forms g.W.Watcher.hears l.fn.counted l.counted l.fn.watcher l.watcher;
+      watched : IsWatchedInRun resolved_forms g.W.Watcher.hears l.fn.counted l.counted l.fn.watcher l.watcher;
     }
 
 abbrev pub decreases-rounds : goal.decreases-rounds

@@ -5,7 +5,7 @@ use Rattle.ent_protocol.specs.Event.{Begin}
 use Rattle.ent_headline.specs.Resolved.{resolved_forms}
 use Rattle.ent_sched.proofs.Moving.{held_up, none_lent}
 use Rattle.ent_sched.proofs.NoneLent.{lends_none}
-use Rattle.ent_sched.proofs.Watched.{one_watched, watched_on}
+use Rattle.ent_sched.proofs.Watched.{one_watched, unwatched, watched_on}
 use Rattle.ent_sched.proofs.turn.begin.Goals as goal
 
 pub returns-in_err-carry_out-in-Lent-clause-events : goal.returns-in_err-carry_out-in-Lent-clause-events
@@ -54,7 +54,7 @@ returns-in_default g c =
       events = c.events_add_up.ensures.widened resolved_forms 1 2 first last (omega arith)
           (c.events_add_up.ensures.one resolved_forms (Begin tx) reply first last c.in_ok-reply.ensures.ok refl);
       watched = one_watched resolved_forms g.W.Watcher.hears (Begin tx) reply first last c.args.watcher.now
-          c.begin.new.watcher c.in_ok-reply.ensures.ok c.in_ok-reply.ensures.told;
+          c.begin.new.watcher c.in_ok-reply.ensures.ok c.in_ok-reply.ensures.told (λ e. cc);
       none_lent =
           c.jobs_are_lent_by_replies.ensures.lent resolved_forms s (Begin tx) reply new c.requires.none_lent step
           ∙ none_lent reply lends;
@@ -74,7 +74,7 @@ returns-in_err-carry_out-in-Lent-clause-watched g c =
     let middle = c.begin.new.self in
     let one = one_watched resolved_forms g.W.Watcher.hears (Begin c.args.found.tx) (reply_seen c.in_ok-reply.reply)
     first
-    middle c.args.watcher.now c.begin.new.watcher c.in_ok-reply.ensures.ok c.in_ok-reply.ensures.told in
+    middle c.args.watcher.now c.begin.new.watcher c.in_ok-reply.ensures.ok c.in_ok-reply.ensures.told (λ e. cc) in
     watched_on resolved_forms g.W.Watcher.hears first middle c.carry_out.new.counted c.args.watcher.now
     c.begin.new.watcher c.carry_out.new.watcher one c.in_err-carry_out-in-Lent.ensures.watched
 
@@ -84,6 +84,11 @@ returns-in_ok-carry_out-in-Lent-clause-watched g c =
     let middle = c.begin.new.self in
     let one = one_watched resolved_forms g.W.Watcher.hears (Begin c.args.found.tx) (reply_seen c.in_ok-reply.reply)
     first
-    middle c.args.watcher.now c.begin.new.watcher c.in_ok-reply.ensures.ok c.in_ok-reply.ensures.told in
+    middle c.args.watcher.now c.begin.new.watcher c.in_ok-reply.ensures.ok c.in_ok-reply.ensures.told (λ e. cc) in
     watched_on resolved_forms g.W.Watcher.hears first middle c.carry_out.new.counted c.args.watcher.now
     c.begin.new.watcher c.carry_out.new.watcher one c.in_ok-carry_out-in-Lent.ensures.watched
+
+pub returns-in_err-reply-clause-watched : goal.returns-in_err-reply-clause-watched
+returns-in_err-reply-clause-watched g c =
+    unwatched resolved_forms g.W.Watcher.hears c.args.counted.now c.begin.new.self c.args.watcher.now
+    c.begin.new.watcher c.is_reached.ensures.bound c.in_err-reply.ensures.err.0 c.in_err-reply.ensures.err.1

@@ -4,7 +4,7 @@ use Rattle.ent_termination.specs.Lending.{IsLentAlone}
 use Rattle.ent_protocol.specs.Event.{Begin, Finish, Lent}
 use Rattle.ent_headline.specs.Resolved.{resolved_forms}
 use Rattle.ent_sched.proofs.Moving.{single_progress}
-use Rattle.ent_sched.proofs.Watched.{one_watched}
+use Rattle.ent_sched.proofs.Watched.{one_watched, unwatched}
 use Rattle.ent_sched.proofs.turn.finish.Goals as goal
 
 pub finish_at_once-requires : goal.finish_at_once-requires
@@ -46,3 +46,9 @@ pub returns-in-Ok-clause-watched : goal.returns-in-Ok-clause-watched
 returns-in-Ok-clause-watched g c =
     one_watched resolved_forms g.W.Watcher.hears (Finish c.args.done) (reply_seen c.in-Ok.reply) c.args.counted.now
     c.finish_at_once.new.self c.args.watcher.now c.finish_at_once.new.watcher c.in-Ok.ensures.ok c.in-Ok.ensures.told
+    (λ e. cc)
+
+pub returns-in-Err-clause-watched : goal.returns-in-Err-clause-watched
+returns-in-Err-clause-watched g c =
+    unwatched resolved_forms g.W.Watcher.hears c.args.counted.now c.finish_at_once.new.self c.args.watcher.now
+    c.finish_at_once.new.watcher c.is_reached.ensures.bound c.in-Err.ensures.err.0 c.in-Err.ensures.err.1

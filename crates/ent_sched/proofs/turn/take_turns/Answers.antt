@@ -1,11 +1,11 @@
-use Rattle.std.proofs.Common.{◌≡◌, ◌≤◌, ◌+◌, ◌*◌, false, true, inl, inr, length, get_or, sym, subst, ap, ◌∙◌, arith}
+use Rattle.std.proofs.Common.{◌≡◌, ◌≤◌, ◌+◌, ◌*◌, false, true, inl, inr, length, get_or, sym, subst, ap, ◌∙◌, arith, refl, rules}
 use Rattle.ent_termination.specs.Idle.{IsHeldUp}
 use Rattle.ent_protocol.specs.Lookup.{running_members}
 use Rattle.ent_protocol.specs.State.{State}
 use Rattle.ent_headline.specs.Resolved.{resolved_forms}
 use Rattle.ent_sched.proofs.Moving.{one_moved}
 use Rattle.ent_sched.proofs.Turning.{all_taken}
-use Rattle.ent_sched.proofs.Watched.{watched_on}
+use Rattle.ent_sched.proofs.Watched.{unwatched, watched_on}
 use Rattle.ent_sched.proofs.turn.take_turns.Goals.{then-branch, else-branch}
 use Rattle.ent_sched.proofs.turn.take_turns.Goals as goal
 
@@ -62,3 +62,14 @@ pub returns-in_err-turn-clause-watched : goal.returns-in_err-turn-clause-watched
 returns-in_err-turn-clause-watched g c =
     watched_on resolved_forms g.W.Watcher.hears c.args.counted.now c.loop-tx.counted c.turn.new.counted
     c.args.watcher.now c.loop-tx.watcher c.turn.new.watcher c.loop-tx.invariant.watched c.in_err-turn.ensures.watched
+
+pub loop-tx-init : goal.loop-tx-init
+loop-tx-init g c =
+    record {
+      events = search rules;
+      watched = unwatched resolved_forms g.W.Watcher.hears c.args.counted.now c.args.counted.now c.args.watcher.now
+          c.args.watcher.now c.is_reached.ensures.bound refl refl;
+      none_lent = search rules;
+      progress = search rules;
+      idle = search rules;
+    }

@@ -4,7 +4,7 @@ use Rattle.ent_value.specs.declared.value.Value.{Value}
 use Rattle.ent_rel.specs.Numbered.{relation_of}
 use Rattle.ent_rel.specs.Relation.{Relation}
 use Rattle.ent_tree.specs.declared.operand.Test.{Test}
-use Rattle.ent_closed.specs.declared.operand.Operand.{Operand}
+use Rattle.ent_semantics.specs.declared.operand.Operand.{Operand}
 use Rattle.ent_select.specs.Combined.{combined, shown_of, AreNarrowed}
 use Rattle.ent_select.specs.Early.{may_meet}
 use Rattle.ent_select.specs.Tables.{rows_listed}

@@ -1,5 +1,5 @@
 use Rattle.std.proofs.Common.{[], ◌++◌, map, ap, ◌∙◌}
-use Rattle.ent_set.specs.Sets as set
+use Rattle.ent_lists.specs.Sets as set
 use Rattle.ent_value.specs.Value.{row_cmp}
 use Rattle.ent_rel.specs.Numbered.{relation_of}
 use Rattle.ent_select.specs.Combined.{combined, shown_of}

@@ -10,13 +10,13 @@ pub returns-in-Some-clause-busy : goal.returns-in-Some-clause-busy
 returns-in-Some-clause-busy c = λ e rest.
     let ticket = c.in-Some._ticket.now in
     absurd
-    (let h = sym (rest.coming ticket) ∙ ap (λ (x : Admission). contains nat_cmp x.coming ticket) (sym c.self.view_is)
+    (let h = sym (rest.over.coming ticket) ∙ ap (λ (x : Admission). contains nat_cmp x.coming ticket) (sym c.self.view_is)
     ∙ c.in-Some.ensures.member in cc)
 
 pub returns-in-Some-first_from-clause-busy : goal.returns-in-Some-first_from-clause-busy
 returns-in-Some-first_from-clause-busy c = λ e rest.
     let ticket = c.in-Some-first_from._ticket in
     absurd
-    (let h = sym (rest.idle ticket)
+    (let h = sym (rest.over.idle ticket)
     ∙ ap (λ (x : Admission). is_stationed Batch (waiter_of x.list ticket)) (sym c.self.view_is)
     ∙ c.in-Some-first_from.ensures.there in cc)

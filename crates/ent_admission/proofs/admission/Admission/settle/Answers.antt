@@ -1,4 +1,4 @@
-use Rattle.std.proofs.Common.{◌≡◌, ◌∙◌, ℕ, Option, Some, false, true, sym, ap, subst}
+use Rattle.std.proofs.Common.{◌≡◌, ◌∙◌, ◌++◌, ℕ, Option, Some, false, true, sym, ap, subst}
 use Rattle.std.specs.BTreeSet.{contains}
 use Rattle.std.specs.Ordering.{nat_cmp}
 use Rattle.ent_waiting.specs.WaitingList.{StandsAt, is_stationed, waiter_of}
@@ -8,7 +8,7 @@ use Rattle.ent_waiting.specs.declared.waiter.Submission.{Submission}
 use Rattle.ent_epoch.specs.Epoch.{fate_at}
 use Rattle.ent_protocol.specs.Lookup.{standing}
 use Rattle.ent_waiting.specs.declared.ended.Ending.{Ending}
-use Rattle.ent_admission.specs.Moves.{SettlesAs, ending_with, submission_at}
+use Rattle.ent_admission.specs.Moves.{SettlesAs, ended_with, ending_with, news_of, submission_at}
 use Rattle.ent_admission.specs.Admission.{Admission}
 use Rattle.ent_admission.specs.contracts.admission.Admission.{the_view}
 use Rattle.ent_admission.proofs.Calls.{back_others, back_settled, batch_submitted, submission_of}
@@ -63,6 +63,11 @@ returns-in_ok-end-in-Some-ending_of-clause-ok c =
       epoch = c.in_ok-end-in-Some-ending_of.ensures.epoch;
       coming = c.in_ok-end-in-Some-ending_of.ensures.coming;
       again = c.in_ok-end-in-Some-ending_of.ensures.again;
+      feed = c.in_ok-end-in-Some-ending_of.ensures.feed;
+      news = subst
+          (λ (o : Option Ending). c.end.new.self.news
+          ≡ c.args.self.now.news ++ news_of c.args.ticket (ended_with o c.args.self.now.again there.waiter))
+          (sym (told ∙ c.in-Some-ending_of.is)) c.in_ok-end-in-Some-ending_of.ensures.news;
     }
 
 pub returns-in_ok-wait_again-in-None-clause-ok : goal.returns-in_ok-wait_again-in-None-clause-ok
@@ -97,6 +102,11 @@ returns-in_ok-wait_again-in-None-clause-ok c =
       epoch = c.in_ok-wait_again-in-None.ensures.epoch;
       coming = c.in_ok-wait_again-in-None.ensures.coming;
       again = c.in_ok-wait_again-in-None.ensures.again;
+      feed = c.in_ok-wait_again-in-None.ensures.feed;
+      news = subst
+          (λ (o : Option Ending). c.wait_again.new.self.news
+          ≡ c.args.self.now.news ++ news_of c.args.ticket (ended_with o c.args.self.now.again there.waiter))
+          (sym (told ∙ c.in-None.is)) (c.in_ok-wait_again-in-None.ensures.news there.waiter there.waits);
     }
 
 pub returns-in_ok-wait_again-in-None-clause-settled : goal.returns-in_ok-wait_again-in-None-clause-settled

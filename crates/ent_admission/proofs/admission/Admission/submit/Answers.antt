@@ -77,4 +77,6 @@ returns-clause-ok c =
       gone = c.remove.ensures.updates.1;
       others = c.remove.ensures.updates.2;
       again = refl;
+      feed = refl;
+      news = refl;
     })

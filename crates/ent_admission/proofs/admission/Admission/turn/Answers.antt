@@ -40,4 +40,6 @@ returns-clause-advances c =
       list = refl;
       coming = refl;
       again = refl;
+      feed = refl;
+      news = refl;
     }))

@@ -1,4 +1,4 @@
-use Rattle.std.proofs.Common.{◌≡◌, ℕ, ap, map, List, ◌∙◌, sym}
+use Rattle.std.proofs.Common.{ℕ, ap, map, List, ◌∙◌, sym}
 use Rattle.std.specs.Option.{option_and_then, option_map}
 use Rattle.ent_history.specs.Told.{joint_answer_of}
 use Rattle.ent_rules.specs.Placed.{Placed, member_at}

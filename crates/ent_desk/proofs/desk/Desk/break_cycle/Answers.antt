@@ -1,9 +1,12 @@
-use Rattle.std.proofs.Common.{subst}
+use Rattle.std.proofs.Common.{◌≡◌, subst}
 use Rattle.ent_core.specs.Reply.{reply_seen}
 use Rattle.ent_protocol.specs.Event.{BreakCycle}
-use Rattle.ent_desk.specs.Seen.{DeskState, LeadsOn}
+use Rattle.ent_protocol.specs.Waits.{NoDeadlock}
+use Rattle.ent_desk.specs.Advance.{MakesUnless}
+use Rattle.ent_desk.specs.Seen.{DeskState}
+use Rattle.ent_desk.proofs.Advancing.{break_made}
 use Rattle.ent_desk.proofs.Counting.{breaks_none}
-use Rattle.ent_desk.proofs.Keeping.{kept_none, one_on}
+use Rattle.ent_desk.proofs.Keeping.{kept_none}
 use Rattle.ent_desk.proofs.desk.Desk.break_cycle.Goals as goal
 
 pub invariant_of-self : goal.invariant_of-self
@@ -22,6 +25,9 @@ returns g c =
     let step = c.break_cycle.ensures.step in
     let new : DeskState = record { core = c.break_cycle.new.self; count = i.count } in
     record {
-      events = subst (λ (old : DeskState). LeadsOn old new) c.self.view_is
-          (one_on i.count i.core c.break_cycle.new.self BreakCycle reply step);
+      ok = subst (λ (old : DeskState). MakesUnless (NoDeadlock old.core) BreakCycle old c.advance_told.result new)
+          c.self.view_is
+          (break_made i.count i.core c.break_cycle.new.self reply c.advance_told.result c.advance_told.ensures step);
+      journal = subst (λ (old : DeskState). c.break_cycle.new.self.journal ≡ old.core.journal) c.self.view_is
+          (breaks_none i.core c.break_cycle.new.self reply step).journal;
     }

@@ -1,9 +1,12 @@
-use Rattle.std.proofs.Common.{subst}
+use Rattle.std.proofs.Common.{◌≡◌, ◌∙◌, ap, subst, sym, true}
 use Rattle.ent_core.specs.Reply.{reply_seen}
 use Rattle.ent_protocol.specs.Event.{EndRun}
-use Rattle.ent_desk.specs.Seen.{DeskState, LeadsOn}
+use Rattle.ent_desk.specs.Advance.{Advances, IsStill}
+use Rattle.ent_desk.specs.Seen.{DeskState}
+use Rattle.ent_desk.specs.declared.advance.Advance.TheVariants.{Idle}
+use Rattle.ent_desk.proofs.Advancing.{kept_waiting, ended}
 use Rattle.ent_desk.proofs.Counting.{ends_none}
-use Rattle.ent_desk.proofs.Keeping.{kept_none, one_on}
+use Rattle.ent_desk.proofs.Keeping.{kept_none}
 use Rattle.ent_desk.proofs.desk.Desk.end_run.Goals as goal
 
 pub invariant_of-self-2 : goal.invariant_of-self-2
@@ -14,13 +17,30 @@ invariant_of-self-2 g c =
     kept_none i.count i.scripts.total i.entries.total i.core c.end_run.new.self EndRun reply c.self.invariant step
     (ends_none i.core c.end_run.new.self reply step)
 
-pub returns : goal.returns
-returns g c =
+pub invariant_of-self-in-Some : goal.invariant_of-self-in-Some
+invariant_of-self-in-Some g c =
     let i = c.self.inside in
     let reply = reply_seen c.in_ok-reply.reply in
     let step = c.in_ok-reply.ensures.ok in
+    kept_none i.count i.scripts.total i.entries.total i.core c.end_run.new.self EndRun reply c.self.invariant step
+    (ends_none i.core c.end_run.new.self reply step)
+
+pub returns-in-Some-clause-ok : goal.returns-in-Some-clause-ok
+returns-in-Some-clause-ok g c =
+    let i = c.self.inside in
+    let reply = reply_seen c.in_ok-reply.reply in
     let new : DeskState = record { core = c.end_run.new.self; count = i.count } in
-    record {
-      events = subst (λ (old : DeskState). LeadsOn old new) c.self.view_is
-          (one_on i.count i.core c.end_run.new.self EndRun reply step);
-    }
+    let still = subst (λ (d : DeskState). IsStill d.core) (sym c.self.view_is) c.requires.still in
+    subst (λ (old : DeskState). Advances old c.in-Some.ended new) c.self.view_is
+    (ended i.count i.core c.end_run.new.self reply c.in-Some.ended (sym c.in-Some.is ∙ c.advance_told.ensures) still
+    c.in_ok-reply.ensures.ok)
+
+pub returns-clause-ok : goal.returns-clause-ok
+returns-clause-ok g c =
+    let i = c.self.inside in
+    let reply = reply_seen c.in_ok-reply.reply in
+    let new : DeskState = record { core = c.end_run.new.self; count = i.count } in
+    let still = subst (λ (d : DeskState). IsStill d.core) (sym c.self.view_is) c.requires.still in
+    let on : i.core.running ≡ true = ap (λ (d : DeskState). d.core.running) c.self.view_is ∙ c.requires.running in
+    subst (λ (old : DeskState). Advances old Idle new) c.self.view_is
+    (kept_waiting i.count i.core c.end_run.new.self reply (sym c.in_default.is ∙ c.advance_told.ensures) on still c.in_ok-reply.ensures.ok)

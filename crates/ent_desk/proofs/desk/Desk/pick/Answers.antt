@@ -1,9 +1,12 @@
-use Rattle.std.proofs.Common.{subst}
+use Rattle.std.proofs.Common.{◌≡◌, subst}
 use Rattle.ent_core.specs.Reply.{reply_seen}
+use Rattle.ent_core.specs.Pick.{NoneCanBePicked}
 use Rattle.ent_protocol.specs.Event.{Pick}
-use Rattle.ent_desk.specs.Seen.{DeskState, LeadsOn}
+use Rattle.ent_desk.specs.Advance.{MakesUnless}
+use Rattle.ent_desk.specs.Seen.{DeskState}
+use Rattle.ent_desk.proofs.Advancing.{pick_made}
 use Rattle.ent_desk.proofs.Counting.{picks_none}
-use Rattle.ent_desk.proofs.Keeping.{kept_none, one_on}
+use Rattle.ent_desk.proofs.Keeping.{kept_none}
 use Rattle.ent_desk.proofs.desk.Desk.pick.Goals as goal
 
 pub invariant_of-self-2 : goal.invariant_of-self-2
@@ -14,13 +17,17 @@ invariant_of-self-2 g c =
     kept_none i.count i.scripts.total i.entries.total i.core c.pick.new.self Pick reply c.self.invariant step
     (picks_none i.core c.pick.new.self reply step)
 
-pub returns : goal.returns
-returns g c =
+pub returns-clause-ok : goal.returns-clause-ok
+returns-clause-ok g c =
     let i = c.self.inside in
     let reply = reply_seen c.in_ok-reply.reply in
-    let step = c.in_ok-reply.ensures.ok in
     let new : DeskState = record { core = c.pick.new.self; count = i.count } in
-    record {
-      events = subst (λ (old : DeskState). LeadsOn old new) c.self.view_is
-          (one_on i.count i.core c.pick.new.self Pick reply step);
-    }
+    subst (λ (old : DeskState). MakesUnless (NoneCanBePicked old.core) Pick old c.advance_told.result new) c.self.view_is
+    (pick_made i.count i.core c.pick.new.self reply c.advance_told.result c.advance_told.ensures c.in_ok-reply.ensures.ok)
+
+pub returns-clause-journal : goal.returns-clause-journal
+returns-clause-journal g c =
+    let i = c.self.inside in
+    let reply = reply_seen c.in_ok-reply.reply in
+    subst (λ (old : DeskState). c.pick.new.self.journal ≡ old.core.journal) c.self.view_is
+    (picks_none i.core c.pick.new.self reply c.in_ok-reply.ensures.ok).journal

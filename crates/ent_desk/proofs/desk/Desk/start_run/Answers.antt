@@ -1,9 +1,13 @@
-use Rattle.std.proofs.Common.{subst}
+use Rattle.std.proofs.Common.{◌≡◌, ◌∙◌, ap, subst, sym, false}
 use Rattle.ent_core.specs.Reply.{reply_seen}
+use Rattle.ent_headline.specs.Resolved.{resolved_forms}
 use Rattle.ent_protocol.specs.Event.{StartRun}
-use Rattle.ent_desk.specs.Seen.{DeskState, LeadsOn}
+use Rattle.ent_desk.specs.Advance.{Advances, IsStill}
+use Rattle.ent_desk.specs.Seen.{DeskState}
+use Rattle.ent_desk.specs.declared.advance.Advance.TheVariants.{Done}
+use Rattle.ent_desk.proofs.Advancing.{all_done, started}
 use Rattle.ent_desk.proofs.Counting.{starts_none}
-use Rattle.ent_desk.proofs.Keeping.{kept_none, one_on}
+use Rattle.ent_desk.proofs.Keeping.{kept_none}
 use Rattle.ent_desk.proofs.desk.Desk.start_run.Goals as goal
 
 pub invariant_of-self-2 : goal.invariant_of-self-2
@@ -14,13 +18,30 @@ invariant_of-self-2 g c =
     kept_none i.count i.scripts.total i.entries.total i.core c.start_run.new.self StartRun reply c.self.invariant step
     (starts_none i.core c.start_run.new.self reply step)
 
-pub returns : goal.returns
-returns g c =
+pub invariant_of-self-in-Some : goal.invariant_of-self-in-Some
+invariant_of-self-in-Some g c =
     let i = c.self.inside in
     let reply = reply_seen c.in_ok-reply.reply in
     let step = c.in_ok-reply.ensures.ok in
+    kept_none i.count i.scripts.total i.entries.total i.core c.start_run.new.self StartRun reply c.self.invariant step
+    (starts_none i.core c.start_run.new.self reply step)
+
+pub returns-in-Some-clause-ok : goal.returns-in-Some-clause-ok
+returns-in-Some-clause-ok g c =
+    let i = c.self.inside in
+    let reply = reply_seen c.in_ok-reply.reply in
     let new : DeskState = record { core = c.start_run.new.self; count = i.count } in
-    record {
-      events = subst (λ (old : DeskState). LeadsOn old new) c.self.view_is
-          (one_on i.count i.core c.start_run.new.self StartRun reply step);
-    }
+    let still = subst (λ (d : DeskState). IsStill d.core) (sym c.self.view_is) c.requires.still in
+    subst (λ (old : DeskState). Advances old c.in-Some.started new) c.self.view_is
+    (started i.count i.core c.start_run.new.self reply c.in-Some.started (sym c.in-Some.is ∙ c.advance_told.ensures) still
+    c.in_ok-reply.ensures.ok)
+
+pub returns-clause-ok : goal.returns-clause-ok
+returns-clause-ok g c =
+    let i = c.self.inside in
+    let reply = reply_seen c.in_ok-reply.reply in
+    let new : DeskState = record { core = c.start_run.new.self; count = i.count } in
+    let still = subst (λ (d : DeskState). IsStill d.core) (sym c.self.view_is) c.requires.still in
+    let on : i.core.running ≡ false = ap (λ (d : DeskState). d.core.running) c.self.view_is ∙ c.requires.no_run in
+    subst (λ (old : DeskState). Advances old Done new) c.self.view_is
+    (all_done i.count i.core c.start_run.new.self reply (sym c.in_default.is ∙ c.advance_told.ensures) on c.in_ok-reply.ensures.ok c.is_reached.ensures.reached (c.finished_scripts_have_fates.ensures.book resolved_forms))

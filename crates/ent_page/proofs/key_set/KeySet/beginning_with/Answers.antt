@@ -1,7 +1,7 @@
 use Rattle.std.proofs.Common.{ap, sym, ◌∙◌}
 use Rattle.std.specs.List.{filter, flat_map}
 use Rattle.std.specs.Arc.{arc_value}
-use Rattle.ent_set.specs.Sets as set
+use Rattle.ent_lists.specs.Sets as set
 use Rattle.ent_page.specs.Front.{begins_with}
 use Rattle.ent_page.proofs.Beginnings.{walked}
 use Rattle.ent_page.proofs.Paging.{ascending_is}

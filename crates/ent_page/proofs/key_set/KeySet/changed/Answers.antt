@@ -1,7 +1,7 @@
 use Rattle.std.proofs.Common.{◌≡◌, ap, sym, ◌∙◌, arith, length}
 use Rattle.std.specs.Arc.{arc_value}
 use Rattle.std.specs.List.{flat_map}
-use Rattle.ent_set.specs.Sets as set
+use Rattle.ent_lists.specs.Sets as set
 use Rattle.ent_page.proofs.Changes.{changed_set}
 use Rattle.ent_page.proofs.Paging.{count_set}
 use Rattle.ent_page.proofs.key_set.KeySet.changed.Goals as goal

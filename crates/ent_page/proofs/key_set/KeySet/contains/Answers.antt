@@ -4,8 +4,8 @@ use Rattle.std.specs.Arc.{arc_value}
 use Rattle.std.specs.List.{flat_map}
 use Rattle.std.specs.List.Sorted.{IsStrictlySortedBy}
 use Rattle.std.proofs.lemmas.Bool.Decides.{nat_tests}
-use Rattle.ent_set.specs.Sets as set
-use Rattle.ent_set.specs.Laws.{contains-empty}
+use Rattle.ent_lists.specs.Sets as set
+use Rattle.ent_lists.specs.Laws.{contains-empty}
 use Rattle.ent_page.specs.Key.{key_cmp}
 use Rattle.ent_page.proofs.Paging.{contains_is, nothing_there}
 use Rattle.ent_page.proofs.key_set.KeySet.contains.Goals as goal

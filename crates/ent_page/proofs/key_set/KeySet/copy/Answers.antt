@@ -1,7 +1,7 @@
 use Rattle.std.proofs.Common.{ap, sym, subst, ◌∙◌, length}
 use Rattle.std.specs.Arc.{arc_value}
 use Rattle.std.specs.List.Sorted.{IsStrictlySortedBy}
-use Rattle.ent_set.specs.Sets as set
+use Rattle.ent_lists.specs.Sets as set
 use Rattle.ent_page.specs.Key.{key_cmp}
 use Rattle.ent_page.proofs.Paging.{copied, same_keys, same_sizes}
 use Rattle.ent_page.proofs.key_set.KeySet.copy.Goals as goal

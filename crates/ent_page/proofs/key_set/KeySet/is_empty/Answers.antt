@@ -2,8 +2,8 @@ use Rattle.std.proofs.Common.{ap, sym, ◌∙◌, ◌==◌}
 use Rattle.std.specs.Arc.{arc_value}
 use Rattle.std.specs.List.{flat_map}
 use Rattle.std.proofs.lemmas.Map.Keys.{IsDistinct-from_sorted}
-use Rattle.ent_set.specs.Sets as set
-use Rattle.ent_set.specs.Laws.{len-distinct}
+use Rattle.ent_lists.specs.Sets as set
+use Rattle.ent_lists.specs.Laws.{len-distinct}
 use Rattle.ent_page.specs.Key.{key_cmp}
 use Rattle.ent_page.proofs.Sorted.{keys_total, keys_exact}
 use Rattle.ent_page.proofs.key_set.KeySet.is_empty.Goals as goal

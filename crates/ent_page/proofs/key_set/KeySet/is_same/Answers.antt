@@ -3,7 +3,7 @@ use Rattle.std.specs.Prelude.{nat_eq}
 use Rattle.std.specs.Arc.{arc_value}
 use Rattle.std.specs.List.{flat_map}
 use Rattle.std.proofs.lemmas.Bool.Decides.{nat_tests}
-use Rattle.ent_set.specs.Sets as set
+use Rattle.ent_lists.specs.Sets as set
 use Rattle.ent_page.specs.Key.{key_cmp}
 use Rattle.ent_page.proofs.Paging.{ascending_is}
 use Rattle.ent_page.proofs.key_set.KeySet.is_same.Goals as goal

@@ -2,8 +2,8 @@ use Rattle.std.proofs.Common.{◌≡◌, ◌+◌, ◌∷◌, [], IfOk, ap, sym, 
 use Rattle.std.specs.Arc.{arc_value}
 use Rattle.std.specs.List.{flat_map, insert}
 use Rattle.std.specs.List.Sorted.{IsStrictlySortedBy}
-use Rattle.ent_set.specs.Sets as set
-use Rattle.ent_set.specs.Laws.{insert_there}
+use Rattle.ent_lists.specs.Sets as set
+use Rattle.ent_lists.specs.Laws.{insert_there}
 use Rattle.ent_page.specs.Key.{key_cmp}
 use Rattle.ent_page.proofs.Sorted.{keys_total, keys_exact, one_sorted}
 use Rattle.ent_page.proofs.Paging.{contains_is, page_sorted, count_set, put_sorted, put_set, put_length}

@@ -2,8 +2,8 @@ use Rattle.std.proofs.Common.{◌≡◌, ◌+◌, ◌∷◌, [], IfOk, ap, sym, 
 use Rattle.std.specs.Arc.{arc_value}
 use Rattle.std.specs.List.{flat_map}
 use Rattle.std.specs.List.Sorted.{IsStrictlySortedBy}
-use Rattle.ent_set.specs.Sets as set
-use Rattle.ent_set.specs.Laws.{contains-empty}
+use Rattle.ent_lists.specs.Sets as set
+use Rattle.ent_lists.specs.Laws.{contains-empty}
 use Rattle.ent_page.specs.Key.{key_cmp}
 use Rattle.ent_page.proofs.Sorted.{set_kept}
 use Rattle.ent_page.proofs.Paging.{nothing_there, absent_at, page_sorted, cut_sorted, cut_set, cut_length}

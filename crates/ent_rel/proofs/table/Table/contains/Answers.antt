@@ -1,5 +1,5 @@
 use Rattle.std.proofs.Common.{◌≡◌, ap, sym, subst, ◌∙◌, false, true}
-use Rattle.ent_set.specs.Sets as set
+use Rattle.ent_lists.specs.Sets as set
 use Rattle.ent_value.specs.Value.{kinds_of}
 use Rattle.ent_page.specs.Key.{AreStorable}
 use Rattle.ent_rel.specs.Relation.{Relation}

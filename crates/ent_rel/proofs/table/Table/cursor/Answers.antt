@@ -1,5 +1,5 @@
 use Rattle.std.proofs.Common.{ap, sym, ◌∙◌}
-use Rattle.ent_set.specs.Sets as set
+use Rattle.ent_lists.specs.Sets as set
 use Rattle.ent_rel.specs.Relation.{Relation}
 use Rattle.ent_rel.proofs.Keyed.{all_keys, ascending_rows}
 use Rattle.ent_rel.proofs.table.Table.cursor.Goals as goal

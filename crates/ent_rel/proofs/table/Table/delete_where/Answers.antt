@@ -1,7 +1,7 @@
 use Rattle.std.proofs.Common.{◌≡◌, ap, sym, subst, ◌∙◌, length, arith, List, Bool}
 use Rattle.std.specs.Prelude.{◌&&◌}
 use Rattle.std.specs.List.{filter}
-use Rattle.ent_set.specs.Sets as set
+use Rattle.ent_lists.specs.Sets as set
 use Rattle.ent_value.specs.declared.value.Value.{Value}
 use Rattle.ent_rel.specs.Change.{deletion, changed_rows}
 use Rattle.ent_rel.specs.First.{has_first}

@@ -1,6 +1,6 @@
 use Rattle.std.proofs.Common.{ap, sym, ◌∙◌, take, length}
 use Rattle.std.specs.Prelude.{filter}
-use Rattle.ent_set.specs.Sets as set
+use Rattle.ent_lists.specs.Sets as set
 use Rattle.ent_page.specs.Front.{begins_with}
 use Rattle.ent_rel.specs.First.{has_first}
 use Rattle.ent_rel.specs.Relation.{Relation}

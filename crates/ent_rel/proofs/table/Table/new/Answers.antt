@@ -1,6 +1,6 @@
 use Rattle.std.proofs.Common.{ap, arith}
-use Rattle.ent_set.specs.Sets as set
-use Rattle.ent_set.specs.Laws.{len-empty}
+use Rattle.ent_lists.specs.Sets as set
+use Rattle.ent_lists.specs.Laws.{len-empty}
 use Rattle.ent_page.specs.Key.{key_cmp}
 use Rattle.ent_rel.proofs.Keyed.{rows_empty, hold_empty}
 use Rattle.ent_rel.proofs.table.Table.new.Goals as goal

@@ -4,8 +4,8 @@ use Rattle.std.specs.Prelude.{Ok}
 use Rattle.std.proofs.lemmas.Result.{err_from_is_err_and}
 use Rattle.std.specs.List.Sorted.{IsStrictlySortedBy}
 use Rattle.std.proofs.lemmas.Map.Keys.{IsDistinct-from_sorted}
-use Rattle.ent_set.specs.Sets as set
-use Rattle.ent_set.specs.Laws.{from_list-ascending}
+use Rattle.ent_lists.specs.Sets as set
+use Rattle.ent_lists.specs.Laws.{from_list-ascending}
 use Rattle.ent_value.specs.Value.{row_cmp}
 use Rattle.ent_value.specs.Order.{rows_total, exact_rows}
 use Rattle.ent_rel.specs.Relation.{RowSet}

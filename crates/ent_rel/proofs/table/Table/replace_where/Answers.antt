@@ -2,7 +2,7 @@ use Rattle.std.proofs.Common.{◌≡◌, ap, sym, subst, ◌∙◌, length, arit
 use Rattle.std.specs.List.{filter}
 use Rattle.std.specs.Prelude.{Ok, ◌&&◌}
 use Rattle.std.proofs.lemmas.Result.{err_from_is_err_and}
-use Rattle.ent_set.specs.Sets as set
+use Rattle.ent_lists.specs.Sets as set
 use Rattle.ent_value.specs.declared.value.Value.{Value}
 use Rattle.ent_rel.specs.Relation.{RowSet}
 use Rattle.ent_rel.specs.Change.{replacement}

@@ -1,5 +1,5 @@
 use Rattle.std.proofs.Common.{◌≡◌, ◌++◌, ap, sym, ◌∙◌, append-nil, length, arith}
-use Rattle.ent_set.specs.Sets as set
+use Rattle.ent_lists.specs.Sets as set
 use Rattle.ent_rel.proofs.Found.{ascending_len}
 use Rattle.ent_rel.proofs.table.Table.rows.Goals as goal
 

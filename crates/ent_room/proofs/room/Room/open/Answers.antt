@@ -14,7 +14,7 @@ invariant_of-result c =
     let opening = c.args.opening in
     let fault = opening_fault opening in
     let limits = c.args.limits in
-    let first = fresh c.args.number opening c.args.next limits.most_waiters limits.most_ended in (
+    let first = fresh c.args.number opening c.args.next c.args.next_group limits.most_waiters limits.most_ended in (
       without_fault fault (schemas_of opening.tables) c.in_ok-preparing.preparing (c.in_ok-preparing.ensures)
           ∙ sym (ap (λ (a : Admission). schemas_of a.epoch.core.opening.tables)
           (without_fault fault first c.in_ok-open.field-0 (c.in_ok-open.ensures))),

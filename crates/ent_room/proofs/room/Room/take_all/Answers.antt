@@ -37,6 +37,8 @@ loop-script-preserved c =
           ∙ sym (one_more_put now.yielded script c.args.self.now.admission.list);
       epoch = c.take_in.ensures.epoch ∙ now.invariant.epoch;
       coming = c.take_in.ensures.coming ∙ now.invariant.coming;
+      feed = c.take_in.ensures.feed ∙ now.invariant.feed;
+      news = c.take_in.ensures.news ∙ now.invariant.news;
       last = c.take_in.ensures.last ∙ now.invariant.last;
       formed = (formed_first opening script more clean).1;
       all = append_assoc now.yielded (script ∷ []) more ∙ all;

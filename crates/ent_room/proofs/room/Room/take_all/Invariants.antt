@@ -9,6 +9,8 @@ invariant-loop-script l = record {
   list : l.self.admission.list ≡ all_put l.yielded l.fn.self.admission.list;
   epoch : l.self.admission.epoch ≡ l.fn.self.admission.epoch;
   coming : l.self.admission.coming ≡ l.fn.self.admission.coming;
+  feed : l.self.admission.feed ≡ l.fn.self.admission.feed;
+  news : l.self.admission.news ≡ l.fn.self.admission.news;
   last : l.self.last ≡ l.fn.self.last;
   formed : scripts_fault l.fn.self.admission.epoch.core.opening l.script-iterator.rest.items ≡ None;
   all : l.yielded ++ l.script-iterator.rest.items ≡ l.fn.scripts;

@@ -1,3 +1,0 @@
-pub mod Form
-pub mod Closing
-pub mod Kinds

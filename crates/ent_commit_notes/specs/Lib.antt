@@ -1,0 +1,3 @@
+pub mod Notes
+pub mod Publishing
+pub mod Telling

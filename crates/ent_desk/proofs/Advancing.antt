@@ -1,0 +1,241 @@
+-- What replies tell of an advance, and what is made.
+use Rattle.std.proofs.Common.{◌≡◌, inl, inr, ℕ, Bool, true, false, List, [], ◌∷◌, refl, sym, ap, subst, ◌∙◌}
+use Rattle.std.proofs.Common.{Option, Some, None, Result, Ok, Err, IfOk, OnErr}
+use Rattle.ent_core.specs.Pick.{NoneCanBePicked}
+use Rattle.ent_form.specs.declared.fault.FormFault.{FormFault}
+use Rattle.ent_headline.specs.Resolved.{resolved_forms}
+use Rattle.ent_lists.specs.Elements.{clash}
+use Rattle.ent_protocol.specs.Begin.{Begins}
+use Rattle.ent_protocol.specs.Event.{Event, Reply}
+use Rattle.ent_protocol.specs.Event as events
+use Rattle.ent_protocol.specs.Play.{is_idle}
+use Rattle.ent_protocol.specs.PoolEvents.{Picks}
+use Rattle.ent_protocol.specs.Quiet.{CanMove, IsReason, NoneIs}
+use Rattle.ent_protocol.specs.Reached.{IsFinished, IsReached, book_of}
+use Rattle.ent_protocol.specs.Run.{BreaksIfAny, Ends, EndsWhileRunning, Starts, StartsWith}
+use Rattle.ent_protocol.specs.State.{State, Dormant}
+use Rattle.ent_protocol.specs.Step.{Step}
+use Rattle.ent_protocol.specs.Waits.{NoDeadlock}
+use Rattle.ent_protocol_laws.specs.ByNumber.{StandByNumber}
+use Rattle.ent_protocol_laws.specs.Standing.{StandOnce}
+use Rattle.ent_termination.specs.Fates.{HaveFates}
+use Rattle.ent_desk.specs.Advance.{Advances, BeginsUnless, IsNext, IsStill, Makes, MakesUnless, advance_in, moved_unless}
+use Rattle.ent_desk.specs.Seen.{DeskState, LeadsOn}
+use Rattle.ent_desk.specs.declared.advance.Advance.{Advance}
+use Rattle.ent_desk.specs.declared.advance.Advance.TheVariants as advances
+use Rattle.ent_desk.proofs.Keeping.{advances_on, none_on}
+use Rattle.ent_desk.proofs.Standstill.{awaits, cannot_move}
+
+-- ---- what replies tell
+
+abbrev is_move : Advance → Bool
+is_move (advances.Lent job) = true
+is_move advances.Moved = true
+is_move advances.Idle = false
+is_move advances.Done = false
+
+some_move : (one other : Advance) → is_move one ≡ true → Some one ≡ Some other → is_move other ≡ true
+some_move one other is e = let same : one ≡ other = cc in subst (λ (told : Advance). is_move told ≡ true) same is
+
+not_none : (told : Advance) → None ≡ Some told → ⊥
+not_none told e = cc
+
+unless_moves : (idle : Bool) (told : Advance) → moved_unless idle ≡ Some told → is_move told ≡ true
+unless_moves true told e = absurd (not_none told e)
+unless_moves false told e = some_move advances.Moved told refl e
+
+unless_none : (idle : Bool) → moved_unless idle ≡ None → idle ≡ true
+unless_none true e = refl
+unless_none false e = absurd (not_none advances.Moved (sym e))
+
+module _ {F : Type 0} where
+  -- a reply tells of a move
+  pub moves_told : (reply : Reply F) (told : Advance) → advance_in reply ≡ Some told → is_move told ≡ true
+  moves_told (events.Submitted tx) told e = unless_moves false told e
+  moves_told (events.Started members) told e = unless_moves false told e
+  moves_told (events.Blocked holder) told e = unless_moves true told e
+  moves_told (events.Lent job) told e = some_move (advances.Lent job) told refl e
+  moves_told (events.HeldBack fault) told e = unless_moves true told e
+  moves_told events.Posted told e = unless_moves false told e
+  moves_told events.Prepared told e = unless_moves false told e
+  moves_told (events.Committed entries) told e = unless_moves false told e
+  moves_told (events.RolledBack group) told e = unless_moves false told e
+  moves_told (events.Stepped answer) told e = unless_moves false told e
+  moves_told (events.Failed failure group) told e = unless_moves false told e
+  moves_told events.Nothing told e = unless_moves true told e
+  moves_told events.Answered told e = unless_moves false told e
+  moves_told events.NoChoice told e = unless_moves false told e
+  moves_told (events.Broken cycle group) told e = unless_moves false told e
+  moves_told events.NoCycle told e = unless_moves true told e
+  moves_told (events.Ended members) told e = unless_moves false told e
+  moves_told events.Recalled told e = unless_moves false told e
+  moves_told events.Absent told e = unless_moves true told e
+  moves_told events.NotNow told e = unless_moves true told e
+  moves_told (events.Stale done) told e = unless_moves true told e
+  moves_told (events.Busy reason) told e = unless_moves true told e
+  moves_told (events.Full script) told e = unless_moves true told e
+  moves_told (events.Faulty script fault) told e = unless_moves true told e
+
+  -- a reply that tells of nothing is idle
+  pub idle_told : (reply : Reply F) → advance_in reply ≡ None → is_idle reply ≡ true
+  idle_told (events.Submitted tx) e = unless_none false e
+  idle_told (events.Started members) e = unless_none false e
+  idle_told (events.Blocked holder) e = unless_none true e
+  idle_told (events.Lent job) e = absurd (not_none (advances.Lent job) (sym e))
+  idle_told (events.HeldBack fault) e = unless_none true e
+  idle_told events.Posted e = unless_none false e
+  idle_told events.Prepared e = unless_none false e
+  idle_told (events.Committed entries) e = unless_none false e
+  idle_told (events.RolledBack group) e = unless_none false e
+  idle_told (events.Stepped answer) e = unless_none false e
+  idle_told (events.Failed failure group) e = unless_none false e
+  idle_told events.Nothing e = unless_none true e
+  idle_told events.Answered e = unless_none false e
+  idle_told events.NoChoice e = unless_none false e
+  idle_told (events.Broken cycle group) e = unless_none false e
+  idle_told events.NoCycle e = unless_none true e
+  idle_told (events.Ended members) e = unless_none false e
+  idle_told events.Recalled e = unless_none false e
+  idle_told events.Absent e = unless_none true e
+  idle_told events.NotNow e = unless_none true e
+  idle_told (events.Stale done) e = unless_none true e
+  idle_told (events.Busy reason) e = unless_none true e
+  idle_told (events.Full script) e = unless_none true e
+  idle_told (events.Faulty script fault) e = unless_none true e
+
+by_told : (event : Event) (before after : DeskState) (told : Advance) → is_move told ≡ true → IsNext before.core event
+    → Makes event before (Some told) after → Advances before told after
+by_told event before after (advances.Lent job) move next makes = (event, next, makes)
+by_told event before after advances.Moved move next makes = (event, next, makes)
+by_told event before after advances.Idle move next makes = clash false move refl
+by_told event before after advances.Done move next makes = clash false move refl
+
+-- the next event is made
+pub next_made : (event : Event) (before after : DeskState) (told : Advance) → IsNext before.core event
+    → Makes event before (Some told) after → Advances before told after
+next_made event before after told next makes =
+    by_told event before after told (moves_told makes.reply told makes.tells) next makes
+
+-- ---- events
+
+abbrev pub desk : ℕ → State → DeskState
+desk count core = record { core = core; count = count }
+
+module _ (count : ℕ) (old new : State) (reply : Reply FormFault) where
+  makes : (event : Event) (told : Option Advance) → told ≡ advance_in reply
+      → Step resolved_forms old event reply new → Makes event (desk count old) told (desk count new)
+  makes event told is step = record { reply = reply; step = step; tells = sym is; count = refl }
+
+  told_some : (told : Advance) (other : Reply FormFault) → reply ≡ other → advance_in other ≡ Some told
+      → None ≡ advance_in reply → ⊥
+  told_some told other is tells none =
+      not_none told (none ∙ ap (λ (r : Reply FormFault). advance_in r) is ∙ tells)
+
+  -- ---- a pick
+
+  none_picked : Picks old reply new → None ≡ advance_in reply → (new ≡ old) × NoneCanBePicked old
+  none_picked (inl h) none = absurd (told_some (advances.Lent _) (events.Lent _) h.replies refl none)
+  none_picked (inr h) none = (h.1.1, h.0)
+
+  pub pick_made : (told : Option Advance) → told ≡ advance_in reply → Picks old reply new
+      → MakesUnless (NoneCanBePicked old) events.Pick (desk count old) told (desk count new)
+  pick_made (Some told) is step = makes events.Pick (Some told) is step
+  pick_made None is step = let h = none_picked step is in (ap (desk count) h.0, h.1)
+
+  -- ---- a deadlock
+
+  none_broken : BreaksIfAny old reply new → None ≡ advance_in reply → (new ≡ old) × NoDeadlock old
+  none_broken (inl h) none = absurd (told_some advances.Moved (events.Broken _ _) h.replies refl none)
+  none_broken (inr h) none = (h.1.1, h.0)
+
+  pub break_made : (told : Option Advance) → told ≡ advance_in reply → BreaksIfAny old reply new
+      → MakesUnless (NoDeadlock old) events.BreakCycle (desk count old) told (desk count new)
+  break_made (Some told) is step = makes events.BreakCycle (Some told) is step
+  break_made None is step = let h = none_broken step is in (ap (desk count) h.0, h.1)
+
+  -- ---- a begin
+
+  pub begin_made : (tx : ℕ) (told : Option Advance) → told ≡ advance_in reply → Begins old tx reply new
+      → StandByNumber old → StandOnce old → (is_idle reply ≡ true → new ≡ old)
+      → MakesUnless (¬ CanMove old tx) (events.Begin tx) (desk count old) told (desk count new)
+  begin_made tx (Some told) is step stand once stays = makes (events.Begin tx) (Some told) is step
+  begin_made tx None is step stand once stays =
+      let idle = idle_told reply (sym is) in
+      (ap (desk count) (stays idle), cannot_move old once stand tx reply new step idle)
+
+  -- ---- the end of a run
+
+  why_busy : (running : Bool) → running ≡ true → EndsWhileRunning old running reply new → None ≡ advance_in reply
+      → (new ≡ old) × ((reason : events.Reason) × IsReason old reason)
+  why_busy false on step none = clash false on refl
+  why_busy true on (inl h) none = absurd (told_some advances.Moved (events.Ended _) h.1 refl none)
+  why_busy true on (inr h) none = (h.2.1, (h.0, h.1))
+
+  pub ended : (told : Advance) → Some told ≡ advance_in reply → IsStill old → Ends old reply new
+      → Advances (desk count old) told (desk count new)
+  ended told is still step =
+      next_made events.EndRun (desk count old) (desk count new) told still (makes events.EndRun (Some told) is step)
+
+  pub kept_waiting : None ≡ advance_in reply → old.running ≡ true → IsStill old → Ends old reply new
+      → Advances (desk count old) advances.Idle (desk count new)
+  kept_waiting none on still step =
+      let h = why_busy old.running on step none in (ap (desk count) h.0, awaits old on still h.1.0 h.1.1)
+
+  -- ---- the start of a run
+
+  none_started : (running : Bool) (dormant : List Dormant) → running ≡ false → StartsWith old running dormant reply new
+      → None ≡ advance_in reply → (new ≡ old) × (dormant ≡ [])
+  none_started true dormant off h none = clash true refl off
+  none_started false [] off h none = (h.1, refl)
+  none_started false (first ∷ more) off h none =
+      absurd (told_some advances.Moved (events.Started _) h.0 refl none)
+
+  pub started : (told : Advance) → Some told ≡ advance_in reply → IsStill old → Starts old reply new
+      → Advances (desk count old) told (desk count new)
+  started told is still step =
+      next_made events.StartRun (desk count old) (desk count new) told still
+      (makes events.StartRun (Some told) is step)
+
+  pub all_done : None ≡ advance_in reply → old.running ≡ false → Starts old reply new → IsReached resolved_forms old
+      → ((s : State) → IsFinished resolved_forms s → HaveFates (book_of s))
+      → Advances (desk count old) advances.Done (desk count new)
+  all_done none off step reached fates =
+      let h = none_started old.running old.dormant off step none in (
+        ap (desk count) h.0,
+        record {
+          closes = (off, h.1);
+          fates = fates old (record { reached = reached; no_run = off; none_dormant = h.1 });
+        },
+      )
+
+-- ---- one part of an advance after another
+
+pub moved : (fact : Type 0) (event : Event) (before after : DeskState) (told : Option Advance) (advance : Advance)
+    → IsNext before.core event → told ≡ Some advance → MakesUnless fact event before told after
+    → Advances before advance after
+moved fact event before after told advance next is h =
+    next_made event before after advance next
+    (subst (λ (t : Option Advance). MakesUnless fact event before t after) is h)
+
+pub stayed : (fact : Type 0) (event : Event) (before after : DeskState) (told : Option Advance) → told ≡ None
+    → MakesUnless fact event before told after → (after ≡ before) × fact
+stayed fact event before after told is h = subst (λ (t : Option Advance). MakesUnless fact event before t after) is h
+
+pub begun_first : (before after : DeskState) (told : Option Advance) (advance : Advance) → told ≡ Some advance
+    → BeginsUnless before told after → Advances before advance after
+begun_first before after told advance is h = subst (λ (t : Option Advance). BeginsUnless before t after) is h
+
+pub none_begun : (before after : DeskState) (told : Option Advance) → told ≡ None → BeginsUnless before told after
+    → (after ≡ before) × NoneIs (CanMove before.core)
+none_begun before after told is h = subst (λ (t : Option Advance). BeginsUnless before t after) is h
+
+-- what comes behind a part that changed nothing
+pub behind : {E : Type 0} (r : Result Advance E) (before mid after : DeskState) → mid ≡ before
+    → IfOk r (λ advance. Advances mid advance after) → IfOk r (λ advance. Advances before advance after)
+behind r before mid after is h = subst (λ (d : DeskState). IfOk r (λ advance. Advances d advance after)) is h
+
+pub led_behind : {E : Type 0} (r : Result Advance E) (before mid after : DeskState) → mid ≡ before
+    → IfOk r (λ advance. Advances mid advance after) → OnErr r (after ≡ mid) → LeadsOn before after
+led_behind (Ok advance) before mid after is h other =
+    advances_on advance before after (subst (λ (d : DeskState). Advances d advance after) is h)
+led_behind (Err fault) before mid after is h other = none_on before after (other ∙ is)

@@ -1,0 +1,88 @@
+-- How far a session comes under the lock.
+use Rattle.std.specs.Prelude.{◌≡◌, ℕ, Bool, true, false, List, ◌∷◌, ◌++◌, Option, Some, None}
+use Rattle.std.specs.List.{AllByRecursion}
+use Rattle.ent_core.specs.Pick.{NoneCanBePicked}
+use Rattle.ent_form.specs.declared.fault.FormFault.{FormFault}
+use Rattle.ent_headline.specs.Resolved.{resolved_forms}
+use Rattle.ent_protocol.specs.Event.{Event, Reply}
+use Rattle.ent_protocol.specs.Event as events
+use Rattle.ent_protocol.specs.Lookup.{running_members}
+use Rattle.ent_protocol.specs.Play.{is_idle}
+use Rattle.ent_protocol.specs.Quiet.{CanMove, HasJobOut, NoneIs}
+use Rattle.ent_protocol.specs.Reached.{CanClose, book_of}
+use Rattle.ent_protocol.specs.State.{State}
+use Rattle.ent_protocol.specs.Step.{Step}
+use Rattle.ent_protocol.specs.Waits.{NoDeadlock}
+use Rattle.ent_termination.specs.Fates.{HaveFates}
+use Rattle.ent_desk.specs.Seen.{DeskState}
+use Rattle.ent_desk.specs.declared.advance.Advance.{Advance}
+use Rattle.ent_desk.specs.declared.advance.Advance.TheVariants as advances
+
+-- ---- what replies tell
+
+abbrev pub moved_unless : Bool → Option Advance
+moved_unless true = None
+moved_unless false = Some advances.Moved
+
+-- the job that a reply lends, or that something moved; nothing where it refuses, or says that there is nothing to do
+abbrev pub advance_in : {F : Type 0} → Reply F → Option Advance
+advance_in (events.Lent job) = Some (advances.Lent job)
+advance_in other = moved_unless (is_idle other)
+
+-- ---- what comes next
+
+-- in the run nobody can begin, nothing can be picked, and there is no deadlock
+pub record IsStill (s : State) : Type 0 where
+  pub nobody_moves : NoneIs (CanMove s)
+  pub none_picked : NoneCanBePicked s
+  pub no_deadlock : NoDeadlock s
+
+-- An event is the next one: the members begin by number, and behind them come a pick, a deadlock that is broken, and
+-- the end of a run or the start of one. Nothing that comes before it can move.
+abbrev pub IsNext : State → Event → Type 0
+IsNext s (events.Begin tx) =
+    (before : List ℕ) × (behind : List ℕ) × (running_members s ≡ before ++ tx ∷ behind)
+    × AllByRecursion (λ other. ¬ CanMove s other) before
+IsNext s events.Pick = NoneIs (CanMove s)
+IsNext s events.BreakCycle = NoneIs (CanMove s) × NoneCanBePicked s
+IsNext s events.EndRun = IsStill s
+IsNext s events.StartRun = IsStill s
+IsNext s other = ⊥
+
+-- A run is on, a job is out, and nothing can move until it comes back.
+pub record AwaitsJob (s : State) : Type 0 where
+  pub running : s.running ≡ true
+  pub tx : ℕ
+  pub out : HasJobOut s tx
+  pub still : IsStill s
+
+-- no run is on, nobody waits for one, and each script has its fate
+pub record IsDone (s : State) : Type 0 where
+  pub closes : CanClose s
+  pub fates : HaveFates (book_of s)
+
+-- ---- what is made
+
+-- an event is made, and its reply tells this
+pub record Makes (event : Event) (before : DeskState) (told : Option Advance) (after : DeskState) : Type 0 where
+  pub reply : Reply FormFault
+  pub step : Step resolved_forms before.core event reply after.core
+  pub tells : advance_in reply ≡ told
+  pub count : after.count ≡ before.count
+
+-- an event that moves something is made; or all is as before, and this holds
+abbrev pub MakesUnless : Type 0 → Event → DeskState → Option Advance → DeskState → Type 0
+MakesUnless fact event before (Some advance) after = Makes event before (Some advance) after
+MakesUnless fact event before None after = (after ≡ before) × fact
+
+-- The next event that moves something is made, and tells of it. Or all is as before: nothing moves until a job comes
+-- back, or each script has its fate.
+abbrev pub Advances : DeskState → Advance → DeskState → Type 0
+Advances before advances.Idle after = (after ≡ before) × AwaitsJob before.core
+Advances before advances.Done after = (after ≡ before) × IsDone before.core
+Advances before told after = (event : Event) × IsNext before.core event × Makes event before (Some told) after
+
+-- the same of the members of the run; where none of them moves, all is as before
+abbrev pub BeginsUnless : DeskState → Option Advance → DeskState → Type 0
+BeginsUnless before (Some advance) after = Advances before advance after
+BeginsUnless before None after = (after ≡ before) × NoneIs (CanMove before.core)

@@ -1,0 +1,4 @@
+pub mod Worth
+pub mod Change
+pub mod Meant
+pub mod Setting

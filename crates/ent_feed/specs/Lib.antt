@@ -1,0 +1,9 @@
+pub mod NetChange
+pub mod Walk
+pub mod Group
+pub mod Tables
+pub mod Feed
+pub mod Telling
+pub mod Json
+pub mod AnswerJson
+pub mod Line

@@ -1,0 +1,20 @@
+//! The feed of commits.
+#![tactic(auto)]
+
+mod answer;
+mod difference;
+mod feed;
+mod group;
+mod json;
+mod law;
+mod line;
+mod tables;
+
+pub use difference::net_change;
+pub use feed::{Feed, NoNumber};
+pub use group::{Commit, EndedTicket, Group, OtherEnding, TableChange};
+pub use law::{
+    changes_apply, groups_give_the_journal, groups_give_the_settled_tables, net_changes_apply,
+};
+pub use line::append_line;
+pub use tables::table_changes;

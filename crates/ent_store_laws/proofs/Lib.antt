@@ -1,0 +1,11 @@
+mod Times
+mod Order
+mod Goes
+mod Invariant
+mod Moves
+mod Written
+mod Steps
+mod Reached
+mod Onward
+mod Witness
+mod Lists
