@@ -170,6 +170,9 @@ static void closed(void) {
     CHECK(entangle_room_submission(&room, 1, 0, &submission) == ENTANGLE_MISUSED && submission.tx == 7);
     CHECK(entangle_room_table(&room, TEXT("T"), buffer, 8, &told) == ENTANGLE_MISUSED);
     CHECK(entangle_room_epoch(&room, &number) == ENTANGLE_MISUSED);
+    CHECK(entangle_room_groups(&room, 0, buffer, 8, &told) == ENTANGLE_MISUSED);
+    CHECK(entangle_room_next_group(&room, &number) == ENTANGLE_MISUSED);
+    CHECK(entangle_room_settled_through(&room, 7) == ENTANGLE_MISUSED);
     CHECK(entangle_room_turn(&room, TEXT(""), &refusal, &told) == ENTANGLE_MISUSED);
     CHECK(entangle_room_report(&room, 1, buffer, 8, &number, &told) == ENTANGLE_MISUSED);
     CHECK(number == 7 && refusal == 77 && step == 77 && buffer[0] == '#' && !room && !values);
@@ -187,24 +190,26 @@ static void opened(void) {
     entangle_told told;
     entangle_ticket_state state;
     uint32_t refusal = 77;
-    CHECK(entangle_room_open(&room, TEXT(faulty), &rows, 1, 1, &LIMITS, &refusal, &told) == ENTANGLE_REFUSED && !room);
+    CHECK(entangle_room_open(&room, TEXT(faulty), &rows, 1, 1, 1, &LIMITS, &refusal, &told) == ENTANGLE_REFUSED);
     CHECK(refusal == ENTANGLE_ROOM_FAULTY && told.code == 304 && told.has_place && told.line == 2 && told.offset == 46);
+    CHECK(!room);
     snprintf(input, sizeof input, "%s%s%s", TABLES, WRITER, WRITER);
     size_t length = strlen(input);
-    CHECK(entangle_room_open(&room, input, length, &rows, 1, 5, &one, &refusal, &told) == ENTANGLE_REFUSED && !room);
+    CHECK(entangle_room_open(&room, input, length, &rows, 1, 5, 1, &one, &refusal, &told) == ENTANGLE_REFUSED && !room);
     CHECK(refusal == ENTANGLE_ROOM_FULL && tells_text(&told, 0));
-    CHECK(entangle_room_open(&room, input, length, &rows, 1, 5, &LIMITS, &refusal, &told) == ENTANGLE_DONE && room);
+    CHECK(entangle_room_open(&room, input, length, &rows, 1, 5, 1, &LIMITS, &refusal, &told) == ENTANGLE_DONE && room);
     CHECK(!refusal && tells_text(&told, 0) && !rows);
     CHECK(kind_of(&room, 4, &state) == ENTANGLE_TICKET_UNKNOWN && kind_of(&room, 5, &state) == ENTANGLE_TICKET_WAITS);
     CHECK(kind_of(&room, 6, &state) == ENTANGLE_TICKET_WAITS && kind_of(&room, 7, &state) == ENTANGLE_TICKET_UNKNOWN);
     entangle_room *at = room;
     refusal = 77;
-    CHECK(entangle_room_open(&room, TEXT(TABLES), &rows, 1, 1, &LIMITS, &refusal, &told) == ENTANGLE_MISUSED);
+    CHECK(entangle_room_open(&room, TEXT(TABLES), &rows, 1, 1, 1, &LIMITS, &refusal, &told) == ENTANGLE_MISUSED);
     CHECK(refusal == 77 && room == at);
-    CHECK(entangle_room_open(NULL, TEXT(TABLES), &rows, 1, 1, &LIMITS, &refusal, &told) == ENTANGLE_MISUSED);
-    CHECK(entangle_room_open(&room, TEXT(TABLES), &rows, 1, 1, NULL, &refusal, &told) == ENTANGLE_MISUSED);
+    CHECK(entangle_room_open(NULL, TEXT(TABLES), &rows, 1, 1, 1, &LIMITS, &refusal, &told) == ENTANGLE_MISUSED);
+    CHECK(entangle_room_open(&room, TEXT(TABLES), &rows, 1, 1, 1, NULL, &refusal, &told) == ENTANGLE_MISUSED);
     entangle_room_free(&room);
-    CHECK(entangle_room_open(&room, TEXT(TABLES), NULL, 1, 1, &LIMITS, &refusal, &told) == ENTANGLE_MISUSED && !room);
+    CHECK(entangle_room_open(&room, TEXT(TABLES), NULL, 1, 1, 1, &LIMITS, &refusal, &told) == ENTANGLE_MISUSED);
+    CHECK(!room);
 }
 
 /* Whether a table is told in these lines. */
@@ -229,7 +234,7 @@ static void given(void) {
     CHECK(entangle_rows_text(&rows, TEXT("'); --"), &refusal) == ENTANGLE_DONE);
     CHECK(entangle_rows_int(&rows, 136, &refusal) == ENTANGLE_DONE);
     refusal = 77;
-    CHECK(entangle_room_open(&room, TEXT(TABLES), &rows, 1, 1, &LIMITS, &refusal, &told) == ENTANGLE_DONE && room);
+    CHECK(entangle_room_open(&room, TEXT(TABLES), &rows, 1, 1, 1, &LIMITS, &refusal, &told) == ENTANGLE_DONE && room);
     CHECK(!rows && !refusal && tells_text(&told, 0));
     CHECK(shows(&room, "Flights",
                 "table Flights 3\n(-9223372036854775808, 'O''Hara')\n(122, 'LA')\n(136, 'Paris')\n"));
@@ -237,11 +242,12 @@ static void given(void) {
     add_flight(&rows, 1, "LA");
     entangle_rows *at = rows;
     refusal = 77;
-    CHECK(entangle_room_open(&room, TEXT(TABLES), &rows, 1, 1, &LIMITS, &refusal, &told) == ENTANGLE_MISUSED);
+    CHECK(entangle_room_open(&room, TEXT(TABLES), &rows, 1, 1, 1, &LIMITS, &refusal, &told) == ENTANGLE_MISUSED);
     CHECK(rows == at && refusal == 77 && room);
     entangle_room_free(&room);
-    CHECK(entangle_room_open(&room, NULL, 1, &rows, 1, 1, &LIMITS, &refusal, &told) == ENTANGLE_MISUSED && rows == at);
-    CHECK(entangle_room_open(&room, TEXT(TABLES), &rows, 1, 1, &LIMITS, &refusal, &told) == ENTANGLE_DONE && !rows);
+    CHECK(entangle_room_open(&room, NULL, 1, &rows, 1, 1, 1, &LIMITS, &refusal, &told) == ENTANGLE_MISUSED);
+    CHECK(rows == at);
+    CHECK(entangle_room_open(&room, TEXT(TABLES), &rows, 1, 1, 1, &LIMITS, &refusal, &told) == ENTANGLE_DONE && !rows);
     CHECK(shows(&room, "Flights", "table Flights 3\n(1, 'LA')\n(122, 'LA')\n(136, 'Paris')\n"));
     entangle_room_free(&room);
 }
@@ -251,7 +257,7 @@ static void not_opened(entangle_rows **rows, uint16_t code, size_t number) {
     entangle_room *room = NULL;
     entangle_told told;
     uint32_t refusal = 77;
-    CHECK(entangle_room_open(&room, TEXT(TABLES), rows, 1, 1, &LIMITS, &refusal, &told) == ENTANGLE_REFUSED);
+    CHECK(entangle_room_open(&room, TEXT(TABLES), rows, 1, 1, 1, &LIMITS, &refusal, &told) == ENTANGLE_REFUSED);
     CHECK(refusal == ENTANGLE_ROOM_NOT_A_ROW && !room && !*rows);
     CHECK(told.code == code && told.offset == number && !told.has_place && !told.line && !told.column && !told.needed);
 }
@@ -282,18 +288,19 @@ static void misfits(void) {
     CHECK(entangle_rows_text(&rows, TEXT("x"), &refusal) == ENTANGLE_DONE);
     not_opened(&rows, 304, 2);
     CHECK(entangle_rows_begin(&rows, TEXT("Seats"), &refusal) == ENTANGLE_DONE);
-    CHECK(entangle_room_open(&room, TEXT(faulty), &rows, 1, 1, &LIMITS, &refusal, &told) == ENTANGLE_REFUSED && !rows);
-    CHECK(refusal == ENTANGLE_ROOM_FAULTY && told.code == 304 && told.has_place && told.offset == 46);
+    CHECK(entangle_room_open(&room, TEXT(faulty), &rows, 1, 1, 1, &LIMITS, &refusal, &told) == ENTANGLE_REFUSED);
+    CHECK(refusal == ENTANGLE_ROOM_FAULTY && told.code == 304 && told.has_place && told.offset == 46 && !rows);
     /* TABLES has two rows. */
     for (int64_t number = 1; number <= 65534; number++) add_flight(&rows, -number, "LA");
-    CHECK(entangle_room_open(&room, TEXT(TABLES), &rows, 1, 1, &LIMITS, &refusal, &told) == ENTANGLE_DONE && !rows);
+    CHECK(entangle_room_open(&room, TEXT(TABLES), &rows, 1, 1, 1, &LIMITS, &refusal, &told) == ENTANGLE_DONE && !rows);
     CHECK(entangle_room_table(&room, TEXT("Flights"), line, sizeof line, &told) == ENTANGLE_DONE);
     CHECK(!memcmp(line, "table Flights 65536\n(-65534, 'LA'", sizeof line));
     entangle_room_free(&room);
     CHECK(entangle_rows_begin(&rows, TEXT("Seats"), &refusal) == ENTANGLE_DONE);
     for (int64_t number = 1; number <= 65534; number++) add_flight(&rows, number, "LA");
-    CHECK(entangle_room_open(&room, TEXT(TABLES), &rows, 1, 1, &LIMITS, &refusal, &told) == ENTANGLE_REFUSED && !rows);
+    CHECK(entangle_room_open(&room, TEXT(TABLES), &rows, 1, 1, 1, &LIMITS, &refusal, &told) == ENTANGLE_REFUSED);
     CHECK(refusal == ENTANGLE_ROOM_TOO_MANY_ROWS && told.code == 407 && !told.has_place && !told.offset && !room);
+    CHECK(!rows);
 }
 
 /* A script with a value that isn't bound in it is explained in a line, which names the host variable. */
@@ -394,6 +401,33 @@ static bool stepped(entangle_room **room) {
     return ran;
 }
 
+/* What the feed tells of the friends; and of those who come later. */
+static const char BOOKED[] =
+    "{\"group\":41,\"epoch\":3,\"commits\":["
+    "{\"ticket\":10,\"number\":1,\"answers\":[{\"answer\":{\"Trip\":[\"Mickey\",122]}},{\"count\":1}]},"
+    "{\"ticket\":11,\"number\":2,\"answers\":[{\"answer\":{\"Trip\":[\"Minnie\",122]}},{\"count\":1}]}],"
+    "\"changes\":{\"Bookings\":{\"removed\":[],\"added\":[[\"Mickey\",122],[\"Minnie\",122]]}},\"ended\":[]}\n";
+static const char LATER[] =
+    "{\"group\":42,\"epoch\":5,\"commits\":[{\"ticket\":13,\"number\":1,\"answers\":[{\"count\":1}]}],"
+    "\"changes\":{\"Flights\":{\"removed\":[],\"added\":[[7,\"LA\"]]}},\"ended\":[]}\n"
+    "{\"group\":43,\"epoch\":5,\"commits\":[],\"changes\":{},\"ended\":[{\"ticket\":4,\"ending\":\"rolled back\"}]}\n";
+
+/* Whether the feed tells these lines of the groups from a number on. */
+static bool tells(entangle_room **room, uint64_t from, const char *lines) {
+    char buffer[1024];
+    entangle_told told;
+    memset(buffer, '#', sizeof buffer);
+    CHECK(entangle_room_groups(room, from, buffer, sizeof buffer, &told) == ENTANGLE_DONE);
+    return tells_text(&told, strlen(lines)) && !memcmp(buffer, lines, strlen(lines)) && buffer[strlen(lines)] == '#';
+}
+
+/* The number of the next group. */
+static uint64_t next_group(entangle_room **room) {
+    uint64_t number = 7;
+    CHECK(entangle_room_next_group(room, &number) == ENTANGLE_DONE);
+    return number;
+}
+
 /* Mickey is lonely until Minnie comes; then both are booked, with one flight. */
 static void meeting(entangle_room **room) {
     static const char lonely[] =
@@ -423,6 +457,7 @@ static void meeting(entangle_room **room) {
     CHECK(entangle_room_ended(room, 1, &ticket) == ENTANGLE_DONE && ticket + first == 21);
     CHECK(entangle_room_ended(room, 2, &ticket) == ENTANGLE_REFUSED && ticket + first == 21);
     CHECK(entangle_room_waiting(room, 0, &ticket) == ENTANGLE_REFUSED);
+    CHECK(tells(room, 0, BOOKED) && tells(room, 41, BOOKED) && tells(room, 42, "") && next_group(room) == 42);
 }
 
 /* Those who wait go over the turn, and drained tables are empty then. */
@@ -482,17 +517,53 @@ static void restored(entangle_room **room) {
     CHECK(entangle_room_waiting(room, 0, &ticket) == ENTANGLE_REFUSED);
 }
 
+/* The feed goes on over turns, tells nothing of who is withdrawn, and keeps no group that the caller has. */
+static void settled(entangle_room **room) {
+    char both[sizeof BOOKED + sizeof LATER];
+    entangle_told told;
+    snprintf(both, sizeof both, "%s%s", BOOKED, LATER);
+    CHECK(tells(room, 0, both) && tells(room, 42, LATER) && next_group(room) == 44);
+    CHECK(entangle_room_groups(room, 42, NULL, 0, &told) == ENTANGLE_DONE && tells_text(&told, sizeof LATER - 1));
+    CHECK(entangle_room_groups(room, 42, NULL, 1, &told) == ENTANGLE_MISUSED);
+    CHECK(entangle_room_settled_through(room, 40) == ENTANGLE_DONE && tells(room, 0, both));
+    CHECK(entangle_room_settled_through(room, 41) == ENTANGLE_DONE && tells(room, 0, LATER));
+    CHECK(entangle_room_settled_through(room, UINT64_MAX) == ENTANGLE_DONE && tells(room, 0, ""));
+    CHECK(next_group(room) == 44);
+}
+
+/* Without a number for the next group a step says so; what was done stays done. */
+static void numberless(void) {
+    entangle_room *room = NULL;
+    entangle_rows *rows = NULL;
+    entangle_values *none = NULL;
+    entangle_told told;
+    uint64_t ticket = 0;
+    uint32_t refusal = 77, step = 77;
+    CHECK(entangle_room_open(&room, TEXT(TABLES), &rows, 1, 1, UINT64_MAX, &LIMITS, &refusal, &told) == ENTANGLE_DONE);
+    CHECK(!stepped(&room) && next_group(&room) == UINT64_MAX);
+    CHECK(entangle_room_put(&room, TEXT(WRITER), &none, -1, &ticket, &refusal, &told) == ENTANGLE_DONE);
+    for (int count = 0; count < 2; count++) {
+        CHECK(entangle_room_step(&room, &step, &refusal) == ENTANGLE_REFUSED);
+        CHECK(refusal == ENTANGLE_ROOM_NO_NUMBER && step == 77 && tells(&room, 0, ""));
+        CHECK(shows(&room, "Flights", "table Flights 3\n(7, 'LA')\n(122, 'LA')\n(136, 'Paris')\n"));
+    }
+    CHECK(entangle_room_turn(&room, TEXT(""), &refusal, &told) == ENTANGLE_REFUSED && refusal == ENTANGLE_ROOM_BUSY);
+    entangle_room_free(&room);
+}
+
 /* A room from its opening to its end. */
 static void whole(void) {
     entangle_room *room = NULL;
     entangle_rows *rows = NULL;
     entangle_told told;
     uint32_t refusal = 77;
-    CHECK(entangle_room_open(&room, TEXT(TABLES), &rows, 3, 10, &LIMITS, &refusal, &told) == ENTANGLE_DONE && !refusal);
+    CHECK(entangle_room_open(&room, TEXT(TABLES), &rows, 3, 10, 41, &LIMITS, &refusal, &told) == ENTANGLE_DONE);
+    CHECK(!refusal && tells(&room, 0, "") && next_group(&room) == 41);
     put_refused(&room);
     meeting(&room);
     turning(&room);
     restored(&room);
+    settled(&room);
     entangle_room_free(&room);
     CHECK(!room);
 }
@@ -506,7 +577,7 @@ static void many(void) {
         uint32_t refusal;
         add_flight(&rows, 7, "Rome");
         if (count % 4 == 3) entangle_rows_free(&rows);
-        CHECK(entangle_room_open(&room, TEXT(TABLES), &rows, 1, 10, &LIMITS, &refusal, &told) == ENTANGLE_DONE);
+        CHECK(entangle_room_open(&room, TEXT(TABLES), &rows, 1, 10, 1, &LIMITS, &refusal, &told) == ENTANGLE_DONE);
         CHECK(put_friend(&room, "Mickey", "Minnie") == 10);
         CHECK(count % 2 || put_friend(&room, "Minnie", "Mickey") == 11);
         CHECK(count % 3 == 0 || stepped(&room) == (count % 2 == 0));
@@ -584,7 +655,7 @@ static bool lived(long number) {
     uint32_t refusal = 77, step = 0;
     until = number;
     collect(&rows);
-    REPEATED(entangle_room_open(&room, TEXT(TABLES), &rows, 3, 10, &LIMITS, &refusal, &told),
+    REPEATED(entangle_room_open(&room, TEXT(TABLES), &rows, 3, 10, 41, &LIMITS, &refusal, &told),
              told.code == 900 && !room && !rows && collect(&rows));
     CHECK(!rows);
     ask(&room);
@@ -595,6 +666,9 @@ static bool lived(long number) {
     } while (step != ENTANGLE_IDLE);
     REPEATED(entangle_room_table(&room, TEXT("Bookings"), buffer, sizeof buffer, &told), told.code == 900);
     CHECK(told.needed == 49 && !memcmp(buffer, "table Bookings 2\n('Mickey', 122)\n", 33));
+    REPEATED(entangle_room_groups(&room, 0, buffer, sizeof buffer, &told), told.code == 900);
+    CHECK(told.needed == sizeof BOOKED - 1 && !memcmp(buffer, BOOKED, sizeof BOOKED - 1));
+    CHECK(entangle_room_settled_through(&room, 41) == ENTANGLE_DONE);
     REPEATED(entangle_room_turn(&room, TEXT("Bookings"), &refusal, &told), told.code == 900 && !refusal);
     REPEATED(entangle_room_report(&room, 2, buffer, sizeof buffer, &epoch, &told), told.code == 900 && !epoch);
     bool is_reached = until < 0;
@@ -624,6 +698,7 @@ int main(void) {
     given();
     misfits();
     whole();
+    numberless();
     many();
 #ifdef REFUSING
     refusals();

@@ -53,8 +53,8 @@ def library() -> bytes:
 
 def sources() -> Files:
     """The package's own files."""
-    files = sorted(file for file in PACKAGE.iterdir() if file.suffix == ".py" or file.name == "py.typed")
-    return {f"entangle/{file.name}": file.read_bytes() for file in files}
+    files = sorted(file for file in PACKAGE.rglob("*") if file.suffix == ".py" or file.name == "py.typed")
+    return {file.relative_to(PACKAGE.parent).as_posix(): file.read_bytes() for file in files}
 
 
 def description() -> bytes:

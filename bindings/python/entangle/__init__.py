@@ -22,6 +22,7 @@ Two friends fly on one flight, whichever it is. Each puts the same script, with 
             pass
         room.wait(mickey)                            # TicketCommitted(epoch=1, number=1)
         room.table("Bookings")                       # [('Mickey', 122), ('Minnie', 122)]
+        room.groups()                                # what committed together, and what that changed
 
 In an event loop, `await room.fate(mickey)` waits. Calls without a room take an input whole:
 
@@ -48,6 +49,8 @@ libentangle.so of this package, or, in a checkout, that of bindings/archive. A c
 makes it, and other threads of Python go on meanwhile. Calls that need neither a room nor a manager stand alone: any
 number may be made at once. Threads may share a room or a manager, which has a lock inside.
 
+`entangle.stores` keeps a room in SQLite or PostgreSQL, so that it outlives the process.
+
 Every error of this package is an Error: Refused and OutOfMemory, which are Faults; the refusals of a room, which are
 RoomErrors; StateError; and LibraryError, with which `import entangle` refuses a shared object that isn't the one of
 this package. A wrong type is a TypeError; a version of a report, a step or a patience that doesn't exist is a
@@ -57,13 +60,13 @@ ValueError; and a wait that takes too long is a TimeoutError.
 from ._calls import Verdict, check, explain, report
 from ._errors import Error, Fault, LibraryError, OutOfMemory, Refused, StateError
 from ._given import Rows, Values
+from ._groups import EndedTicket, Group, GroupCommit, TableChange
 from ._library import Text, __version__, library_version
 from ._manager import Manager, Reply, Step
-from ._refusals import BatchIsOn, BindingFault, NoMoreEpochs, NobodyWaits, NotARow, NotBound, RoomError, RoomFull
+from ._refusals import BatchIsOn, BindingFault, NoMoreNumbers, NobodyWaits, NotARow, NotBound, RoomError, RoomFull
 from ._refusals import RowFault, TicketUsed, UnknownTicket
 from ._room import EpochReport, Patience, Room, Stepped
 from ._standing import Committed, Failed, Failure, Fate, GaveUp, RolledBack, Running, Standing, Waiting
-from ._telling import Change, Commit
 from ._tickets import Ending, Submission, Ticket, TicketCommitted, TicketFailed, TicketGaveUp, TicketInBatch
 from ._tickets import TicketLonely, TicketNoMeeting, TicketRolledBack, TicketState, TicketUnknown, TicketWaits
 from ._tickets import TicketWithdrawn
@@ -73,10 +76,9 @@ __all__ = [
     "Answer",
     "BatchIsOn",
     "BindingFault",
-    "Change",
-    "Commit",
     "Committed",
     "CountAnswer",
+    "EndedTicket",
     "Ending",
     "EntangledAnswer",
     "EpochReport",
@@ -87,9 +89,11 @@ __all__ = [
     "Fate",
     "Fault",
     "GaveUp",
+    "Group",
+    "GroupCommit",
     "LibraryError",
     "Manager",
-    "NoMoreEpochs",
+    "NoMoreNumbers",
     "NobodyWaits",
     "NotARow",
     "NotBound",
@@ -112,6 +116,7 @@ __all__ = [
     "Step",
     "Stepped",
     "Submission",
+    "TableChange",
     "Text",
     "Ticket",
     "TicketCommitted",

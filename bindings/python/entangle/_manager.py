@@ -13,7 +13,6 @@ from ._errors import OutOfMemory, Refused
 from ._library import LIBRARY, OUT_OF_MEMORY, REFUSED, Position, Text, Told
 from ._library import buffered, checked_tx, checked_version, encoded, raise_for
 from ._standing import Standing, standing_of
-from ._telling import Commit, ToldRun
 from ._values import Answer, Row, answers_in, table_in
 
 _NO_SUCH, _NOT_DONE, _TOO_MANY_ROWS = 401, 405, 407
@@ -77,8 +76,6 @@ class Manager:
         Raises Refused for the first fault of the input, and OutOfMemory.
         """
         self._lock = threading.RLock()
-        self._unfinished: list[int] = []
-        self._submitted = 0
         self._handle = ctypes.c_void_p()
         told, given = Told(), encoded(opening, "an opening")
         status = LIBRARY.ent_c_open(self._place(), given, len(given), ctypes.byref(told))
@@ -136,31 +133,11 @@ class Manager:
             status = LIBRARY.ent_c_run(self._place())
         raise_for(status, Told())
 
-    def run_telling(self, *tables: str) -> list[Commit]:
-        """Makes one run as run() does, and tells what each commit changed in these tables, in the order of the commits.
-
-        It makes the run event by event, and reads the tables behind each statement: so it is for tables of some
-        thousand rows. Raises Refused (E401) if there is no such table, and OutOfMemory. If a run is on, by step() or
-        since memory ran out, it goes on with that run, and doesn't tell what was changed or committed in it before.
-        """
-        with self._lock:
-            return ToldRun(self, tables).make()
-
-    def _running(self) -> list[int]:
-        """The members of the run that is on, by number."""
-        with suppress(Refused):
-            while self.standing(self._submitted + 1):
-                self._submitted += 1
-                self._unfinished.append(self._submitted)
-        standings = [(tx, self.standing(tx)) for tx in self._unfinished]
-        self._unfinished = [tx for tx, standing in standings if not standing.is_finished]
-        return [tx for tx, standing in standings if standing.kind == "running"]
-
     def step(self, what: Step, tx: int = 0) -> Reply:
         """Makes one event, for a caller that orders those of a run itself, and tells the reply.
 
         It is one of "start run", "begin" (of a transaction), "pick", "break cycle" and "end run"; the job that it lends
-        is carried out within it. The reply is in the words of docs/SCENARIOS.md, without what stands behind them;
+        is carried out within it. The reply is in the words of docs/TESTING.md, without what stands behind them;
         "absent" (E401), "not now" (E402) and "busy" (E404) are refusals, which change nothing. Raises ValueError for
         another event, and OutOfMemory: what was done stands, and the step may be made again.
         """
@@ -227,8 +204,7 @@ class Manager:
         """
         with self._lock:
             status = LIBRARY.ent_c_renew(self._place())
-            raise_for(status, Told(code=_TOO_MANY_ROWS))
-            self._unfinished, self._submitted = [], 0
+        raise_for(status, Told(code=_TOO_MANY_ROWS))
 
     def report(self, version: int = 1) -> str:
         """The report of a manager whose book is closed, of this version. Raises StateError if it isn't."""

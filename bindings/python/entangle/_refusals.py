@@ -102,8 +102,8 @@ class BatchIsOn(RoomError):
     """The ticket is in a batch that isn't over, or a batch is on, since memory ran out. The next step goes on there."""
 
 
-class NoMoreEpochs(RoomError):
-    """The epoch has the greatest number that there is."""
+class NoMoreNumbers(RoomError):
+    """The epoch, or the next group, has the greatest number that there is."""
 
 
 FAULTY, NOT_A_ROW = 1, 16
@@ -115,7 +115,7 @@ _REFUSALS: dict[int, tuple[type[RoomError], str]] = {
     11: (TicketUsed, "the ticket can't come in again"),
     12: (NobodyWaits, "nobody waits under this ticket"),
     13: (BatchIsOn, "a batch isn't over"),
-    15: (NoMoreEpochs, "the epoch has the greatest number that there is"),
+    15: (NoMoreNumbers, "the epoch, or the next group, has the greatest number that there is"),
 }
 # The faults of values, by the numbers of the same enum; those of names and values of a row.
 BINDING_FAULTS = {
@@ -148,5 +148,5 @@ def refusal_of(number: int) -> Error:
 
 
 # A public name stands where it is imported from, in tracebacks and in pickles too.
-for _error in (RoomError, RoomFull, NotBound, NotARow, TicketUsed, NobodyWaits, UnknownTicket, BatchIsOn, NoMoreEpochs):
+for _error in (RoomError, *RoomError.__subclasses__()):
     _error.__module__ = "entangle"

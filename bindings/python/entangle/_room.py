@@ -14,6 +14,7 @@ from typing import TYPE_CHECKING, Any, Literal, NoReturn, Optional, Union
 from ._calls import keep_explanation
 from ._errors import OutOfMemory, Refused, StateError
 from ._given import Rows, Values, bound, given_rows
+from ._groups import Group, groups_in
 from ._library import DONE, LIBRARY, MISUSED, REFUSED, Limits, SubmissionSeen, Text, TicketPosition, Told
 from ._library import buffered, checked_version, encoded, fault_of
 from ._refusals import BINDING_FAULTS, FAULTY, NOT_A_ROW, NotBound, UnknownTicket, refusal_of
@@ -98,6 +99,9 @@ class Room:
     one call at a time. So one thread makes steps, and others put scripts and wait for their ends, by wait(), or, in an
     event loop, by `await room.fate(ticket)`. Each end is told by the call that brings it; nothing polls. A room can be
     neither copied nor pickled.
+
+    groups() tells what the steps did. It stays in memory until settled_through() says that it stands elsewhere, also if
+    nobody asks for it.
     """
 
     def __init__(
@@ -107,16 +111,17 @@ class Room:
         *,
         epoch: int = 1,
         next_ticket: Ticket = Ticket(1),
+        next_group: int = 1,
         most_waiters: int = 100_000,
         most_ended: int = 1_024,
     ) -> None:
         """Opens it over an input: its tables with their rows. Scripts that it has are put in order, to wait for as long
         as they say. `rows` has further rows of its tables, by their names, as table() gives them.
 
-        The first epoch has the number `epoch`, and the first script that is put has the ticket `next_ticket`: those
-        below it are of an earlier process. So many scripts may wait at once, and of the last `most_ended` that ended it
-        is kept how. A step ends 128 at most: with fewer than these, a wait may be told that how its ticket ended isn't
-        kept.
+        The first epoch has the number `epoch`, the first script that is put has the ticket `next_ticket`, and the first
+        group the number `next_group`: those below them are of an earlier process. So many scripts may wait at once, and
+        of the last `most_ended` that ended it is kept how. A step ends 128 at most: with fewer than these, a wait may
+        be told that how its ticket ended isn't kept.
 
         Raises NotARow for the first of `rows` that can't be one of any table; else Refused for the first fault of the
         input, with its explanation, or for more than 65,536 rows together (E407); else NotARow for the first of `rows`
@@ -129,7 +134,8 @@ class Room:
         self._last_ended: Optional[int] = None
         limits = Limits(_checked_number(most_waiters, "most_waiters"), self._most_ended)
         given, first_epoch = encoded(opening, "an opening"), _checked_number(epoch, "epoch")
-        first_ticket, told, refusal = checked_ticket(next_ticket), Told(), ctypes.c_uint32()
+        first_ticket, first_group = checked_ticket(next_ticket), _checked_number(next_group, "next_group")
+        told, refusal = Told(), ctypes.c_uint32()
         with given_rows({} if rows is None else rows) as more:
             status = LIBRARY.ent_c_room_open(
                 ctypes.byref(self._handle),
@@ -138,6 +144,7 @@ class Room:
                 more.place,
                 first_epoch,
                 first_ticket,
+                first_group,
                 ctypes.byref(limits),
                 ctypes.byref(refusal),
                 ctypes.byref(told),
@@ -274,8 +281,9 @@ class Room:
         nothing to do until a script is put or restored. So make steps until one is "idle".
 
         Raises Refused (E407) if the epoch would have to end, and its tables have more than 65,536 rows together, or
-        NoMoreEpochs if its number is the greatest: then nothing has changed. After OutOfMemory what was done stands,
-        and the next step goes on.
+        NoMoreNumbers if its number is the greatest: then nothing has changed. It raises NoMoreNumbers too if there is
+        none for a further group: what was done stands then, and isn't told. After OutOfMemory what was done stands, and
+        the next step goes on.
         """
         step, refusal = ctypes.c_uint32(), ctypes.c_uint32()
         with self._lock:
@@ -343,7 +351,8 @@ class Room:
         that only collect.
 
         Raises Refused if no table has a name (E401), or the other tables have more than 65,536 rows together (E407);
-        BatchIsOn if a batch isn't over, since memory ran out; NoMoreEpochs; and OutOfMemory. Then nothing has changed.
+        BatchIsOn if a batch isn't over, since memory ran out; NoMoreNumbers; and OutOfMemory. Then nothing has
+        changed.
         """
         names, refusal, told = _checked_drained(drained), ctypes.c_uint32(), Told()
         with self._lock:
@@ -368,6 +377,32 @@ class Room:
             return None
         _raise_for(status, told)
         return EpochReport(epoch.value, text)
+
+    def groups(self, first: int = 0) -> list[Group]:
+        """The groups from this number on that are kept: in order, what was committed and what changed, and who else
+        ended; but not who was withdrawn, nor rows that a turn drained. After a step that raised nothing they tell all
+        that was done.
+
+        They are kept until settled_through() says that they stand elsewhere. Raises OutOfMemory.
+        """
+        number = _checked_number(first, "first")
+        with self._lock:
+            status, lines, told = buffered(LIBRARY.ent_c_room_groups, self._place(), number)
+        _raise_for(status, told)
+        return groups_in(lines)
+
+    def next_group(self) -> int:
+        """The number of the next group."""
+        number = ctypes.c_uint64()
+        with self._lock:
+            LIBRARY.ent_c_room_next_group(self._place(), ctypes.byref(number))
+        return number.value
+
+    def settled_through(self, number: int) -> None:
+        """The groups up to this number are kept no longer, which frees their memory. Numbers go on as before."""
+        last = _checked_number(number, "number")
+        with self._lock:
+            LIBRARY.ent_c_room_settled_through(self._place(), last)
 
     def wait(self, ticket: Ticket, timeout: Optional[float] = None) -> Ending:
         """Waits until a ticket has ended, and tells how.

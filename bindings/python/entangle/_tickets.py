@@ -168,3 +168,17 @@ def state_of(position: TicketPosition) -> TicketState:
     if position.kind == 7:
         return TicketFailed(FAILURES[position.failure])
     return states[position.kind]
+
+
+def ending_of_words(kind: str, epoch: Optional[int], number: Optional[int], failure: Optional[str]) -> Ending:
+    """An ending of the word for its kind, and of what else is said of it."""
+    if kind == "committed" and epoch is not None and number is not None:
+        return TicketCommitted(epoch, number)
+    if kind == "failed" and failure is not None:
+        return TicketFailed(Failure(failure))
+    others: dict[str, Ending] = {
+        "rolled back": TicketRolledBack(),
+        "gave up": TicketGaveUp(),
+        "withdrawn": TicketWithdrawn(),
+    }
+    return others[kind]

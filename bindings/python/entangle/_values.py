@@ -1,10 +1,10 @@
-"""What statements were answered, and rows: read from the lines of a report."""
+"""What statements were answered, and rows: read from the lines of a report, and answers from JSON too."""
 
 from __future__ import annotations
 
 import re
 from dataclasses import dataclass
-from typing import ClassVar, Iterator, Literal, Union
+from typing import Any, ClassVar, Iterator, Literal, Union
 
 Value = Union[int, str]
 Row = tuple[Value, ...]
@@ -102,3 +102,15 @@ def answers_in(lines: str) -> list[Answer]:
 def table_in(lines: str) -> list[Row]:
     """The rows of a table that lines of a report say."""
     return [_row_at(line, 0)[0] for line in lines.split("\n")[1:-1]]
+
+
+def answer_of_json(said: dict[str, Any]) -> Answer:
+    """An answer as the lines of a feed have it, and stores: {"count": 1} or {"answer": {"Trip": ["Mickey", 122]}}."""
+    ((word, what),) = said.items()
+    if word == "count":
+        return CountAnswer(what)
+    if word == "set":
+        return SetAnswer(what)
+    if word == "rows":
+        return RowsAnswer(tuple(map(tuple, what)))
+    return EntangledAnswer(tuple(Fact(relation, tuple(values)) for relation, values in what.items()))

@@ -69,6 +69,13 @@ def said_by_kind_of_ticket(state: entangle.TicketState) -> int:
     return state.number if state.kind == "committed" else 0
 
 
+def said_of_group(group: entangle.Group) -> str:
+    said = [said_of_answer(answer) for commit in group.commits for answer in commit.answers]
+    said += [f"{name} {len(change.added) - len(change.removed):+}" for name, change in group.changes.items()]
+    said += [said_of_ticket(one.ending) for one in group.ended]
+    return f"group {group.number + 0}: {', '.join(said)}"
+
+
 async def awaited(room: entangle.Room, ticket: entangle.Ticket) -> entangle.Ending:
     return await room.fate(ticket)
 
@@ -100,6 +107,10 @@ def tell_of_room() -> None:
         assert said_of_ticket(ending) == "commit 1 of epoch 1"
         assert said_by_kind_of_ticket(room.state(other)) == 2
         assert said_of_ticket(asyncio.run(awaited(room, other))) == "commit 2 of epoch 1"
+        groups: list[entangle.Group] = room.groups(2)
+        assert [said_of_group(group) for group in groups] == ["group 2: 1 rows, T +1"]
+        room.settled_through(groups[-1].number)
+        assert room.groups() == [] and room.next_group() - 3 == 0
         epoch: int = room.turn("T")
         report = room.report(2)
         assert report is not None and report.epoch == epoch and room.table("T") == []

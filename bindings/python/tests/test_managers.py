@@ -84,56 +84,6 @@ class Managers(unittest.TestCase):
                 manager.finish()
             self.assertEqual(caught.exception.code, 405)
 
-    def test_a_run_tells_what_each_commit_changed(self):
-        tables = "CREATE TABLE Flights (fno INT, dest TEXT); CREATE TABLE Trips (who TEXT, fno INT);"
-        tables += "INSERT INTO Flights VALUES (122, 'LA');"
-
-        def script(statements, end="COMMIT", runs=9):
-            return f"BEGIN TRANSACTION WITHIN {runs} RUNS; {statements} {end};"
-
-        def trip(who, friend):
-            return script(
-                f"SELECT '{who}', fno AS @fno INTO ANSWER R WHERE fno IN (SELECT fno FROM Flights)"
-                f" AND ('{friend}', fno) IN ANSWER R CHOOSE 1; INSERT INTO Trips VALUES ('{who}', @fno);",
-                runs=2,
-            )
-
-        def plain(*scripts):
-            with entangle.Manager(tables) as manager:
-                for text in scripts:
-                    manager.submit(text)
-                while any(manager.standing(tx + 1).kind == "waiting" for tx in range(len(scripts))):
-                    manager.run()
-                return [manager.standing(tx + 1) for tx in range(len(scripts))], manager.table("Trips")
-
-        moved = "UPDATE Flights SET dest = 'Rome' WHERE fno = 122; UPDATE Flights SET dest = 'Oslo' WHERE fno = 122;"
-        taken = "INSERT INTO Flights VALUES (9, 'Bonn'); DELETE FROM Flights WHERE fno = 9;"
-        scripts = [trip("Ann", "Bob"), trip("Bob", "Ann"), trip("Eve", "Finn"), script(moved), script(taken)]
-        scripts += [script("INSERT INTO Trips VALUES ('nobody', 1);", "ROLLBACK")]
-        with entangle.Manager(tables) as manager:
-            for text in scripts:
-                manager.submit(text)
-            commits = []
-            while any(manager.standing(tx + 1).kind == "waiting" for tx in range(len(scripts))):
-                commits += manager.run_telling("Flights", "Trips")
-            self.assertEqual(([manager.standing(tx + 1) for tx in range(6)], manager.table("Trips")), plain(*scripts))
-        self.assertEqual([commit.number for commit in commits], list(range(1, 5)))
-        told = {commit.tx: commit.changes for commit in commits}
-        self.assertEqual(told[1], (entangle.Change("Trips", (("Ann", 122),), ()),))
-        self.assertEqual(told[2], (entangle.Change("Trips", (("Bob", 122),), ()),))
-        self.assertEqual(told[4], (entangle.Change("Flights", ((122, "Oslo"),), ((122, "LA"),)),))
-        self.assertEqual(told[5], ())
-
-    def test_a_renewed_manager_tells_its_commits(self):
-        with entangle.Manager(TABLES) as manager:
-            for number in range(2):
-                manager.submit(f"BEGIN TRANSACTION; INSERT INTO Trips VALUES ({number}); COMMIT;")
-                change = entangle.Change("Trips", ((number,),), ())
-                self.assertEqual(manager.run_telling("Trips"), [entangle.Commit(1, 1, (change,))])
-                manager.finish()
-                manager.renew()
-            self.assertRaises(entangle.Refused, manager.standing, 2**64 + 1)
-
     def test_a_text_may_have_strange_spaces(self):
         text = "a\x85b\u2028c\u2029d"
         with entangle.Manager("CREATE TABLE T (a TEXT);") as manager:
@@ -255,7 +205,7 @@ class Managers(unittest.TestCase):
 
     def test_wrong_types_are_refused(self):
         with entangle.Manager(TABLES) as manager:
-            for call in (manager.submit, manager.explain, manager.table, manager.run_telling):
+            for call in (manager.submit, manager.explain, manager.table):
                 for wrong in (5, None, ("a",)):
                     with self.subTest(wrong=wrong, call=call):
                         self.assertRaisesRegex(TypeError, " is a str or bytes, not ", call, wrong)

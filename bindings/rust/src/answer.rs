@@ -39,10 +39,10 @@ impl fmt::Display for Fact {
     }
 }
 
-/// Why lines aren't read.
+/// Why lines of the library aren't read.
 #[derive(Debug, PartialEq, Eq)]
 pub(crate) enum Unread {
-    /// They aren't lines of a report.
+    /// The library writes no such lines.
     Strange,
     /// Memory ran out.
     OutOfMemory,
@@ -54,17 +54,17 @@ impl From<TryReserveError> for Unread {
     }
 }
 
-type Read<T> = Result<T, Unread>;
+pub(crate) type Read<T> = Result<T, Unread>;
 
 /// Puts a thing behind a list, if there is memory for it.
-fn push<T>(list: &mut Vec<T>, thing: T) -> Read<()> {
+pub(crate) fn push<T>(list: &mut Vec<T>, thing: T) -> Read<()> {
     list.try_reserve(1)?;
     list.push(thing);
     Ok(())
 }
 
 /// Puts a text behind another, if there is memory for it.
-fn push_text(text: &mut String, more: &str) -> Read<()> {
+pub(crate) fn push_text(text: &mut String, more: &str) -> Read<()> {
     text.try_reserve(more.len())?;
     text.push_str(more);
     Ok(())

@@ -178,6 +178,7 @@ unsafe extern "C" {
         rows: *mut *mut Opaque,
         epoch: u64,
         next: u64,
+        next_group: u64,
         limits: *const Limits,
         refusal: *mut u32,
         told: *mut Told,
@@ -224,6 +225,12 @@ unsafe extern "C" {
     fn ent_c_room_ended(room: *mut *mut Opaque, back: u64, ticket: *mut u64) -> i32;
 
     fn ent_c_room_submission(room: *mut *mut Opaque, ticket: u64, place: u64, submission: *mut SubmissionSeen) -> i32;
+
+    fn ent_c_room_groups(room: *mut *mut Opaque, number: u64, buffer: *mut u8, capacity: usize, told: *mut Told)
+    -> i32;
+
+    fn ent_c_room_next_group(room: *mut *mut Opaque, number: *mut u64) -> i32;
+    fn ent_c_room_settled_through(room: *mut *mut Opaque, number: u64) -> i32;
 
     fn ent_c_room_table(
         room: *mut *mut Opaque,

@@ -47,7 +47,7 @@ pub enum RoomError {
     Busy,
     /// The tables have more than 65,536 rows together (E407). If an epoch can't end for it, to drain tables is the cure.
     TooManyRows,
-    /// The epoch has the greatest number that there is.
+    /// The epoch, or the next group, has the greatest number that there is.
     NoNumber,
     /// The room is closed.
     Closed,
@@ -192,7 +192,7 @@ impl fmt::Display for RoomError {
             RoomError::NoSuchTable => "no table has this name",
             RoomError::Busy => "a batch isn't over",
             RoomError::TooManyRows => "the tables have more than 65,536 rows together",
-            RoomError::NoNumber => "the epoch has the greatest number that there is",
+            RoomError::NoNumber => "the epoch, or the next group, has the greatest number that there is",
             RoomError::Closed => "the room is closed",
         })
     }

@@ -2,11 +2,12 @@
 
 use crate::Version;
 use crate::answer::table_in;
-use crate::call::room::RoomHandle;
+use crate::call::room::{First, RoomHandle};
 use crate::call::{Limits, TicketPosition};
 use crate::counted::Counted;
 use crate::fate::FutureFate;
 use crate::given::{bound, error_of_rows, error_of_values, given};
+use crate::group::{Group, groups_in};
 use crate::manager::{Failure, read};
 use crate::refusal::RoomError;
 use crate::ticket::{Ending, Submission, Ticket, TicketState};
@@ -30,15 +31,16 @@ use std::time::{Duration, Instant};
 pub struct RoomOptions {
     epoch: u64,
     next_ticket: Ticket,
+    next_group: u64,
     most_waiters: u64,
     most_ended: u64,
 }
 
 impl Default for RoomOptions {
-    /// The first epoch and the first ticket have the number 1, 100,000 scripts may wait, and of the last 1,024 that
-    /// ended it is kept how.
+    /// The first epoch, the first ticket and the first group have the number 1, 100,000 scripts may wait, and of the
+    /// last 1,024 that ended it is kept how.
     fn default() -> Self {
-        RoomOptions { epoch: 1, next_ticket: Ticket::new(1), most_waiters: 100_000, most_ended: 1_024 }
+        RoomOptions { epoch: 1, next_ticket: Ticket::new(1), next_group: 1, most_waiters: 100_000, most_ended: 1_024 }
     }
 }
 
@@ -51,6 +53,11 @@ impl RoomOptions {
     /// The first script that is put gets this ticket. Those below it are of an earlier process: [`Room::restore`].
     pub fn next_ticket(self, next_ticket: Ticket) -> Self {
         RoomOptions { next_ticket, ..self }
+    }
+
+    /// The first group has this number. Those below it are of an earlier process.
+    pub fn next_group(self, next_group: u64) -> Self {
+        RoomOptions { next_group, ..self }
     }
 
     /// So many scripts may wait at once.
@@ -143,6 +150,9 @@ pub struct EpochReport {
 /// Threads may share a room: a lock inside gives it to one call at a time. So one thread makes steps, and others put
 /// scripts and wait for their ends, by [`Room::wait`] or by the futures of [`Room::fate`]. Each end is told by the call
 /// that brings it; nothing polls.
+///
+/// [`Room::groups`] tells what the steps did. It stays in memory until [`Room::settled_through`] says that it stands
+/// elsewhere, also if nobody asks for it.
 pub struct Room {
     inner: Counted<Inner>,
 }
@@ -300,9 +310,10 @@ impl Room {
     /// there are more than 65,536 rows together (E407); the first row that doesn't fit its table; that the input has
     /// more scripts than may wait; or that memory ran out.
     pub fn open_rows(opening: &str, tables: &[(&str, &[Row])], options: RoomOptions) -> Result<Self, RoomError> {
-        let RoomOptions { epoch, next_ticket, most_waiters, most_ended } = options;
+        let RoomOptions { epoch, next_ticket, next_group, most_waiters, most_ended } = options;
+        let first = First { epoch, ticket: next_ticket.number(), group: next_group };
         let limits = Limits { most_waiters, most_ended };
-        let opened = RoomHandle::open(opening.as_bytes(), given(tables)?, epoch, next_ticket.number(), limits);
+        let opened = RoomHandle::open(opening.as_bytes(), given(tables)?, first, limits);
         let mut handle = opened.map_err(|not_done| error_of_rows(not_done, tables))?;
         let last_ended = handle.ended(0);
         let kept = Mutex::new(Some(Kept { handle, most_ended, last_ended }));
@@ -389,7 +400,8 @@ impl Room {
     /// # Errors
     ///
     /// The epoch would have to end, and its tables have too many rows together, or its number is the greatest: nothing
-    /// has changed then. Or memory ran out: what was done stands, and the next step goes on.
+    /// has changed then. Or there is no number for a further group: what was done stands, and isn't told. Or memory ran
+    /// out: what was done stands, and the next step goes on.
     pub fn step(&self) -> Result<Stepped, RoomError> {
         let step = self.inner.telling(RoomHandle::step)?;
         Ok(match step {
@@ -508,6 +520,55 @@ impl Room {
     pub fn report(&self, version: Version) -> Result<Option<EpochReport>, RoomError> {
         let report = self.inner.with(|kept| kept.handle.report(version.number()))?;
         Ok(report.map(|(epoch, text)| EpochReport { epoch, text }))
+    }
+
+    /// The groups from this number on that are kept: in order, what was committed and what changed, and who else ended;
+    /// but not who was withdrawn, nor rows that a turn drained. After a step without an error they tell all that was
+    /// done. They are kept until [`Room::settled_through`] says that they stand elsewhere.
+    ///
+    /// ```
+    /// # use entangle::{Patience, Room, Row, Stepped};
+    /// # fn write(table: &str, removed: &[Row], added: &[Row]) {}
+    /// # let room = Room::open("CREATE TABLE T (a INT);")?;
+    /// # room.put("BEGIN TRANSACTION; INSERT INTO T VALUES (@a); COMMIT;", &[("a", 1.into())], Patience::AsWritten)?;
+    /// while room.step()? != Stepped::Idle {}
+    /// for group in room.groups(0)? {
+    ///     for change in &group.changes {
+    ///         write(&change.table, &change.removed, &change.added); // all of a group in one transaction
+    ///     }
+    ///     room.settled_through(group.number)?;
+    /// }
+    /// # assert_eq!((room.groups(0)?.len(), room.next_group()?), (0, 2));
+    /// # Ok::<(), entangle::RoomError>(())
+    /// ```
+    ///
+    /// # Errors
+    ///
+    /// The room is closed; or memory ran out.
+    pub fn groups(&self, first: u64) -> Result<Vec<Group>, RoomError> {
+        let lines = self.inner.with(|kept| kept.handle.groups(first))?;
+        read(groups_in(&lines))
+    }
+
+    /// The number of the next group.
+    ///
+    /// # Errors
+    ///
+    /// The room is closed.
+    pub fn next_group(&self) -> Result<u64, RoomError> {
+        self.inner.with(|kept| Ok(kept.handle.next_group()))
+    }
+
+    /// The groups up to this number are kept no longer, which frees their memory. Numbers go on as before.
+    ///
+    /// # Errors
+    ///
+    /// The room is closed.
+    pub fn settled_through(&self, number: u64) -> Result<(), RoomError> {
+        self.inner.with(|kept| {
+            kept.handle.settled_through(number);
+            Ok(())
+        })
     }
 
     /// Waits until a ticket has ended, and tells how.

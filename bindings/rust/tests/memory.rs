@@ -146,6 +146,9 @@ fn calls_of_a_room_tell_that_memory_ran_out() {
     assert!(matches!(told, Poll::Ready(Ok(Ending::Committed { .. }))), "{told:?}");
 
     assert!(matches!(refused_of_room(|| room.wait(bob)), (Ending::Committed { .. }, 1)));
+    let (groups, count) = refused_of_room(|| room.groups(0));
+    assert!(groups.len() == 1 && groups[0].commits.len() == 2 && count > 10);
+    assert_eq!(refused_of_room(|| room.settled_through(1)).1, 0);
     assert!(refused_of_room(|| room.submissions(ann)).1 > 0);
     assert!(refused_of_room(|| room.why(ann)).1 > 0);
     let (wrong, friends) = (script.replace("FROM T", "FROM U"), values("Ann", "Bob"));

@@ -2,8 +2,9 @@
 
 use super::{DONE, Limits, MISUSED, OUT_OF_MEMORY, Opaque, REFUSED, SubmissionSeen, TicketPosition, Told};
 use super::{buffered, fault_of};
-use super::{ent_c_room_ended, ent_c_room_epoch, ent_c_room_explain, ent_c_room_free, ent_c_room_open, ent_c_room_put};
-use super::{ent_c_room_report, ent_c_room_restore, ent_c_room_state, ent_c_room_step, ent_c_room_submission};
+use super::{ent_c_room_ended, ent_c_room_epoch, ent_c_room_explain, ent_c_room_free, ent_c_room_groups};
+use super::{ent_c_room_next_group, ent_c_room_open, ent_c_room_put, ent_c_room_report, ent_c_room_restore};
+use super::{ent_c_room_settled_through, ent_c_room_state, ent_c_room_step, ent_c_room_submission};
 use super::{ent_c_room_table, ent_c_room_turn, ent_c_room_waiting, ent_c_room_why, ent_c_room_withdraw};
 use super::{ent_c_rows_begin, ent_c_rows_free, ent_c_rows_int, ent_c_rows_text};
 use super::{ent_c_values_free, ent_c_values_int, ent_c_values_text};
@@ -171,6 +172,13 @@ fn refused(number: u32, told: Told) -> NotDone {
     })
 }
 
+/// The numbers from which a room counts on.
+pub(crate) struct First {
+    pub(crate) epoch: u64,
+    pub(crate) ticket: u64,
+    pub(crate) group: u64,
+}
+
 /// The one owner of what stands behind a room's pointer.
 pub(crate) struct RoomHandle {
     at: *mut Opaque,
@@ -181,18 +189,13 @@ unsafe impl Send for RoomHandle {}
 
 impl RoomHandle {
     /// Opens a room over an input and rows, which it takes.
-    pub(crate) fn open(
-        input: &[u8],
-        mut rows: GivenRows,
-        epoch: u64,
-        next: u64,
-        limits: Limits,
-    ) -> Result<Self, NotDone> {
+    pub(crate) fn open(input: &[u8], mut rows: GivenRows, first: First, limits: Limits) -> Result<Self, NotDone> {
         let (mut handle, mut refusal, mut told) = (RoomHandle { at: null_mut() }, 0, Told::default());
         let (from, length, rows) = (input.as_ptr(), input.len(), &mut rows.at);
         // SAFETY: as said above.
         let status = unsafe {
-            ent_c_room_open(&mut handle.at, from, length, rows, epoch, next, &limits, &mut refusal, &mut told)
+            let First { epoch, ticket, group } = first;
+            ent_c_room_open(&mut handle.at, from, length, rows, epoch, ticket, group, &limits, &mut refusal, &mut told)
         };
         room_said(status, refusal, told).map(|()| handle)
     }
@@ -300,6 +303,29 @@ impl RoomHandle {
             REFUSED => Err(RoomError::NoSuchTable),
             status => Ok(room_said(status, 0, Told::default()).map(|()| text)?),
         }
+    }
+
+    /// The lines of the groups from a number on that are kept.
+    pub(crate) fn groups(&mut self, number: u64) -> Result<String, RoomError> {
+        let (status, lines, told) = buffered(&mut self.at, |at, buffer, told| {
+            // SAFETY: as said above.
+            unsafe { ent_c_room_groups(at, number, buffer.as_mut_ptr(), buffer.len(), told) }
+        })?;
+        Ok(room_said(status, 0, told).map(|()| lines)?)
+    }
+
+    pub(crate) fn next_group(&mut self) -> u64 {
+        let mut number = 0;
+        // SAFETY: as said above.
+        let status = unsafe { ent_c_room_next_group(&mut self.at, &mut number) };
+        assert_eq!(status, DONE, "an open room has a feed");
+        number
+    }
+
+    pub(crate) fn settled_through(&mut self, number: u64) {
+        // SAFETY: as said above.
+        let status = unsafe { ent_c_room_settled_through(&mut self.at, number) };
+        assert_eq!(status, DONE, "an open room has a feed");
     }
 
     pub(crate) fn epoch(&mut self) -> u64 {
