@@ -199,7 +199,7 @@ enum entangle_move {
     ENTANGLE_END_RUN        /* the run ends, if nothing can move in it */
 };
 
-/* The reply to a move; docs/TESTING.md lists them. The last three are refusals, which change nothing. */
+/* The reply to a move, as crates/ent_event_scenarios/CALLING.md has them. The last three change nothing. */
 enum entangle_reply {
     ENTANGLE_REPLY_STARTED = 1,
     ENTANGLE_REPLY_BLOCKED,     /* it doesn't move: another transaction blocks it */

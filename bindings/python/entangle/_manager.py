@@ -137,9 +137,9 @@ class Manager:
         """Makes one event, for a caller that orders those of a run itself, and tells the reply.
 
         It is one of "start run", "begin" (of a transaction), "pick", "break cycle" and "end run"; the job that it lends
-        is carried out within it. The reply is in the words of docs/TESTING.md, without what stands behind them;
-        "absent" (E401), "not now" (E402) and "busy" (E404) are refusals, which change nothing. Raises ValueError for
-        another event, and OutOfMemory: what was done stands, and the step may be made again.
+        is carried out within it. The reply is in the words of crates/ent_event_scenarios/CALLING.md, without what
+        stands behind them; "absent" (E401), "not now" (E402) and "busy" (E404) are refusals, which change nothing.
+        Raises ValueError for another event, and OutOfMemory: what was done stands, and the step may be made again.
         """
         if not isinstance(what, str):
             raise TypeError(f"a step is a str, not {type(what).__name__}")
