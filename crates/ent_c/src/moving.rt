@@ -73,7 +73,7 @@ fn make_move(alloc: Global, handle: &mut Handle, asked: Move, reply: &mut u32) -
     }
 }
 
-/// Makes the move of a number, of a transaction where it is of one, and tells the number of its reply.
+/// Makes the move with a number, for a transaction if the move needs one, and writes the number of its reply.
 #[unsafe(no_mangle)]
 pub extern "C" fn ent_c_make(
     alloc: Global,

@@ -11,7 +11,6 @@ pub struct Offer {
     pub posts: Sequence<Fact>,
 }
 
-/// Written out, so that the crates above call it, and none makes and compiles it anew.
 impl Drop for Offer {
     fn drop(self) {
         let Offer {

@@ -14,7 +14,6 @@ pub struct Environment {
     bindings: Vec<(Name, Value)>,
 }
 
-/// Written out, so that the crates above call it, and none makes and compiles it anew.
 impl Drop for Environment {
     fn drop(self) {
         let Environment {

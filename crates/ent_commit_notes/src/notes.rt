@@ -19,7 +19,6 @@ pub(crate) struct Note {
     tables: Vec<Arc<Table>>,
 }
 
-/// Written out, so that the functions that use it up have one call there.
 impl Drop for Note {
     fn drop(self) {
         let Note {

@@ -64,7 +64,7 @@ impl BeginRefusal {
 }
 
 /// A member that nothing keeps from what comes next, as [`Core::free_member`](crate::Core::free_member) found it: its
-/// number, and its place among those that aren't prepared. It is of the state in which it was found.
+/// number, and its place among those that aren't prepared. It is valid until the next event.
 #[derive(Clone, Copy)]
 pub struct FreeMember {
     pub(crate) tx: Tx,

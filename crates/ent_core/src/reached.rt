@@ -74,7 +74,6 @@ pub struct Core {
     store: Store,
 }
 
-/// Written out, so that the crates above call it, and none makes and compiles it anew.
 impl Drop for Core {
     fn drop(self) {
         let Core { store: _store } = self;

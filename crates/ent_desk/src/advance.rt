@@ -48,7 +48,7 @@ fn moved_unless_idle(reply: Reply) -> Option<Advance>
     if idle { None } else { Some(Advance::Moved) }
 }
 
-/// The job that a reply lends, or that something moved; None where nothing did.
+/// What a reply brings: a job to do, or that something moved; None if nothing did.
 pub(crate) fn advance_told(reply: Reply) -> Option<Advance>
     ensures { result ≡ advance_in (reply_seen reply) }
 {

@@ -21,7 +21,6 @@ pub struct Done {
     outcome: JobOutcome,
 }
 
-/// Written out, so that the crates above call it, and none makes and compiles it anew.
 impl Drop for Done {
     fn drop(self) {
         let Done {

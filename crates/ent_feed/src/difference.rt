@@ -31,7 +31,6 @@ struct Ahead<'a> {
     others: RowCursor<'a>,
 }
 
-/// Written out, so that the functions that use it up have one call there, and no cases.
 impl Drop for Ahead<'_> {
     fn drop(self) {
         let Ahead {

@@ -10,7 +10,6 @@ pub struct Told {
     pub answers: Sequence<Answer>,
 }
 
-/// Written out, so that the crates above call it, and none makes and compiles it anew.
 impl Drop for Told {
     fn drop(self) {
         let Told {
@@ -27,7 +26,6 @@ pub struct ToldMember {
     pub variables: Sequence<Name>,
 }
 
-/// Written out, so that the crates above call it, and none makes and compiles it anew.
 impl Drop for ToldMember {
     fn drop(self) {
         let ToldMember {
@@ -42,7 +40,6 @@ pub struct ToldJoint {
     pub members: Sequence<ToldMember>,
 }
 
-/// Written out, so that the crates above call it, and none makes and compiles it anew.
 impl Drop for ToldJoint {
     fn drop(self) {
         let ToldJoint { members: _members } = self;
@@ -55,7 +52,6 @@ pub struct Shown {
     pub rows: Sequence<Row>,
 }
 
-/// Written out, so that the crates above call it, and none makes and compiles it anew.
 impl Drop for Shown {
     fn drop(self) {
         let Shown {
@@ -77,7 +73,6 @@ pub struct History {
     pub tables: Sequence<Shown>,
 }
 
-/// Written out, so that the crates above call it, and none makes and compiles it anew.
 impl Drop for History {
     fn drop(self) {
         let History {

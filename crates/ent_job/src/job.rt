@@ -21,7 +21,6 @@ pub struct Job {
     tables: Sequence<NumberedTable>,
 }
 
-/// Written out, so that the crates above call it, and none makes and compiles it anew.
 impl Drop for Job {
     fn drop(self) {
         let Job {

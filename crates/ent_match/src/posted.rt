@@ -19,7 +19,6 @@ pub struct Posted {
     statement: Arc<Entangled<Value>>,
 }
 
-/// Written out, so that the crates above call it, and none makes and compiles it anew.
 impl Drop for Posted {
     fn drop(self) {
         let Posted {

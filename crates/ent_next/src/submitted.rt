@@ -20,7 +20,6 @@ pub struct SubmittedScript {
     first_asked: Option<FirstAsked>,
 }
 
-/// Written out, so that the crates above call it, and none makes and compiles it anew.
 impl Drop for SubmittedScript {
     fn drop(self) {
         let SubmittedScript {

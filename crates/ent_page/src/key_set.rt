@@ -26,7 +26,6 @@ pub struct KeySet {
     len: usize,
 }
 
-/// Written out, so that the crates above call it, and none makes and compiles it anew.
 impl Drop for KeySet {
     fn drop(self) {
         let KeySet {

@@ -18,7 +18,6 @@ pub struct Page {
     ends: Vec<usize>,
 }
 
-/// Written out, so that the crates above call it, and none makes and compiles it anew.
 impl Drop for Page {
     fn drop(self) {
         let Page {

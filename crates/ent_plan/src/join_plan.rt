@@ -27,7 +27,6 @@ pub struct JoinPlan {
     tables: Vec<usize>,
 }
 
-/// Written out, so that the crates above call it, and none makes and compiles it anew.
 impl Drop for JoinPlan {
     fn drop(self) {
         let JoinPlan {

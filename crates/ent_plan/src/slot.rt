@@ -9,7 +9,6 @@ pub enum Slot {
     Class(usize),
 }
 
-/// Written out, so that the crates above call it, and none makes and compiles it anew.
 impl Drop for Slot {
     fn drop(self) {
         match self {

@@ -15,7 +15,6 @@ pub struct NumberedTable {
     table: Arc<Table>,
 }
 
-/// Written out, so that the crates above call it, and none makes and compiles it anew.
 impl Drop for NumberedTable {
     fn drop(self) {
         let NumberedTable {

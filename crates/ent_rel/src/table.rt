@@ -32,7 +32,6 @@ pub struct Table {
     keys: KeySet,
 }
 
-/// Written out, so that the crates above call it, and none makes and compiles it anew.
 impl Drop for Table {
     fn drop(self) {
         let Table {
@@ -198,9 +197,9 @@ impl Table {
         ))
     }
 
-    /// What putting its image in the place of each row that passes a test would change, or the closure's error on the
-    /// first row, in ascending order, that passes and has no image. No more rows stand then than before, so the change
-    /// fits. An error that the closure excuses, as one that tells of memory, may come on any row that passes.
+    /// The change that replaces each row that passes a test by its image, or the closure's error on the first row, in
+    /// ascending order, that passes and has no image. There are no more rows then than before, so the change fits. An
+    /// error that the closure excuses, as one that tells of memory, may come on any row that passes.
     pub fn replace<E: Drop, F: Fn(&Row) -> bool, G: Fn(&Row) -> Result<Row, E>>(
         &self,
         alloc: Global,

@@ -22,7 +22,6 @@ pub struct Draft {
     pub(crate) due: Due,
 }
 
-/// Written out, so that the crates above call it, and none makes and compiles it anew.
 impl Drop for Draft {
     fn drop(self) {
         let Draft {

@@ -11,7 +11,6 @@ pub struct Fact {
     pub values: Row,
 }
 
-/// Written out, so that the crates above call it, and none makes and compiles it anew.
 impl Drop for Fact {
     fn drop(self) {
         let Fact {
@@ -33,7 +32,6 @@ pub enum Answer {
     Heads(Sequence<Fact>),
 }
 
-/// Written out, so that the crates above call it, and none makes and compiles it anew.
 impl Drop for Answer {
     fn drop(self) {
         match self {

@@ -29,7 +29,6 @@ pub struct Entry {
     pub answers: Sequence<Answer>,
 }
 
-/// Written out, so that the crates above call it, and none makes and compiles it anew.
 impl Drop for Entry {
     fn drop(self) {
         let Entry {
@@ -47,7 +46,6 @@ pub struct Member {
     pub grounding: Sequence<Value>,
 }
 
-/// Written out, so that the crates above call it, and none makes and compiles it anew.
 impl Drop for Member {
     fn drop(self) {
         let Member {
@@ -63,7 +61,6 @@ pub struct JointAnswer {
     pub members: Sequence<Member>,
 }
 
-/// Written out, so that the crates above call it, and none makes and compiles it anew.
 impl Drop for JointAnswer {
     fn drop(self) {
         let JointAnswer { members: _members } = self;

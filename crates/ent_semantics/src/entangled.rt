@@ -9,7 +9,6 @@ pub enum Term<K> {
     Variable(usize),
 }
 
-/// Written out, so that the crates above call it, and none makes and compiles it anew.
 impl<K: Drop> Drop for Term<K> {
     fn drop(self) {
         match self {
@@ -25,7 +24,6 @@ pub struct Atom<K> {
     pub terms: Limited<Term<K>, MOST_PARTS>,
 }
 
-/// Written out, so that the crates above call it, and none makes and compiles it anew.
 impl<K: Drop> Drop for Atom<K> {
     fn drop(self) {
         let Atom {
@@ -41,7 +39,6 @@ pub struct Membership<K> {
     pub select: Select<K>,
 }
 
-/// Written out, so that the crates above call it, and none makes and compiles it anew.
 impl<K: Drop> Drop for Membership<K> {
     fn drop(self) {
         let Membership {
@@ -57,7 +54,6 @@ pub struct Binding<K> {
     pub term: Term<K>,
 }
 
-/// Written out, so that the crates above call it, and none makes and compiles it anew.
 impl<K: Drop> Drop for Binding<K> {
     fn drop(self) {
         let Binding {
@@ -80,7 +76,6 @@ pub struct Entangled<K> {
     pub binds: Limited<Binding<K>, MOST_PARTS>,
 }
 
-/// Written out, so that the crates above call it, and none makes and compiles it anew.
 impl<K: Drop> Drop for Entangled<K> {
     fn drop(self) {
         let Entangled {

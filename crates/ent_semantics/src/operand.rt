@@ -7,7 +7,6 @@ pub enum Known {
     HostVariable(Name),
 }
 
-/// Written out, so that the crates above call it, and none makes and compiles it anew.
 impl Drop for Known {
     fn drop(self) {
         match self {
@@ -24,7 +23,6 @@ pub enum Operand<K> {
     Column(usize),
 }
 
-/// Written out, so that the crates above call it, and none makes and compiles it anew.
 impl<K: Drop> Drop for Operand<K> {
     fn drop(self) {
         match self {

@@ -15,7 +15,6 @@ pub struct Select<K> {
     pub tests: Limited<Test<Operand<K>>, MOST_PARTS>,
 }
 
-/// Written out, so that the crates above call it, and none makes and compiles it anew.
 impl<K: Drop> Drop for Select<K> {
     fn drop(self) {
         let Select {

@@ -12,7 +12,6 @@ pub struct Boxed<T> {
     part: Box<T>,
 }
 
-/// Written out, so that the crates above call it, and none makes and compiles it anew.
 impl<T: Drop> Drop for Boxed<T> {
     fn drop(self) {
         let Boxed { part: _part } = self;

@@ -50,7 +50,6 @@ pub struct Opening {
     pub rows: Limited<OpeningRow, MOST_OPENING_ROWS>,
 }
 
-/// Written out, so that the crates above call it, and none makes and compiles it anew.
 impl Drop for Opening {
     fn drop(self) {
         let Opening {

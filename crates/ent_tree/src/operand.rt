@@ -63,7 +63,6 @@ pub enum Expression<T> {
     Difference(T, Boxed<T>),
 }
 
-/// Written out, so that the crates above call it, and none makes and compiles it anew.
 impl<T: Drop> Drop for Expression<T> {
     fn drop(self) {
         match self {
@@ -92,7 +91,6 @@ pub struct Test<T> {
     pub right: T,
 }
 
-/// Written out, so that the crates above call it, and none makes and compiles it anew.
 impl<T: Drop> Drop for Test<T> {
     fn drop(self) {
         let Test {

@@ -34,7 +34,6 @@ pub struct Script {
     pub end: End,
 }
 
-/// Written out, so that the crates above call it, and none makes and compiles it anew.
 impl Drop for Script {
     fn drop(self) {
         let Script {

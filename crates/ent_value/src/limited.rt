@@ -12,7 +12,6 @@ pub struct Limited<T, const LIMIT: usize> {
     elements: Sequence<T>,
 }
 
-/// Written out, so that the crates above call it, and none makes and compiles it anew.
 impl<T: Drop, const LIMIT: usize> Drop for Limited<T, LIMIT> {
     fn drop(self) {
         let Limited {

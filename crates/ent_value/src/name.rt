@@ -23,7 +23,6 @@ pub struct Name {
     word: Text,
 }
 
-/// Written out, so that the crates above call it, and none makes and compiles it anew.
 impl Drop for Name {
     fn drop(self) {
         let Name { word: _word } = self;

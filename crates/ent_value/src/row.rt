@@ -20,7 +20,6 @@ pub struct Row {
     values: Vec<Value>,
 }
 
-/// Written out, so that the crates above call it, and none makes and compiles it anew.
 impl Drop for Row {
     fn drop(self) {
         let Row { values: _values } = self;

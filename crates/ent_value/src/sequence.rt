@@ -27,7 +27,6 @@ pub struct Sequence<T> {
     elements: Vec<T>,
 }
 
-/// Written out, so that the crates above call it, and none makes and compiles it anew.
 impl<T: Drop> Drop for Sequence<T> {
     fn drop(self) {
         let Sequence {

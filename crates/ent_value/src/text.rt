@@ -23,7 +23,6 @@ pub struct Text {
     content: SmallVec<u8, INLINE>,
 }
 
-/// Written out, so that the crates above call it, and none makes and compiles it anew.
 impl Drop for Text {
     fn drop(self) {
         let Text { content: _content } = self;

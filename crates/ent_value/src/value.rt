@@ -23,7 +23,6 @@ pub enum Value {
     Text(Text),
 }
 
-/// Written out, so that the crates above call it, and none makes and compiles it anew.
 impl Drop for Value {
     fn drop(self) {
         match self {

@@ -4,7 +4,7 @@ ghost use Rattle.ent_group.specs.Marks.{has_mark};
 
 use ent_group::{Row, with_mark};
 
-/// Whether two rows have a mark at one place; it is so wherever they have.
+/// True where both rows have a mark at one place; it may be true elsewhere.
 pub(crate) fn share_mark(left: Row, right: Row) -> bool
     ensures { (i : ℕ) → has_mark left i ≡ true → has_mark right i ≡ true → result ≡ true }
 {

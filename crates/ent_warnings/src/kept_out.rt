@@ -72,7 +72,7 @@ fn changes(statement: &Statement, table: &Name) -> bool
     }
 }
 
-/// Whether a statement of a script does.
+/// Whether a script writes a table.
 fn writes(table: &Name, script: &Script) -> bool
     ensures { result ≡ writes table.now script.now }
 {
