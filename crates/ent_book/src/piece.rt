@@ -4,15 +4,16 @@ ghost use Rattle.std.specs.Fmt.{decimal};
 ghost use Rattle.ent_book.specs.Report.{row_line, rows_text};
 
 use ent_value::{Row, print_row};
+use itoa::Buffer;
 use std::alloc::{AllocError, Global};
 
 /// A number in decimal digits, without zeros in front of them. Where memory runs out nothing is put.
-pub fn append_number(alloc: Global, out: &mut Vec<u8>, number: u64) -> Result<(), AllocError>
+pub fn append_number(_alloc: Global, out: &mut Vec<u8>, number: u64) -> Result<(), AllocError>
     ensures ok { OnOk result (out.new.items ≡ out.old.items ++ decimal number) }
     ensures err { OnErr result (out.new.items ≡ out.old.items) }
 {
-    let digits = format!(in alloc; "{number}")?;
-    out.extend_from_slice(digits.as_bytes())
+    let mut digits = Buffer::new();
+    out.extend_from_slice(digits.format(number).as_bytes())
 }
 
 fn append_row_line(alloc: Global, out: &mut Vec<u8>, row: &Row) -> Result<(), AllocError>

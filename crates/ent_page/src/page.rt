@@ -49,6 +49,15 @@ impl Page {
         }
     }
 
+    /// The page of no key, with room for so many keys that have so many bytes in all.
+    fn with_room(alloc: Global, keys: usize, bytes: usize) -> Result<Self, AllocError>
+        ensures { IfOk result (λ page. page ≡ []) }
+    {
+        let bytes = Vec::with_capacity(alloc, bytes)?;
+        let ends = Vec::with_capacity(alloc, keys)?;
+        Ok(Page { bytes, ends })
+    }
+
     /// How many keys there are.
     pub fn len(&self) -> usize
         ensures { result ≡ length self.now }
@@ -89,7 +98,9 @@ impl Page {
         requires { index ≤ length self.now }
         ensures { IfOk result (λ page. page ≡ insert self.now index key.now) }
     {
-        let mut page = self.part(alloc, 0, index)?;
+        let bytes = self.bytes.len() + key.len();
+        let mut page = Page::with_room(alloc, self.ends.len() + 1, bytes)?;
+        page.append(self, 0, index)?;
         page.push(key)?;
         page.append(self, index, self.len())?;
         Ok(page)
@@ -101,7 +112,9 @@ impl Page {
         ensures { IfOk result (λ page. page ≡ remove self.now index) }
     {
         let len = self.len();
-        let mut page = self.part(alloc, 0, index)?;
+        let bytes = self.bytes.len().saturating_sub(self.key(index).len());
+        let mut page = Page::with_room(alloc, len - 1, bytes)?;
+        page.append(self, 0, index)?;
         page.append(self, index + 1, len)?;
         Ok(page)
     }
@@ -121,7 +134,9 @@ impl Page {
     pub fn joined(&self, alloc: Global, other: &Page) -> Result<Page, AllocError>
         ensures { IfOk result (λ page. page ≡ self.now ++ other.now) }
     {
-        let mut page = self.part(alloc, 0, self.len())?;
+        let keys = self.ends.len() + other.ends.len();
+        let mut page = Page::with_room(alloc, keys, self.bytes.len() + other.bytes.len())?;
+        page.append(self, 0, self.len())?;
         page.append(other, 0, other.len())?;
         Ok(page)
     }
@@ -191,6 +206,28 @@ fn part_of<T>(elements: &[T], from: usize, to: usize) -> &[T]
 
 /// Puts ends behind others, counted from a base where they were counted from a start.
 fn push_ends(new: &mut Vec<usize>, ends: &[usize], start: usize, base: usize)
+    requires room { vec_len new.old + length ends.now ≤ vec_capacity new.old }
+    requires order { All (λ end. start ≤ end) ends.now }
+    requires fits { All (λ end. end - start + base < 2 ^ 64) ends.now }
+    ensures { new.new.items ≡ new.old.items ++ map (λ end. end - start + base) ends.now }
+{
+    if start == base {
+        push_same(new, ends);
+    } else {
+        push_moved(new, ends, start, base);
+    }
+}
+
+/// Puts ends behind others as they are.
+fn push_same(new: &mut Vec<usize>, ends: &[usize])
+    requires { vec_len new.old + length ends.now ≤ vec_capacity new.old }
+    ensures { new.new.items ≡ new.old.items ++ ends.now }
+{
+    let _room = new.extend_from_slice(ends);
+}
+
+/// Puts ends behind others, one by one.
+fn push_moved(new: &mut Vec<usize>, ends: &[usize], start: usize, base: usize)
     requires room { vec_len new.old + length ends.now ≤ vec_capacity new.old }
     requires order { All (λ end. start ≤ end) ends.now }
     requires fits { All (λ end. end - start + base < 2 ^ 64) ends.now }

@@ -1,5 +1,5 @@
 use Rattle.std.proofs.Common.{◌≡◌, ◌+◌, ◌-◌, ◌≤◌, ◌++◌, drop, map, length, vec_len, vec_capacity}
-use Rattle.ent_page.proofs.page.push_ends.Given as goal
+use Rattle.ent_page.proofs.page.push_moved.Given as goal
 
 -- what is out and what is left are all; there is room for what is left
 abbrev pub invariant-loop-end : goal.invariant-loop-end
