@@ -16,3 +16,4 @@ pub mod Chosen
 pub mod EachClass
 pub mod NoDeadEnd
 pub mod Ticking
+pub mod Plain

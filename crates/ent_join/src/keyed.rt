@@ -1,7 +1,12 @@
 //! Indexes of sub-selects' results: each row that agrees with the columns, by the values of their classes.
-ghost use Rattle.std.specs.Prelude.{◌≡◌, IfOk, map};
+ghost use Rattle.std.specs.Prelude.{◌≡◌, ◌==◌, ◌&&◌, IfOk, IsTrue, length, map};
 ghost use Rattle.std.specs.List.{filter, list_all};
+ghost use Rattle.std.specs.List.Sorted.{IsStrictlySortedBy};
 ghost use Rattle.std.specs.Option.{option_copied};
+ghost use Rattle.std.specs.Ordering.{nat_cmp};
+ghost use Rattle.ent_lists.specs.Sets as set;
+ghost use Rattle.ent_value.specs.Value.{row_cmp};
+ghost use Rattle.ent_plan.specs.declared.slot.Slot.TheVariants.{Class};
 ghost use Rattle.ent_join.specs.Alone.{is_left, may_hold_in};
 ghost use Rattle.ent_join.specs.Keyed.{agree, ascending_classes, class_numbers, index_under, is_class, is_wanted};
 ghost use Rattle.ent_join.specs.Keyed.{key_under, keys_under, term_slot, value_under};
@@ -99,7 +104,8 @@ pub(crate) fn value_under<'a>(
 
 /// Whether a slot is a class.
 pub(crate) fn is_class(slot: &Slot, number: usize) -> bool
-    ensures { result ≡ is_class number slot.now }
+    ensures value { result ≡ is_class number slot.now }
+    ensures class { IsTrue result → slot.now ≡ Class number }
 {
     match slot {
         Slot::Fixed(_) => false,
@@ -176,19 +182,68 @@ fn keys_under(
     Ok(keys)
 }
 
-/// The index of the rows of a sub-select's result that agree with the columns of a tuple. Rows that a test refuses
-/// which reads nothing but these columns are left out.
+/// Whether columns are just these classes, in this order.
+fn are_classes(columns: &[Slot], classes: &[usize]) -> bool
+    ensures { IsTrue result → columns.now ≡ map Class classes.now }
+{
+    match columns {
+        [] => classes.is_empty(),
+        [column, columns @ ..] => {
+            if let [class, classes @ ..] = classes {
+                return is_class(column, *class) && are_classes(columns, classes);
+            }
+            false
+        }
+    }
+}
+
+/// Leaves those of some rows that have a value for each column and that none of these tests of them refuses.
+fn retain_left(tests: &[Test<Slot>], columns: &[Slot], rows: &mut Vec<Row>)
+    ensures { rows.new.items ≡ filter (λ row. (length row == length columns.now)
+        && list_all (may_hold_in columns.now row) tests.now) rows.old.items }
+{
+    rows.retain(|row| {
+        row.values().len() == columns.len() && all_may_hold_in(tests, columns, row.values())
+    });
+}
+
+/// The keys, ascending, of the rows that agree with the columns and that none of these tests of them refuses. Where
+/// each column is a class of its own, a row is its key: it is moved, and not copied.
+fn ascending_keys(
+    alloc: Global,
+    tests: &[Test<Slot>],
+    columns: &[Slot],
+    classes: &[usize],
+    mut rows: Vec<Row>,
+) -> Result<Vec<Row>, AllocError>
+    requires rows { IsStrictlySortedBy row_cmp rows.items }
+    requires classes { IsStrictlySortedBy nat_cmp classes.now }
+    ensures { IfOk result (λ keys. keys.items ≡ set.ascending (set.from_list {R = row_cmp}
+        (keys_under columns.now classes.now
+        (filter (λ row. list_all (may_hold_in columns.now row) tests.now) rows.items)))) }
+{
+    if are_classes(columns, classes) {
+        retain_left(tests, columns, &mut rows);
+        return Ok(rows);
+    }
+    ascending(keys_under(alloc, tests, columns, classes, rows.as_slice())?)
+}
+
+/// The index of the rows of a sub-select's result, which ascend, that agree with the columns of a tuple. Rows that a
+/// test refuses which reads nothing but these columns are left out.
 pub(crate) fn index_of(
     alloc: Global,
     tests: &[Test<Slot>],
     columns: &[Slot],
-    rows: &[Row],
+    rows: Sequence<Row>,
 ) -> Result<Index, AllocError>
+    requires { IsStrictlySortedBy row_cmp rows }
     ensures { IfOk result (λ index. index
-        ≡ index_under columns.now (filter (is_left tests.now columns.now) rows.now)) }
+        ≡ index_under columns.now (filter (is_left tests.now columns.now) rows)) }
 {
     let own = tests_of(alloc, tests, columns)?;
     let classes = classes_of(alloc, columns)?;
-    let keys = ascending(keys_under(alloc, own.as_slice(), columns, classes.as_slice(), rows)?)?;
+    let rows = rows.into_vec();
+    let keys = ascending_keys(alloc, own.as_slice(), columns, classes.as_slice(), rows)?;
     Index::new(alloc, Sequence::from_vec(classes), Sequence::from_vec(keys))
 }

@@ -118,7 +118,7 @@ fn select_index(
 {
     let sources = tables_at(alloc, tables, select.sources.as_slice())?;
     let rows = all(alloc, select, sources.as_slice())?;
-    index_of(alloc, tests, columns, rows.as_slice())
+    index_of(alloc, tests, columns, rows)
 }
 
 /// The index of columns over the result of a sub-select. It is looked for among those that were made, else it is made

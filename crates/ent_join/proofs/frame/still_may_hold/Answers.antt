@@ -5,8 +5,8 @@ use Rattle.ent_join.proofs.frame.still_may_hold.Goals as goal
 pub returns-then-not-is_class-2-clause-passes : goal.returns-then-not-is_class-2-clause-passes
 returns-then-not-is_class-2-clause-passes c =
     sym (test_unread c.args.values.now c.args.test.now c.in-Some.last (omega arith)
-    (sym c.is_class.ensures ∙ c.if-not-is_class.true)
-    (sym c.is_class-then-not-is_class.ensures ∙ c.if-not-is_class-2.true) c.requires.begun)
+    (sym c.is_class.ensures.value ∙ c.if-not-is_class.true)
+    (sym c.is_class-then-not-is_class.ensures.value ∙ c.if-not-is_class-2.true) c.requires.begun)
 
 pub returns-clause-refused : goal.returns-clause-refused
 returns-clause-refused c = λ _.
