@@ -1,6 +1,7 @@
 //! The groups of a run's transactions.
 ghost use Rattle.std.specs.Prelude.{◌≡◌, ℕ, ◌+◌, ◌-◌, ◌<◌, ◌≤◌, ◌==◌, ◌⊎◌, ◌↔◌, [], length, map, filter, take};
-ghost use Rattle.std.specs.Prelude.{insert, count_by, nat_lt, IsTrue, IsSome, IsNone, Contains, if◌then◌else◌};
+ghost use Rattle.std.specs.Prelude.{insert, count_by, nat_lt, IfSome, IsTrue, IsSome, IsNone, Some, Contains};
+ghost use Rattle.std.specs.Prelude.{if◌then◌else◌};
 ghost use Rattle.std.specs.List.Sorted.{IsStrictlyIncreasing};
 ghost use Rattle.ent_group.specs.Groups.{group_of, moved_label, relabelled, numbers_of, is_of, is_of_another};
 ghost use Rattle.ent_group.specs.Groups.{SameGroup, InEither, Relabels, IsByNumber};
@@ -145,8 +146,33 @@ impl Groups {
     }
 }
 
-/// The label of a transaction's group, where it is among members that stand by number.
+/// The label of a transaction's group, where it is among members that stand by number. It is mostly found by counting.
 fn label_of(memberships: &[Membership], tx: Tx) -> Option<Tx>
+    requires { IsByNumber memberships.now }
+    ensures { result ≡ group_of memberships.now tx }
+{
+    match label_counted(memberships, tx) {
+        Some(label) => Some(label),
+        None => label_searched(memberships, tx),
+    }
+}
+
+/// The same, if each member up to it has the number after that of the one before.
+fn label_counted(memberships: &[Membership], tx: Tx) -> Option<Tx>
+    requires { IsByNumber memberships.now }
+    ensures { IfSome result (λ label. group_of memberships.now tx ≡ Some label) }
+{
+    let first = memberships.first()?;
+    let own = memberships.get(tx.wrapping_sub(first.member) as usize)?;
+    if own.member == tx {
+        Some(own.group)
+    } else {
+        None
+    }
+}
+
+/// The same by a search.
+fn label_searched(memberships: &[Membership], tx: Tx) -> Option<Tx>
     requires { IsByNumber memberships.now }
     ensures { result ≡ group_of memberships.now tx }
 {

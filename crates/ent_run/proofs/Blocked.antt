@@ -1,5 +1,5 @@
 -- Who blocks by the lock table is who is in conflict.
-use Rattle.std.proofs.Common.{◌≡◌, ◌⊎◌, inl, inr, ℕ, true, not, ◌==◌}
+use Rattle.std.proofs.Common.{◌≡◌, ◌⊎◌, inl, inr, ℕ, Bool, true, false, not, ◌==◌}
 use Rattle.std.proofs.Common.{List, ◌∷◌, ◌++◌, map, refl, sym, ap, subst, ◌∙◌}
 use Rattle.std.specs.Prelude.{Contains, filter, Option}
 use Rattle.std.specs.List.{list_any}
@@ -12,15 +12,15 @@ use Rattle.ent_lock.specs.Mode.{in_conflict}
 use Rattle.ent_lock.specs.Use.{Uses, InConflictAt, IsLeastIfAny, key_of_number}
 use Rattle.ent_protocol.specs.State.{State, Member, Use}
 use Rattle.ent_protocol.specs.Uses.{is_conflicting, uses_conflict, least, blocker}
-use Rattle.ent_run.specs.Locks.{BlocksUses, IsLockedRun, passed_numbers, use_of}
+use Rattle.ent_run.specs.Locks.{BlocksUses, IsLockedRun, use_of}
 use Rattle.ent_run.specs.Moves.{run_of}
-use Rattle.ent_protocol.specs.Member.{is_of, is_tx}
+use Rattle.ent_run.specs.Passing.{TellsPassed}
 use Rattle.ent_members.specs.Order.{tx_of}
 use Rattle.ent_run.specs.Run.{with_run}
 use Rattle.ent_run.proofs.LeastOf.{least_either, least_of_list, least_same, one_least}
 use Rattle.ent_run.proofs.Lists.{contains_cases, contains_first, contains_later, any_of, some_of, into_filter}
 use Rattle.ent_run.proofs.Lists.{out_of_filter, into_map, out_of_map}
-use Rattle.ent_run.proofs.Locked.{not_false, not_true, either_member, one_member}
+use Rattle.ent_run.proofs.Locked.{either_member, is_not}
 
 turned : (a b : Mode) → in_conflict a b ≡ true → in_conflict b a ≡ true
 turned Shared Shared e = e
@@ -30,30 +30,29 @@ turned Exclusive Exclusive e = refl
 
 -- ---- the uses that are asked for, one by one
 
-pub least_of_more : (locks : Uses) (first : Use) (rest : List Use) (pass : List ℕ) (a b : Option ℕ)
-    → IsLeastIfAny (λ v. ¬ Contains pass v × InConflictAt locks v (key_of_number first.table) first.mode) a
-    → IsLeastIfAny (BlocksUses locks rest pass) b → IsLeastIfAny (BlocksUses locks (first ∷ rest) pass) (lesser a b)
-least_of_more locks first rest pass a b one more =
-    least_same (λ v. (¬ Contains pass v × InConflictAt locks v (key_of_number first.table) first.mode)
-    ⊎ BlocksUses locks rest pass v)
-    (BlocksUses locks (first ∷ rest) pass) (lesser a b) into cases
-    (least_either (λ v. ¬ Contains pass v × InConflictAt locks v (key_of_number first.table) first.mode)
-    (BlocksUses locks rest pass) a b one more)
+-- a transaction that isn't passed holds a table in conflict with a use that is asked for
+abbrev pub BlocksOne : Uses → Use → (ℕ → Bool) → ℕ → Type 0
+BlocksOne locks own passes v = (passes v ≡ false) × InConflictAt locks v (key_of_number own.table) own.mode
+
+pub least_of_more : (locks : Uses) (first : Use) (rest : List Use) (passes : ℕ → Bool) (a b : Option ℕ)
+    → IsLeastIfAny (BlocksOne locks first passes) a → IsLeastIfAny (BlocksUses locks rest passes) b
+    → IsLeastIfAny (BlocksUses locks (first ∷ rest) passes) (lesser a b)
+least_of_more locks first rest passes a b one more =
+    least_same (λ v. BlocksOne locks first passes v ⊎ BlocksUses locks rest passes v)
+    (BlocksUses locks (first ∷ rest) passes) (lesser a b) into cases
+    (least_either (BlocksOne locks first passes) (BlocksUses locks rest passes) a b one more)
   where
-    into : (v : ℕ) → (¬ Contains pass v × InConflictAt locks v (key_of_number first.table) first.mode)
-        ⊎ BlocksUses locks rest pass v
-        → BlocksUses locks (first ∷ rest) pass v
+    into : (v : ℕ) → BlocksOne locks first passes v ⊎ BlocksUses locks rest passes v
+        → BlocksUses locks (first ∷ rest) passes v
     into v (inl (apart, conflict)) = (apart, (first, contains_first first rest, conflict))
     into v (inr (apart, (own, there, conflict))) = (apart, (own, contains_later first own rest there, conflict))
 
-    cases : (v : ℕ) → BlocksUses locks (first ∷ rest) pass v
-        → (¬ Contains pass v × InConflictAt locks v (key_of_number first.table) first.mode)
-        ⊎ BlocksUses locks rest pass v
+    cases : (v : ℕ) → BlocksUses locks (first ∷ rest) passes v
+        → BlocksOne locks first passes v ⊎ BlocksUses locks rest passes v
     cases v (apart, (own, there, conflict)) = elim (contains_cases first own rest there) [
       | inl same ↦ inl (
         apart,
-        subst (λ (u : Use). InConflictAt locks v (key_of_number u.table) u.mode)
-            (sym same) conflict,
+        subst (λ (u : Use). InConflictAt locks v (key_of_number u.table) u.mode) (sym same) conflict,
       )
       | inr later ↦ inr (apart, (own, later, conflict))
     ]
@@ -82,150 +81,78 @@ way_of asked holder own theirs there held conflict =
 
 -- ---- who is passed
 
-module _ (locks : Uses) (prepared active : List Member) (run : IsLockedRun locks prepared active) (asker : Member) where
+module _ (locks : Uses) (prepared active : List Member) (run : IsLockedRun locks prepared active) (asker : Member)
+    (test : ℕ → Bool) (tells : TellsPassed asker (run_of prepared active) test) where
   abbrev pub others : List Member
   others = filter (λ (holder : Member). not (holder.group == asker.group)) prepared
       ++ filter (λ (holder : Member). not (holder.tx == asker.tx)) active
 
-  passing : (v : ℕ) → Contains (passed_numbers asker (run_of prepared active)) v
-      → ((m : Member) × Contains prepared m × ((m.group == asker.group) ≡ true) × (m.tx ≡ v))
-      ⊎ ((m : Member) × Contains active m × ((m.tx == asker.tx) ≡ true) × (m.tx ≡ v))
-  passing v there =
-      by_cases (Contains-append_cases (map tx_of (filter (is_of asker.group) prepared))
-      (map tx_of (filter (is_tx asker.tx) active)) v there)
-    where
-      by_cases : Contains (map tx_of (filter (is_of asker.group) prepared)) v
-          ⊎ Contains (map tx_of (filter (is_tx asker.tx) active)) v
-          → ((m : Member) × Contains prepared m × ((m.group == asker.group) ≡ true) × (m.tx ≡ v))
-          ⊎ ((m : Member) × Contains active m × ((m.tx == asker.tx) ≡ true) × (m.tx ≡ v))
-      by_cases (inl h) =
-          let m = out_of_map tx_of (filter (is_of asker.group) prepared) v h in
-          let inside = out_of_filter (is_of asker.group) prepared m.0 m.1 in
-          inl (m.0, inside.0, inside.1, m.2)
-      by_cases (inr h) =
-          let m = out_of_map tx_of (filter (is_tx asker.tx) active) v h in
-          let inside = out_of_filter (is_tx asker.tx) active m.0 m.1 in
-          inr (m.0, inside.0, inside.1, m.2)
-
-  number_in : (ms : List Member) (m : Member) (v : ℕ) → Contains ms m → m.tx ≡ v → Contains (map tx_of ms) v
-  number_in ms m v there is = subst (Contains (map tx_of ms)) is (into_map tx_of ms m there)
-
-  other_prepared : (m : Member) → Contains prepared m → not (m.group == asker.group) ≡ true
-      → ¬ Contains (passed_numbers asker (run_of prepared active)) m.tx
-  other_prepared m there apart passes = by_cases (passing m.tx passes)
-    where
-      by_cases : ((n : Member) × Contains prepared n × ((n.group == asker.group) ≡ true) × (n.tx ≡ m.tx))
-          ⊎ ((n : Member) × Contains active n × ((n.tx == asker.tx) ≡ true) × (n.tx ≡ m.tx)) → ⊥
-      by_cases (inl (n, inside, own, is)) =
-          not_true (m.group == asker.group) apart
-          (ap (λ (k : Member). k.group == asker.group) (sym (one_member prepared run.once n m inside there is)) ∙ own)
-      by_cases (inr (n, inside, own, is)) =
-          run.apart m.tx (number_in prepared m m.tx there refl) (number_in active n m.tx inside is)
-
-  other_active : (m : Member) → Contains active m → not (m.tx == asker.tx) ≡ true
-      → ¬ Contains (passed_numbers asker (run_of prepared active)) m.tx
-  other_active m there apart passes = by_cases (passing m.tx passes)
-    where
-      by_cases : ((n : Member) × Contains prepared n × ((n.group == asker.group) ≡ true) × (n.tx ≡ m.tx))
-          ⊎ ((n : Member) × Contains active n × ((n.tx == asker.tx) ≡ true) × (n.tx ≡ m.tx)) → ⊥
-      by_cases (inl (n, inside, own, is)) =
-          run.apart m.tx (number_in prepared n m.tx inside is) (number_in active m m.tx there refl)
-      by_cases (inr (n, inside, own, is)) =
-          not_true (m.tx == asker.tx) apart (ap (λ k. k == asker.tx) (sym is) ∙ own)
-
-  not_passing : (m : Member) → Contains others m → ¬ Contains (passed_numbers asker (run_of prepared active)) m.tx
-  not_passing m there =
-      by_cases (Contains-append_cases (filter (λ (holder : Member). not (holder.group == asker.group)) prepared)
-      (filter (λ (holder : Member). not (holder.tx == asker.tx)) active) m there)
-    where
-      by_cases : Contains (filter (λ (holder : Member). not (holder.group == asker.group)) prepared) m
-          ⊎ Contains (filter (λ (holder : Member). not (holder.tx == asker.tx)) active) m
-          → ¬ Contains (passed_numbers asker (run_of prepared active)) m.tx
-      by_cases (inl h) =
-          let inside = out_of_filter (λ (holder : Member). not (holder.group == asker.group)) prepared m h in
-          other_prepared m inside.0 inside.1
-      by_cases (inr h) =
-          let inside = out_of_filter (λ (holder : Member). not (holder.tx == asker.tx)) active m h in
-          other_active m inside.0 inside.1
-
-  pub of_run : (m : Member) → Contains others m → Contains (prepared ++ active) m
+  pub of_run : (m : Member) → Contains others m → Contains (prepared ++ active) m × (test m.tx ≡ false)
   of_run m there =
       by_cases (Contains-append_cases (filter (λ (holder : Member). not (holder.group == asker.group)) prepared)
       (filter (λ (holder : Member). not (holder.tx == asker.tx)) active) m there)
     where
       by_cases : Contains (filter (λ (holder : Member). not (holder.group == asker.group)) prepared) m
           ⊎ Contains (filter (λ (holder : Member). not (holder.tx == asker.tx)) active) m
-          → Contains (prepared ++ active) m
-      by_cases (inl h) = either_member prepared active m
-          (inl (out_of_filter (λ (holder : Member). not (holder.group == asker.group)) prepared m h).0)
-      by_cases (inr h) = either_member prepared active m
-          (inr (out_of_filter (λ (holder : Member). not (holder.tx == asker.tx)) active m h).0)
+          → Contains (prepared ++ active) m × (test m.tx ≡ false)
+      by_cases (inl h) =
+          let inside = out_of_filter (λ (holder : Member). not (holder.group == asker.group)) prepared m h in (
+            either_member prepared active m (inl inside.0),
+            tells.prepared m inside.0 ∙ is_not (m.group == asker.group) inside.1,
+          )
+      by_cases (inr h) =
+          let inside = out_of_filter (λ (holder : Member). not (holder.tx == asker.tx)) active m h in (
+            either_member prepared active m (inr inside.0),
+            tells.active m inside.0 ∙ is_not (m.tx == asker.tx) inside.1,
+          )
 
-  to_others : (m : Member) → Contains (prepared ++ active) m
-      → ¬ Contains (passed_numbers asker (run_of prepared active)) m.tx → Contains others m
+  to_others : (m : Member) → Contains (prepared ++ active) m → test m.tx ≡ false → Contains others m
   to_others m there apart = by_cases (Contains-append_cases prepared active m there)
     where
       by_cases : Contains prepared m ⊎ Contains active m → Contains others m
       by_cases (inl h) = Contains-append_left (filter (λ (holder : Member). not (holder.group == asker.group)) prepared)
           (filter (λ (holder : Member). not (holder.tx == asker.tx)) active) m
           (into_filter (λ (holder : Member). not (holder.group == asker.group)) prepared m h
-          (not_false (m.group == asker.group) (λ own. apart
-          (Contains-append_left (map tx_of (filter (is_of asker.group) prepared))
-          (map tx_of (filter (is_tx asker.tx) active)) m.tx
-          (into_map tx_of (filter (is_of asker.group) prepared) m
-          (into_filter (is_of asker.group) prepared m h own))))))
+          (ap not (sym (tells.prepared m h) ∙ apart)))
       by_cases (inr h) = Contains-append_right
           (filter (λ (holder : Member). not (holder.group == asker.group)) prepared)
           (filter (λ (holder : Member). not (holder.tx == asker.tx)) active) m
           (into_filter (λ (holder : Member). not (holder.tx == asker.tx)) active m h
-          (not_false (m.tx == asker.tx) (λ own. apart
-          (Contains-append_right (map tx_of (filter (is_of asker.group) prepared))
-          (map tx_of (filter (is_tx asker.tx) active)) m.tx
-          (into_map tx_of (filter (is_tx asker.tx) active) m
-          (into_filter (is_tx asker.tx) active m h own))))))
+          (ap not (sym (tells.active m h) ∙ apart)))
 
   -- ---- who blocks
 
-  pub blocks_conflicting : (asked : List Use) (v : ℕ)
-      → BlocksUses locks asked (passed_numbers asker (run_of prepared active)) v
+  pub blocks_conflicting : (asked : List Use) (v : ℕ) → BlocksUses locks asked test v
       → Contains (map tx_of (filter (is_conflicting asked) others)) v
   blocks_conflicting asked v (apart, (own, there, (theirs, holds, conflict))) =
       let held = (run.locked v own.table theirs).0 holds in
       let m = held.0 in
-      number_in (filter (is_conflicting asked) others) m v
-      (into_filter (is_conflicting asked) others m
-      (to_others m held.1 (λ passes. apart
-      (subst (Contains (passed_numbers asker (run_of prepared active))) held.2 passes)))
-      (way_of asked m own theirs there held.3 conflict))
-      held.2
+      subst (Contains (map tx_of (filter (is_conflicting asked) others))) held.2
+      (into_map tx_of (filter (is_conflicting asked) others) m
+      (into_filter (is_conflicting asked) others m (to_others m held.1 (ap test held.2 ∙ apart))
+      (way_of asked m own theirs there held.3 conflict)))
 
   pub conflicting_blocks : (asked : List Use) (v : ℕ) → Contains (map tx_of (filter (is_conflicting asked) others)) v
-      → BlocksUses locks asked (passed_numbers asker (run_of prepared active)) v
+      → BlocksUses locks asked test v
   conflicting_blocks asked v there =
       let m = out_of_map tx_of (filter (is_conflicting asked) others) v there in
       let inside = out_of_filter (is_conflicting asked) others m.0 m.1 in
       let conflict = conflict_of asked m.0 inside.1 in
-      let theirs = conflict.2.0 in (
-        λ passes. not_passing m.0 inside.0
-            (subst (Contains (passed_numbers asker (run_of prepared active))) (sym m.2) passes),
+      let theirs = conflict.2.0 in
+      let own = of_run m.0 inside.0 in (
+        ap test (sym m.2) ∙ own.1,
         (
           conflict.0,
           conflict.1,
-          (
-            theirs,
-            (run.locked v conflict.0.table theirs).1 (m.0, of_run m.0 inside.0, m.2, conflict.2.1),
-            conflict.2.2,
-          ),
+          (theirs, (run.locked v conflict.0.table theirs).1 (m.0, own.0, m.2, conflict.2.1), conflict.2.2),
         ),
       )
 
-  pub blocker_is : (asked : List Use) (result : Option ℕ) (s : State)
-      → IsLeastIfAny (BlocksUses locks asked (passed_numbers asker (run_of prepared active))) result
+  pub blocker_is : (asked : List Use) (result : Option ℕ) (s : State) → IsLeastIfAny (BlocksUses locks asked test) result
       → result ≡ blocker (with_run (run_of prepared active) s) asker asked
   blocker_is asked result s is =
       one_least (Contains (map tx_of (filter (is_conflicting asked) others))) result
       (least (map tx_of (filter (is_conflicting asked) others)))
-      (least_same (BlocksUses locks asked (passed_numbers asker (run_of prepared active)))
-      (Contains (map tx_of (filter (is_conflicting asked) others))) result (blocks_conflicting asked)
-      (conflicting_blocks asked) is)
+      (least_same (BlocksUses locks asked test) (Contains (map tx_of (filter (is_conflicting asked) others))) result
+      (blocks_conflicting asked) (conflicting_blocks asked) is)
       (least_of_list (map tx_of (filter (is_conflicting asked) others)))

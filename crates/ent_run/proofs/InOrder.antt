@@ -47,37 +47,6 @@ found_nowhere (x ∷ xs) tx none =
     ap (λ b. first_of (if b then x ∷ filter (is_tx tx) xs else filter (is_tx tx) xs)) (none 0 x (omega arith))
     ∙ found_nowhere xs tx (λ k d lt. none (suc k) d (omega (arith, lt)))
 
-none_above : (xs : List Member) (n tx : ℕ) → AllByRecursion (λ m. n < m) (map tx_of xs) → tx ≤ n
-    → filter (is_tx tx) xs ≡ []
-none_above [] n tx all le = refl
-none_above (x ∷ xs) n tx all le =
-    ap (λ b. if b then x ∷ filter (is_tx tx) xs else filter (is_tx tx) xs) (eq_above x.tx tx (omega (arith, all.0, le)))
-    ∙ none_above xs n tx all.1 le
-
--- the one of a number is the only one, and where there is none there is none
-pub one_of_number : (xs : List Member) (tx : ℕ) (own : Member) → IsAscending (map tx_of xs)
-    → Some own ≡ found xs tx → filter (is_tx tx) xs ≡ own ∷ []
-one_of_number [] tx own ascending is = let e : Some own ≡ None = is in absurd cc
-one_of_number (x ∷ xs) tx own ascending is = by (x.tx == tx) refl is (one_of_number xs tx own ascending.1)
-  where
-    le : (x.tx == tx) ≡ true → tx ≤ x.tx
-    le same = grind (arith, nat_tests, same)
-
-    by : (b : Bool) → (x.tx == tx) ≡ b
-        → Some own ≡ first_of (if b then x ∷ filter (is_tx tx) xs else filter (is_tx tx) xs)
-        → (Some own ≡ found xs tx → filter (is_tx tx) xs ≡ own ∷ [])
-        → (if b then x ∷ filter (is_tx tx) xs else filter (is_tx tx) xs) ≡ own ∷ []
-    by true same first rest =
-        let e : own ≡ x = cc in λ i. sym e i ∷ none_above xs x.tx tx ascending.0 (le same) i
-    by false other first rest = rest first
-
-pub none_of_number : (xs : List Member) (tx : ℕ) → None ≡ found xs tx → filter (is_tx tx) xs ≡ []
-none_of_number xs tx is = by (filter (is_tx tx) xs) is
-  where
-    by : (ys : List Member) → None ≡ first_of ys → ys ≡ []
-    by [] none = refl
-    by (y ∷ ys) none = let e : None ≡ Some y = none in absurd cc
-
 not_less : (n m : ℕ) → nat_cmp n m ≡ Less → (n == m) ≡ false
 not_less n m is = eq_below n m (is_below is)
   where

@@ -6,7 +6,6 @@ use Rattle.std.proofs.lemmas.Bool.Decides.{nat_tests}
 use Rattle.ent_lock.specs.Holders.{lesser}
 use Rattle.ent_lock.specs.Use.{IsLeastIfAny}
 use Rattle.ent_protocol.specs.Uses.{least}
-use Rattle.ent_run.proofs.Conflicting.{lesser_with, least_with}
 use Rattle.ent_run.proofs.Lists.{contains_none, contains_cases, contains_first, contains_later}
 
 min_left : (x y w : ℕ) → x ≤ w → min x y ≤ w
@@ -48,10 +47,18 @@ one_least P (Some x) (Some y) h k = ap Some (no_lower x y (h.1 y k.0) (k.1 x h.0
 
 -- ---- the least of a list
 
+abbrev lesser_with : ℕ → Option ℕ → ℕ
+lesser_with n None = n
+lesser_with n (Some m) = if nat_lt n m then n else m
+
+least_with : (n : ℕ) (ns : List ℕ) → least (n ∷ ns) ≡ Some (lesser_with n (least ns))
+least_with n [] = refl
+least_with n (m ∷ ms) = refl
+
 lesser_is : (n m : ℕ) → (if nat_lt n m then n else m) ≡ min n m
 lesser_is n m = grind (arith, nat_tests)
 
-least_more : (n : ℕ) (ns : List ℕ) → least (n ∷ ns) ≡ lesser (Some n) (least ns)
+pub least_more : (n : ℕ) (ns : List ℕ) → least (n ∷ ns) ≡ lesser (Some n) (least ns)
 least_more n ns = least_with n ns ∙ by_rest (least ns)
   where
     by_rest : (o : Option ℕ) → Some (lesser_with n o) ≡ lesser (Some n) o

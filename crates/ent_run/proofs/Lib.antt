@@ -1,8 +1,8 @@
 pub mod Ascending
 pub mod InOrder
 pub mod ByNumber
-pub mod Conflicting
 pub mod OneMember
+pub mod Among
 pub mod Moved
 pub mod JoinedGroups
 pub mod Lists
@@ -12,6 +12,7 @@ pub mod Locked
 pub mod HeldUses
 pub mod LeastOf
 pub mod MadeToWait
+pub mod InTheWay
 pub mod InRuns
 pub mod Lookups
 pub mod InSlab
@@ -24,8 +25,10 @@ pub mod Distinct
 pub mod Grouped
 pub mod Merged
 pub mod RunWith
+pub mod Passing
 pub mod Blocked
 pub mod Granted
 pub mod JoinedRuns
 pub mod PreparedRun
 pub mod Left
+pub mod Standing

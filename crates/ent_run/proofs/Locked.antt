@@ -22,9 +22,14 @@ pub not_true : (b : Bool) → not b ≡ true → b ≡ true → ⊥
 not_true true is same = true≢false (sym is)
 not_true false is same = true≢false (sym same)
 
-pub not_false : (b : Bool) → (b ≡ true → ⊥) → not b ≡ true
-not_false true h = absurd (h refl)
-not_false false h = refl
+pub is_not : (b : Bool) → not b ≡ true → b ≡ false
+is_not true is = sym is
+is_not false is = refl
+
+pub true_both : (a b : Bool) → (a ≡ true → b ≡ true) → (b ≡ true → a ≡ true) → a ≡ b
+true_both true b into out = sym (into refl)
+true_both false true into out = out refl
+true_both false false into out = refl
 
 pub either_member : (xs ys : List Member) (m : Member) → Contains xs m ⊎ Contains ys m → Contains (xs ++ ys) m
 either_member xs ys m (inl h) = Contains-append_left xs ys m h

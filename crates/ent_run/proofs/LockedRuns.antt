@@ -25,9 +25,13 @@ use Rattle.ent_run.proofs.HeldUses.{out_of_by_number}
 use Rattle.ent_run.proofs.JoinedGroups.{run_joined}
 use Rattle.ent_run.proofs.Lists.{contains_none, contains_cases, contains_first, into_among, into_filter, out_of_among}
 use Rattle.ent_run.proofs.Lists.{out_of_filter, into_map, out_of_map}
-use Rattle.ent_run.proofs.Locked.{not_false, not_true, held_by_either, held_by_one, one_member}
+use Rattle.ent_run.proofs.Locked.{not_true, held_by_either, held_by_one, one_member}
 use Rattle.ent_run.proofs.Moved.{run_filtered, run_committed, run_prepared}
 use Rattle.ent_run.proofs.OneMember.{removed_at, run_kept}
+
+not_false : (b : Bool) → (b ≡ true → ⊥) → not b ≡ true
+not_false true h = absurd (h refl)
+not_false false h = refl
 
 -- ---- a run that starts
 

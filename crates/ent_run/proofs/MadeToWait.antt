@@ -1,5 +1,5 @@
 -- Who is made to wait by the holders of one table, and by those of others.
-use Rattle.std.proofs.Common.{◌≡◌, ◌⊎◌, inl, inr, ℕ, true, false, not, ◌&&◌, ◌==◌, List, ◌∷◌, sym, ap, subst, ◌∙◌}
+use Rattle.std.proofs.Common.{◌≡◌, ◌⊎◌, inl, inr, ℕ, true, false, not, ◌&&◌, List, ◌∷◌, sym, ap, subst, ◌∙◌}
 use Rattle.std.proofs.Common.{true≢false}
 use Rattle.std.specs.Prelude.{◌↔◌, Contains}
 use Rattle.std.specs.List.{list_any}
@@ -10,43 +10,43 @@ use Rattle.ent_lock.specs.declared.mode.Mode.{Mode}
 use Rattle.ent_lock.specs.Mode.{in_conflict}
 use Rattle.ent_lock.specs.Use.{Holds, Uses, key_of_number}
 use Rattle.ent_protocol.specs.State.{Member, Use}
+use Rattle.ent_run.specs.Passing.{Asker, passes}
 use Rattle.ent_run.specs.Waits.{IsMadeToWait, is_awaited_over, makes_wait}
-use Rattle.ent_run.proofs.Lists.{any_of, contains_cases, contains_first, contains_later, into_among}
-use Rattle.ent_run.proofs.Lists.{out_of_among, some_of}
-use Rattle.ent_run.proofs.Locked.{not_false, not_true}
+use Rattle.ent_run.proofs.Lists.{any_of, contains_cases, contains_first, contains_later, some_of}
+use Rattle.ent_run.proofs.Locked.{is_not}
 
 abbrev pub AreHolders : Uses → Use → List Holder → Type 0
 AreHolders locks own holders =
     (tx : ℕ) (mode : Mode)
     → Contains holders (record { holder = tx; mode = mode }) ↔ Holds locks tx (key_of_number own.table) mode
 
-module _ (locks : Uses) (groups : List Membership) (pass : List ℕ) (group : ℕ) (other : Member) where
+module _ (locks : Uses) (groups : List Membership) (asker : Asker) (group : ℕ) (other : Member) where
   pub by_first : (first : Use) (rest : List Use) (holders : List Holder) → AreHolders locks first holders
-      → list_any (makes_wait first.mode pass groups group other) holders ≡ true
-      → IsMadeToWait locks groups (first ∷ rest) pass group other
+      → list_any (makes_wait first.mode asker groups group other) holders ≡ true
+      → IsMadeToWait locks groups (first ∷ rest) (passes asker) group other
   by_first first rest holders are any =
-      let one = some_of (makes_wait first.mode pass groups group other) holders any in
+      let one = some_of (makes_wait first.mode asker groups group other) holders any in
       let held = one.0 in
       let parts = and_both (in_conflict held.mode first.mode)
-      (not (list_any (λ n. n == held.holder) pass) && is_awaited_over groups group other held.holder) one.2 in
-      let more = and_both (not (list_any (λ n. n == held.holder) pass))
-      (is_awaited_over groups group other held.holder) parts.1 in (
+      (not (passes asker held.holder) && is_awaited_over groups group other held.holder) one.2 in
+      let more = and_both (not (passes asker held.holder)) (is_awaited_over groups group other held.holder) parts.1 in (
         held.holder,
         (
-          λ passes. not_true (list_any (λ n. n == held.holder) pass) more.0 (into_among pass held.holder passes),
+          is_not (passes asker held.holder) more.0,
           (first, contains_first first rest, (held.mode, (are held.holder held.mode).0 one.1, parts.0)),
         ),
         more.1,
       )
 
-  pub by_others : (first : Use) (rest : List Use) → IsMadeToWait locks groups rest pass group other
-      → IsMadeToWait locks groups (first ∷ rest) pass group other
+  pub by_others : (first : Use) (rest : List Use) → IsMadeToWait locks groups rest (passes asker) group other
+      → IsMadeToWait locks groups (first ∷ rest) (passes asker) group other
   by_others first rest (v, (apart, (own, there, conflict)), over) =
       (v, (apart, (own, contains_later first own rest there, conflict)), over)
 
   pub not_by_first : (first : Use) (rest : List Use) (holders : List Holder) → AreHolders locks first holders
-      → list_any (makes_wait first.mode pass groups group other) holders ≡ false
-      → IsMadeToWait locks groups (first ∷ rest) pass group other → IsMadeToWait locks groups rest pass group other
+      → list_any (makes_wait first.mode asker groups group other) holders ≡ false
+      → IsMadeToWait locks groups (first ∷ rest) (passes asker) group other
+      → IsMadeToWait locks groups rest (passes asker) group other
   not_by_first first rest holders are none (v, (apart, (own, there, (theirs, holds, conflict))), over) =
       by_cases (contains_cases first own rest there)
     where
@@ -59,13 +59,12 @@ module _ (locks : Uses) (groups : List Membership) (pass : List ℕ) (group : �
           (subst (λ (u : Use). Holds locks v (key_of_number u.table) theirs) (sym same) holds) in
           let way : in_conflict theirs first.mode ≡ true =
           ap (λ (u : Use). in_conflict theirs u.mode) same ∙ conflict in
-          true≢false (sym (any_of (makes_wait first.mode pass groups group other) holders held inside
+          true≢false (sym (any_of (makes_wait first.mode asker groups group other) holders held inside
           (both_and (in_conflict theirs first.mode)
-          (not (list_any (λ n. n == v) pass) && is_awaited_over groups group other v) way
-          (both_and (not (list_any (λ n. n == v) pass)) (is_awaited_over groups group other v)
-          (not_false (list_any (λ n. n == v) pass) (λ among. apart (out_of_among pass v among))) over)))
+          (not (passes asker v) && is_awaited_over groups group other v) way
+          (both_and (not (passes asker v)) (is_awaited_over groups group other v) (ap not apart) over)))
           ∙ none)
 
-      by_cases : (first ≡ own) ⊎ Contains rest own → IsMadeToWait locks groups rest pass group other
+      by_cases : (first ≡ own) ⊎ Contains rest own → IsMadeToWait locks groups rest (passes asker) group other
       by_cases (inl same) = absurd (here same)
       by_cases (inr later) = (v, (apart, (own, later, (theirs, holds, conflict))), over)

@@ -15,7 +15,6 @@ use Rattle.ent_protocol.specs.State.{Member}
 use Rattle.ent_run.specs.Grouped.{AreGrouped, IsLabelled}
 use Rattle.ent_run.specs.Joined.{is_one_of, labels_in}
 use Rattle.ent_members.specs.Order.{tx_of}
-use Rattle.ent_run.proofs.Conflicting.{number_if}
 use Rattle.ent_run.proofs.Grouped.{label_of, none_is_some}
 use Rattle.ent_run.proofs.Lists.{contains_first, contains_later, into_map, out_of_map}
 use Rattle.ent_run.proofs.Locked.{some_value}
@@ -124,6 +123,11 @@ pub numbers_gathered : (numbers none first both : List ℕ) (xs ys : List Member
 numbers_gathered numbers none first both xs ys is more all =
     all ∙ ap (λ ns. ns ++ numbers_among numbers ys) (more ∙ ap (λ ns. ns ++ numbers_among numbers xs) is)
     ∙ sym (numbers_among-append numbers xs ys)
+
+number_if : (member : Member) (b : Bool)
+    → map tx_of (if b then member ∷ [] else []) ≡ (if b then member.tx ∷ [] else [])
+number_if member true = refl
+number_if member false = refl
 
 pub numbers_more : (numbers : List ℕ) (xs : List Member) (i : ℕ) (member : Member) (b : Bool) → i < length xs
     → member ≡ get_or xs i member → is_one_of numbers member ≡ b

@@ -14,14 +14,14 @@ use Rattle.ent_group.specs.Groups.{group_of}
 use Rattle.ent_lock.specs.Use.{Uses}
 use Rattle.ent_members.specs.Order.{tx_of}
 use Rattle.ent_run.specs.Grouped.{IsRunWith}
-use Rattle.ent_run.specs.Locks.{passed_numbers}
 use Rattle.ent_run.specs.Moves.{run_of}
+use Rattle.ent_run.specs.Passing.{TellsPassed}
 use Rattle.ent_run.specs.Run.{with_run}
 use Rattle.ent_run.specs.Waits.{IsMadeToWait, is_awaited, is_awaited_over, pairs_of, waits_by, waits_over}
 use Rattle.ent_run.proofs.Blocked.{blocks_conflicting, conflicting_blocks, of_run, others}
 use Rattle.ent_run.proofs.Lists.{contains_none, contains_cases, contains_first, into_filter, out_of_filter, any_of}
 use Rattle.ent_run.proofs.Lists.{some_of, into_map, out_of_map, into_flat_map, out_of_flat_map}
-use Rattle.ent_run.proofs.Locked.{not_true}
+use Rattle.ent_run.proofs.Locked.{not_true, true_both}
 
 abbrev pair_with : ℕ → Member → ℕ × ℕ
 pair_with tx other = (tx, other.tx)
@@ -93,32 +93,28 @@ out_of_pairs s asker asked pair h =
 
 -- ---- the test
 
-true_both : (a b : Bool) → (a ≡ true → b ≡ true) → (b ≡ true → a ≡ true) → a ≡ b
-true_both true b into out = sym (into refl)
-true_both false true into out = out refl
-true_both false false into out = refl
-
 module _ (locks : Uses) (groups : List Membership) (prepared active : List Member)
-    (run : IsRunWith locks groups prepared active) (asker : Member) where
+    (run : IsRunWith locks groups prepared active) (asker : Member) (test : ℕ → Bool)
+    (tells : TellsPassed asker (run_of prepared active) test) where
   label : (m : Member) → Contains (prepared ++ active) m → group_of groups m.tx ≡ Some m.group
   label m there = (run.1.labels m.tx m.group).1 (m, there, refl, refl)
 
   pub waits_as : (asked : List Use) (other : Member) (s : State) (b : Bool)
-      → IsTrue b ↔ IsMadeToWait locks groups asked (passed_numbers asker (run_of prepared active)) asker.group other
+      → IsTrue b ↔ IsMadeToWait locks groups asked test asker.group other
       → b ≡ is_awaited (with_run (run_of prepared active) s) asker asked other
   waits_as asked other s b is = true_both b (list_any (waits_over asker.group other) way) into out
     where
       way : List Member
-      way = filter (is_conflicting asked) (others locks prepared active run.0 asker)
+      way = filter (is_conflicting asked) (others locks prepared active run.0 asker test tells)
 
       into : b ≡ true → list_any (waits_over asker.group other) way ≡ true
       into holds =
           let over = is.0 holds in
           let one = out_of_map tx_of way over.0
-          (blocks_conflicting locks prepared active run.0 asker asked over.0 over.1) in
+          (blocks_conflicting locks prepared active run.0 asker test tells asked over.0 over.1) in
           let m = one.0 in
-          let inside = of_run locks prepared active run.0 asker m
-          (out_of_filter (is_conflicting asked) (others locks prepared active run.0 asker) m one.1).0 in
+          let inside = (of_run locks prepared active run.0 asker test tells m
+          (out_of_filter (is_conflicting asked) (others locks prepared active run.0 asker test tells) m one.1).0).0 in
           any_of (waits_over asker.group other) way m one.1
           (ap (waits_by asker.group other m.tx) (sym (label m inside))
           ∙ ap (λ (v : ℕ). is_awaited_over groups asker.group other v) one.2 ∙ over.2)
@@ -127,10 +123,10 @@ module _ (locks : Uses) (groups : List Membership) (prepared active : List Membe
       out any =
           let one = some_of (waits_over asker.group other) way any in
           let m = one.0 in
-          let inside = of_run locks prepared active run.0 asker m
-          (out_of_filter (is_conflicting asked) (others locks prepared active run.0 asker) m one.1).0 in
+          let inside = (of_run locks prepared active run.0 asker test tells m
+          (out_of_filter (is_conflicting asked) (others locks prepared active run.0 asker test tells) m one.1).0).0 in
           is.1 (
             m.tx,
-            conflicting_blocks locks prepared active run.0 asker asked m.tx (into_map tx_of way m one.1),
+            conflicting_blocks locks prepared active run.0 asker test tells asked m.tx (into_map tx_of way m one.1),
             ap (waits_by asker.group other m.tx) (label m inside) ∙ one.2,
           )

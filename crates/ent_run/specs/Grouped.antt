@@ -1,8 +1,10 @@
 -- The groups of a run: its members, each with the label of its group, and no other.
-use Rattle.std.specs.Prelude.{◌≡◌, ◌↔◌, ℕ, ◌==◌, List, ◌++◌, Option, Some, None, Contains, if◌then◌else◌}
+use Rattle.std.specs.Prelude.{◌≡◌, ◌↔◌, ℕ, ◌==◌, ◌&&◌, Bool, List, ◌++◌, Option, Some, None, Contains, if◌then◌else◌}
+use Rattle.std.specs.List.{list_any}
 use Rattle.ent_group.specs.declared.groups.Membership.{Membership}
 use Rattle.ent_group.specs.Groups.{group_of}
 use Rattle.ent_lock.specs.Use.{Uses}
+use Rattle.ent_protocol.specs.Member.{is_tx}
 use Rattle.ent_protocol.specs.State.{Member}
 use Rattle.ent_members.specs.InRun.{AreByNumber}
 use Rattle.ent_run.specs.InRuns.{in_runs}
@@ -31,6 +33,10 @@ IsRunWith locks groups prepared active = IsLockedRun locks prepared active × Ar
 abbrev pub IsRunOf : Uses → List Membership → List Member → List Member → Type 0
 IsRunOf locks groups prepared active =
     IsRunWith locks groups (in_runs locks groups prepared) (in_runs locks groups active) × AreByNumber locks
+
+-- one of the groups' members has this label, and is in a list of members too
+abbrev pub is_labelled_among : ℕ → List Member → Membership → Bool
+is_labelled_among group members own = (own.group == group) && list_any (is_tx own.member) members
 
 -- a label, unless it is that of the group that leaves
 abbrev pub unless_gone : ℕ → Option ℕ → Option ℕ

@@ -9,3 +9,4 @@ pub mod Grouped
 pub mod Waits
 pub mod Answered
 pub mod Locks
+pub mod Passing

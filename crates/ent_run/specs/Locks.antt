@@ -1,11 +1,10 @@
 -- The lock table of a run: the uses of its members, and no other.
-use Rattle.std.specs.Prelude.{◌≡◌, ◌⊎◌, ◌↔◌, ℕ, List, ◌++◌, map, Contains, filter, nat_eq}
+use Rattle.std.specs.Prelude.{◌≡◌, ◌⊎◌, ◌↔◌, ℕ, Bool, false, List, ◌++◌, map, Contains, nat_eq}
 use Rattle.std.specs.List.{IsDistinct}
 use Rattle.ent_lock.specs.declared.mode.Mode.{Mode}
 use Rattle.ent_lock.specs.Use.{Uses, Holds, InConflictAt, key_of_number}
-use Rattle.ent_protocol.specs.Member.{is_of, is_tx}
 use Rattle.ent_members.specs.Order.{tx_of}
-use Rattle.ent_run.specs.Run.{Run, IsRun}
+use Rattle.ent_run.specs.Run.{IsRun}
 use Rattle.ent_protocol.specs.State.{Member, Use}
 
 abbrev pub use_of : ℕ → Mode → Use
@@ -38,12 +37,7 @@ Locks tx asked old new =
     → Holds new v (key_of_number table) mode
     ↔ (Holds old v (key_of_number table) mode ⊎ ((v ≡ tx) × Contains asked (use_of table mode)))
 
--- the numbers of those that an asker passes: the prepared members of its group, and itself
-abbrev pub passed_numbers : Member → Run → List ℕ
-passed_numbers asker run =
-    map tx_of (filter (is_of asker.group) run.prepared) ++ map tx_of (filter (is_tx asker.tx) run.active)
-
 -- a transaction that isn't passed holds a use in conflict with one that is asked for
-abbrev pub BlocksUses : Uses → List Use → List ℕ → ℕ → Type 0
-BlocksUses locks asked pass v =
-    ¬ Contains pass v × ((own : Use) × Contains asked own × InConflictAt locks v (key_of_number own.table) own.mode)
+abbrev pub BlocksUses : Uses → List Use → (ℕ → Bool) → ℕ → Type 0
+BlocksUses locks asked passes v =
+    (passes v ≡ false) × ((own : Use) × Contains asked own × InConflictAt locks v (key_of_number own.table) own.mode)

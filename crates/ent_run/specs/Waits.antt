@@ -9,6 +9,7 @@ use Rattle.ent_lock.specs.declared.mode.Mode.{Mode}
 use Rattle.ent_lock.specs.Mode.{in_conflict}
 use Rattle.ent_lock.specs.Use.{Uses}
 use Rattle.ent_run.specs.Locks.{BlocksUses}
+use Rattle.ent_run.specs.Passing.{Asker, passes}
 use Rattle.ent_protocol.specs.State.{State, Member, Use}
 use Rattle.ent_protocol.specs.Uses.{conflicting}
 
@@ -34,13 +35,13 @@ abbrev pub is_awaited_over : List Membership → ℕ → Member → ℕ → Bool
 is_awaited_over groups group other holder = waits_by group other holder (group_of groups holder)
 
 -- a holder of a table is in conflict with a mode, isn't passed, and makes a member of a group wait for another
-abbrev pub makes_wait : Mode → List ℕ → List Membership → ℕ → Member → Holder → Bool
-makes_wait mode pass groups group other held =
-    in_conflict held.mode mode && (not (list_any (λ n. n == held.holder) pass)
+abbrev pub makes_wait : Mode → Asker → List Membership → ℕ → Member → Holder → Bool
+makes_wait mode asker groups group other held =
+    in_conflict held.mode mode && (not (passes asker held.holder)
     && is_awaited_over groups group other held.holder)
 
 -- a transaction that isn't passed holds a use in conflict with one that is asked for, and makes a member of a group
 -- wait for another
-abbrev pub IsMadeToWait : Uses → List Membership → List Use → List ℕ → ℕ → Member → Type 0
-IsMadeToWait locks groups asked pass group other =
-    (v : ℕ) × BlocksUses locks asked pass v × (is_awaited_over groups group other v ≡ true)
+abbrev pub IsMadeToWait : Uses → List Membership → List Use → (ℕ → Bool) → ℕ → Member → Type 0
+IsMadeToWait locks groups asked test group other =
+    (v : ℕ) × BlocksUses locks asked test v × (is_awaited_over groups group other v ≡ true)

@@ -1,22 +1,23 @@
 //! The groups of a run's members.
 ghost use Rattle.std.specs.Prelude.{◌≡◌, ℕ, ◌+◌, ◌≤◌, ◌∷◌, ◌++◌, ◌↔◌, Contains, IsSome, IsTrue, List, Some, length};
 ghost use Rattle.std.specs.Prelude.{map, filter, nat_eq, not};
-ghost use Rattle.std.specs.List.{AllByRecursion, IsDistinct, filter_map};
+ghost use Rattle.std.specs.List.{AllByRecursion, IsDistinct, filter_map, list_any};
 ghost use Rattle.std.specs.List.Sorted.{IsStrictlyIncreasing};
 ghost use Rattle.std.specs.Option.{option_map};
-ghost use Rattle.ent_group.specs.Groups.{group_of};
+ghost use Rattle.ent_group.specs.Groups.{group_of, numbers_of};
 ghost use Rattle.ent_protocol.specs.PoolEvents.{joined_label};
 ghost use Rattle.ent_protocol.specs.Run.{fresh};
 ghost use Rattle.ent_protocol.specs.State.{Member as Seen};
-ghost use Rattle.ent_run.specs.Grouped.{AreGrouped, AreNamed, unless_gone};
+ghost use Rattle.ent_run.specs.Grouped.{AreGrouped, AreNamed, is_labelled_among, unless_gone};
 ghost use Rattle.ent_lock.specs.Use.{Uses};
 ghost use Rattle.ent_run.specs.InRuns.{in_runs};
 ghost use Rattle.ent_run.specs.Joined.{is_one_of, labels_in};
-ghost use Rattle.ent_members.specs.Order.{tx_of};
+ghost use Rattle.ent_members.specs.Order.{IsAscending, tx_of};
 ghost use Rattle.ent_members.specs.RunAttempts.{is_within};
 
 use crate::member_list::MemberList;
-use ent_group::{Groups, MOST_MEMBERS, Members, Tx};
+use crate::search::is_among_by_number;
+use ent_group::{Groups, MOST_MEMBERS, Members, Membership, Tx};
 use ent_members::{Entrant, Progress};
 
 /// Each of those who enter, in a group of its own.
@@ -37,6 +38,42 @@ fn is_label(groups: &Groups, label: Tx) -> bool
     ensures { IsTrue result ↔ (group_of groups.now label ≡ Some label) }
 {
     groups.group_of(label) == Some(label)
+}
+
+/// The numbers of members.
+pub(crate) fn numbers_of(memberships: &[Membership]) -> Members
+    requires { length memberships.now ≤ MOST_MEMBERS }
+    ensures { result ≡ numbers_of memberships.now }
+{
+    let mut numbers = Members::new();
+    for own in memberships {
+        numbers.push(own.member);
+    }
+    numbers
+}
+
+fn is_labelled_among(own: &Membership, group: Tx, members: &MemberList) -> bool
+    requires { IsAscending (map tx_of members.now) }
+    ensures { result ≡ is_labelled_among group members.now own.now }
+{
+    own.group == group && is_among_by_number(members, own.member)
+}
+
+/// Whether some member of the group with a label is among those of a list by number.
+pub(crate) fn any_labelled_among(
+    memberships: &[Membership],
+    group: Tx,
+    members: &MemberList,
+) -> bool
+    requires { IsAscending (map tx_of members.now) }
+    ensures { result ≡ list_any (is_labelled_among group members.now) memberships.now }
+{
+    for own in memberships {
+        if is_labelled_among(own, group, members) {
+            return true;
+        }
+    }
+    false
 }
 
 /// The members of the group with a label, by number.

@@ -6,7 +6,7 @@
 #![tactic(auto)]
 
 mod answer;
-mod blockers;
+mod asker;
 mod change;
 mod gather;
 mod groups;

@@ -1,28 +1,65 @@
 //! The lock table of a run.
-ghost use Rattle.std.specs.Prelude.{◌≡◌, map, IfOk, OnOk, OnErr};
+ghost use Rattle.std.specs.Prelude.{◌≡◌, Some, filter, map, IfOk, OnOk, OnErr, if◌then◌else◌};
+ghost use Rattle.ent_lock.specs.Holders.{lesser};
 ghost use Rattle.ent_lock.specs.Use.{IsLeastIfAny};
+ghost use Rattle.ent_protocol.specs.Uses.{least};
 ghost use Rattle.ent_members.specs.InRun.{AreByNumber};
 ghost use Rattle.ent_run.specs.Locks.{BlocksUses, Locks, lock_of};
+ghost use Rattle.ent_run.specs.Passing.{is_in_the_way, passes};
 
-use ent_group::{Members, Tx};
-use ent_lock::{LockTable, Mode, lesser};
+use crate::asker::Asker;
+use ent_group::Tx;
+use ent_lock::{Holder, LockTable, Mode, lesser};
 use ent_members::Use;
 use std::alloc::{AllocError, Global};
 
-/// The least transaction that holds a use in conflict with one that is asked for, save those to be passed.
+/// Whether a transaction is less than the least so far.
+fn is_below(tx: Tx, least: Option<Tx>) -> bool
+    ensures { (if result then Some tx else least) ≡ lesser least (Some tx) }
+{
+    match least {
+        Some(other) => tx < other,
+        None => true,
+    }
+}
+
+/// Whether a holder of a table is in conflict with a mode of using it, and isn't passed.
+fn is_in_the_way(held: &Holder, mode: Mode, asker: &Asker, next: &mut usize) -> bool
+    ensures { result ≡ is_in_the_way mode asker.now held.now }
+{
+    held.mode.in_conflict(mode) && !asker.passes(held.holder, next)
+}
+
+/// The least of a table's holders that are in conflict with a mode of using it, and aren't passed. One that isn't less
+/// than another is not looked at.
+fn least_in_the_way(holders: &[Holder], mode: Mode, asker: &Asker) -> Option<Tx>
+    ensures { result ≡ least (map (λ held. held.holder) (filter (is_in_the_way mode asker.now) holders.now)) }
+{
+    let mut least = None;
+    let mut next = 0;
+    for held in holders {
+        if is_below(held.holder, least) && is_in_the_way(held, mode, asker, &mut next) {
+            least = Some(held.holder);
+        }
+    }
+    least
+}
+
+/// The least transaction that holds a use in conflict with one that is asked for, save those that are passed.
 pub(crate) fn least_in_conflict(
     locks: &LockTable<usize>,
     asked: &[Use],
-    pass: &Members,
+    asker: &Asker,
 ) -> Option<Tx>
-    ensures { IsLeastIfAny (BlocksUses locks.now asked.now pass.now) result }
+    ensures { IsLeastIfAny (BlocksUses locks.now asked.now (passes asker.now)) result }
 {
     let Some((first, rest)) = asked.split_first() else {
         return None;
     };
+    let holders = locks.holders(&first.table());
     lesser(
-        locks.least_in_conflict_at(&first.table(), first.mode(), pass),
-        least_in_conflict(locks, rest, pass),
+        least_in_the_way(holders, first.mode(), asker),
+        least_in_conflict(locks, rest, asker),
     )
 }
 

@@ -1,5 +1,5 @@
 //! Some members of a run, in an order.
-ghost use Rattle.std.specs.Prelude.{◌≡◌, ◌∷◌, ◌<◌, [], None, length, map, filter, slice_index_or, IfSome, IsNone};
+ghost use Rattle.std.specs.Prelude.{◌≡◌, ◌∷◌, ◌<◌, ◌==◌, [], None, length, map, filter, slice_index_or, IfSome, IsNone};
 ghost use Rattle.ent_protocol.specs.Member.{is_tx};
 ghost use Rattle.ent_protocol.specs.State.{Member as Seen, first_of};
 ghost use Rattle.ent_members.specs.Order.{IsAscending, tx_of};
@@ -56,6 +56,12 @@ impl<'a> MemberList<'a> {
         self.keys.len()
     }
 
+    pub(crate) fn is_empty(&self) -> bool
+        ensures { result ≡ (length self.now == 0) }
+    {
+        self.keys.is_empty()
+    }
+
     /// The member at a place, from 0.
     pub(crate) fn at(&self, place: usize) -> &'a Progress
         requires { place < length self.now }
@@ -79,8 +85,34 @@ impl<'a> MemberList<'a> {
         }
     }
 
-    /// The place of the member of a number, in a list by number.
+    /// The place of the member of a number, in a list by number. It is mostly found by counting.
     pub(crate) fn place_by_number(&self, tx: Tx) -> Option<usize>
+        requires { IsAscending (map tx_of self.now) }
+        ensures some { IfSome result (IsAt self.now tx) }
+        ensures none { IsNone result → first_of (filter (is_tx tx) self.now) ≡ None }
+    {
+        match self.place_counted(tx) {
+            Some(at) => Some(at),
+            None => self.place_searched(tx),
+        }
+    }
+
+    /// The same, if each member up to it has the number after that of the one before.
+    fn place_counted(&self, tx: Tx) -> Option<usize>
+        requires { IsAscending (map tx_of self.now) }
+        ensures { IfSome result (IsAt self.now tx) }
+    {
+        let (first, _) = self.split_first()?;
+        let place = tx.wrapping_sub(first.tx()) as usize;
+        if place < self.len() && self.at(place).tx() == tx {
+            Some(place)
+        } else {
+            None
+        }
+    }
+
+    /// The same by a search.
+    fn place_searched(&self, tx: Tx) -> Option<usize>
         requires { IsAscending (map tx_of self.now) }
         ensures some { IfSome result (IsAt self.now tx) }
         ensures none { IsNone result → first_of (filter (is_tx tx) self.now) ≡ None }

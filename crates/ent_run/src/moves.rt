@@ -1,14 +1,13 @@
 //! Whether members are of a group, and members that are taken out for good.
 ghost use Rattle.std.specs.Prelude.{◌≡◌, ◌≢◌, ◌+◌, ◌<◌, ◌≤◌, ◌++◌, ◌∷◌, [], ℕ, Contains, filter, is_some, length};
 ghost use Rattle.std.specs.Prelude.{nat_eq};
-ghost use Rattle.std.specs.List.{IsDistinct, list_any};
+ghost use Rattle.std.specs.List.{IsDistinct};
 ghost use Rattle.std.specs.Vec.{vec_capacity, vec_len};
 ghost use Rattle.slab.specs.Slab.{ContainsKey, get as value_at};
 ghost use Rattle.ent_run.specs.InRuns.{is_labelled, is_otherwise_labelled};
 ghost use Rattle.ent_run.specs.Moves.{is_not_of};
 ghost use Rattle.ent_run.specs.UnderKeys.{AreThere, if_passing, member_under, members_under};
 
-use crate::member_list::MemberList;
 use ent_group::{Groups, Members, Tx};
 use ent_members::{Progress, label_in};
 use slab::Slab;
@@ -18,18 +17,6 @@ pub(crate) fn is_labelled(groups: &Groups, group: Tx, member: &Progress) -> bool
     ensures { result ≡ is_labelled groups.now group member.now }
 {
     label_in(groups, member.tx()) == group
-}
-
-/// Whether one of a list is of the group with a label.
-pub(crate) fn any_of(members: &MemberList, groups: &Groups, group: Tx) -> bool
-    ensures { result ≡ list_any (is_labelled groups.now group) members.now }
-{
-    for place in 0..members.len() {
-        if is_labelled(groups, group, members.at(place)) {
-            return true;
-        }
-    }
-    false
 }
 
 /// The members of these numbers leave the slab.

@@ -22,24 +22,26 @@ ghost use Rattle.ent_run.specs.Joined.{JoinGroups, labels_in};
 ghost use Rattle.ent_members.specs.RunAttempts.{numbers_in, run_attempt_of, run_attempts_in};
 ghost use Rattle.ent_lock.specs.declared.mode.Mode.{Mode};
 ghost use Rattle.ent_run.specs.Grouped.{IsLabelled};
-ghost use Rattle.ent_run.specs.Locks.{IsHeld, passed_numbers, use_of};
+ghost use Rattle.ent_run.specs.Locks.{IsHeld, use_of};
 ghost use Rattle.ent_run.specs.Moves.{Leave, Prepares, is_not_of, is_of_another};
+ghost use Rattle.ent_run.specs.Passing.{TellsPassed, passes};
 ghost use Rattle.ent_run.specs.Places.{Changes, IsAt, found};
 ghost use Rattle.ent_members.specs.Order.{tx_of};
 ghost use Rattle.ent_run.specs.Run.{with_run};
 ghost use Rattle.ent_run.specs.Waits.{is_awaited};
 
 use crate::answer::{answer_each, numbers_of};
-use crate::blockers::{gather_group, pass_itself};
-use crate::change;
+use crate::asker::Asker;
 use crate::gather::{gather, gather_by_number};
-use crate::groups::{each_alone, leave, members_of, merge_answered, remove_labelled};
+use crate::groups::{
+    any_labelled_among, each_alone, leave, members_of, merge_answered, remove_labelled,
+};
 use crate::locks::{least_in_conflict, lock};
 use crate::member_slab::MemberSlab;
-use crate::moves::any_of;
 use crate::search::{is_among, member_by_number, member_in, member_numbers};
 use crate::start::fresh_members;
 use crate::waits::awaits;
+use crate::{change, groups};
 use ent_group::{Groups, MOST_MEMBERS, Members, Tx};
 use ent_lock::{Holder, LockTable};
 use ent_members::{
@@ -176,7 +178,7 @@ impl Run {
     pub fn numbers(&self) -> Members
         ensures { (s : State) → result ≡ running_members (with_run self.now s) }
     {
-        self.run_attempts(None).numbers()
+        groups::numbers_of(self.groups.as_slice())
     }
 
     /// The members of the group with a label, by number.
@@ -214,19 +216,11 @@ impl Run {
         run_attempts
     }
 
-    /// Those that an asker passes: the prepared members of its group, and itself.
-    fn passed_by(&self, asker: &Member) -> Members
-        ensures { result ≡ passed_numbers asker.now self.now }
+    /// A member that asks for uses: it passes the prepared members of its group, and itself.
+    fn asking(&self, asker: &Member) -> Asker<'_>
+        ensures { TellsPassed asker.now self.now (passes result) }
     {
-        let mut pass = Members::new();
-        gather_group(
-            &self.members.prepared(),
-            &self.groups,
-            asker.group(),
-            &mut pass,
-        );
-        pass_itself(&self.members.active(), asker.tx(), &mut pass);
-        pass
+        Asker::new(asker, self.members.prepared(), &self.groups)
     }
 
     /// The least member that holds a use in conflict with one of those that a member asks for, save itself and the
@@ -234,7 +228,7 @@ impl Run {
     pub fn blocker(&self, asker: &Member, asked: &[Use]) -> Option<Tx>
         ensures { (s : State) → result ≡ blocker (with_run self.now s) asker.now asked.now }
     {
-        least_in_conflict(&self.locks, asked, &self.passed_by(asker))
+        least_in_conflict(&self.locks, asked, &self.asking(asker))
     }
 
     /// The same of one that asks for the uses of a statement, which are put together.
@@ -259,11 +253,10 @@ impl Run {
     pub fn awaits(&self, asker: &Member, asked: &[Use], other: &Member) -> bool
         ensures { (s : State) → result ≡ is_awaited (with_run self.now s) asker.now asked.now other.now }
     {
-        let pass = self.passed_by(asker);
         awaits(
             &self.locks,
             asked,
-            &pass,
+            &self.asking(asker),
             &self.groups,
             asker.group(),
             other,
@@ -339,7 +332,7 @@ impl Run {
     fn is_ready(&self, group: Tx) -> bool
         ensures { result ≡ not (list_any (is_of group) self.now.active) }
     {
-        !any_of(&self.members.active(), &self.groups, group)
+        !any_labelled_among(self.groups.as_slice(), group, &self.members.active())
     }
 
     fn join(&mut self, numbers: &[Tx])

@@ -52,6 +52,26 @@ pub(crate) fn is_among(members: &MemberList, tx: Tx) -> bool
     place_of(members, tx).is_some()
 }
 
+/// The same, in a list by number.
+pub(crate) fn is_among_by_number(members: &MemberList, tx: Tx) -> bool
+    requires { IsAscending (map tx_of members.now) }
+    ensures { result ≡ list_any (is_tx tx) members.now }
+{
+    members.place_by_number(tx).is_some()
+}
+
+/// Whether a member has a number, where the numbers that are asked for mostly come in the order of the list: the next
+/// of it is tried first.
+pub(crate) fn is_among_from(members: &MemberList, tx: Tx, next: &mut usize) -> bool
+    ensures { result ≡ list_any (is_tx tx) members.now }
+{
+    if *next < members.len() && members.at(*next).tx() == tx {
+        *next += 1;
+        return true;
+    }
+    is_among(members, tx)
+}
+
 /// The numbers of members, in their order.
 pub fn member_numbers(members: &[Progress]) -> Members
     requires { length members.now ≤ MOST_MEMBERS }

@@ -1,9 +1,11 @@
 //! Who waits for whom: holders of a table make a member wait.
 ghost use Rattle.std.specs.Prelude.{◌≡◌, ◌↔◌, IsTrue};
 ghost use Rattle.std.specs.List.{list_any};
+ghost use Rattle.ent_run.specs.Passing.{passes};
 ghost use Rattle.ent_run.specs.Waits.{IsMadeToWait, is_awaited_over, makes_wait};
 
-use ent_group::{Groups, Members, Tx};
+use crate::asker::Asker;
+use ent_group::{Groups, Tx};
 use ent_lock::{Holder, LockTable, Mode};
 use ent_members::{Member, Use};
 
@@ -29,16 +31,16 @@ fn is_awaited_over(groups: &Groups, group: Tx, other: &Member, holder: Tx) -> bo
 fn some_make_wait(
     holders: &[Holder],
     mode: Mode,
-    pass: &Members,
+    asker: &Asker,
     groups: &Groups,
     group: Tx,
     other: &Member,
 ) -> bool
-    ensures { result ≡ list_any (makes_wait mode pass.now groups.now group other.now) holders.now }
+    ensures { result ≡ list_any (makes_wait mode asker.now groups.now group other.now) holders.now }
 {
     holders.iter().any(|held| {
         held.mode.in_conflict(mode)
-            && !pass.contains(held.holder)
+            && !asker.passes(held.holder, &mut 0)
             && is_awaited_over(groups, group, other, held.holder)
     })
 }
@@ -48,17 +50,17 @@ fn some_make_wait(
 pub(crate) fn awaits(
     locks: &LockTable<usize>,
     asked: &[Use],
-    pass: &Members,
+    asker: &Asker,
     groups: &Groups,
     group: Tx,
     other: &Member,
 ) -> bool
-    ensures { IsTrue result ↔ IsMadeToWait locks.now groups.now asked.now pass.now group other.now }
+    ensures { IsTrue result ↔ IsMadeToWait locks.now groups.now asked.now (passes asker.now) group other.now }
 {
     let Some((first, rest)) = asked.split_first() else {
         return false;
     };
     let holders = locks.holders(&first.table());
-    some_make_wait(holders, first.mode(), pass, groups, group, other)
-        || awaits(locks, rest, pass, groups, group, other)
+    some_make_wait(holders, first.mode(), asker, groups, group, other)
+        || awaits(locks, rest, asker, groups, group, other)
 }

@@ -1,29 +1,33 @@
-use Rattle.std.proofs.Common.{ℕ, List, sym, subst}
-use Rattle.std.specs.Prelude.{Contains}
+use Rattle.std.proofs.Common.{ℕ, List, sym, ap, subst, ◌∙◌}
 use Rattle.ent_lock.specs.declared.mode.Mode.{Mode}
 use Rattle.ent_lock.specs.Holders.{lesser}
-use Rattle.ent_lock.specs.Use.{InConflictAt, IsLeastIfAny, key_of_number}
+use Rattle.ent_lock.specs.Use.{IsLeastIfAny}
 use Rattle.ent_protocol.specs.State.{Use}
+use Rattle.ent_protocol.specs.Uses.{least}
 use Rattle.ent_run.specs.Locks.{BlocksUses}
-use Rattle.ent_run.proofs.Blocked.{least_of_more}
+use Rattle.ent_run.specs.Passing.{passes}
+use Rattle.ent_run.proofs.Blocked.{BlocksOne, least_of_more}
+use Rattle.ent_run.proofs.InTheWay.{least_blocks, numbers_in_way}
+use Rattle.ent_run.proofs.MadeToWait.{AreHolders}
 use Rattle.ent_run.proofs.locks.+least_in_conflict.Goals as goal
 
 pub returns : goal.returns
 returns t c =
     let locks = c.args.locks.now in
-    let pass = c.args.pass.now in
+    let asker = c.args.asker.now in
     let first = c.in-Some.first.now in
     let rest = c.in-Some.rest.now in
-    let found = c.least_in_conflict_at.result in
-    let one : IsLeastIfAny (λ v. ¬ Contains pass v × InConflictAt locks v (key_of_number first.table) first.mode)
-    found =
-    subst (λ (mode : Mode). IsLeastIfAny
-    (λ v. ¬ Contains pass v × InConflictAt locks v (key_of_number first.table) mode) found)
-    c.mode.ensures
-    (subst (λ (n : ℕ). IsLeastIfAny (λ v. ¬ Contains pass v × InConflictAt locks v (key_of_number n) c.mode.result)
-    found)
-    c.table.ensures c.least_in_conflict_at.ensures) in
-    subst (IsLeastIfAny (BlocksUses locks c.args.asked.now pass)) (sym c.lesser.ensures)
-    (subst (λ (asked : List Use). IsLeastIfAny (BlocksUses locks asked pass) (lesser found c.least_in_conflict.result))
+    let holders = c.holders-holders.result.now in
+    let found = c.least_in_the_way.result in
+    let are : AreHolders locks first holders =
+    λ tx mode. rw (sym c.table.ensures) (c.holders-holders.ensures tx mode) in
+    let one : IsLeastIfAny (BlocksOne locks first (passes asker)) found =
+    subst (IsLeastIfAny (BlocksOne locks first (passes asker)))
+    (sym (c.least_in_the_way.ensures
+    ∙ ap (λ (mode : Mode). least (numbers_in_way mode asker holders)) c.mode.ensures))
+    (least_blocks locks first holders asker are) in
+    subst (IsLeastIfAny (BlocksUses locks c.args.asked.now (passes asker))) (sym c.lesser.ensures)
+    (subst (λ (asked : List Use). IsLeastIfAny (BlocksUses locks asked (passes asker))
+    (lesser found c.least_in_conflict.result))
     (sym c.in-Some.ensures.cases.0)
-    (least_of_more locks first rest pass found c.least_in_conflict.result one c.least_in_conflict.ensures))
+    (least_of_more locks first rest (passes asker) found c.least_in_conflict.result one c.least_in_conflict.ensures))

@@ -4,7 +4,7 @@ use Rattle.std.specs.Option.{is_some}
 use Rattle.std.proofs.lemmas.Bool.{ltb-true}
 use Rattle.ent_group.specs.declared.groups.Membership.{Membership}
 use Rattle.ent_group.proofs.LabelAt.{label_behind, label_here}
-use Rattle.ent_group.proofs.groups.label_of.Goals as goal
+use Rattle.ent_group.proofs.groups.label_searched.Goals as goal
 
 nobody : Membership
 nobody = record { member = 0; group = 0 }

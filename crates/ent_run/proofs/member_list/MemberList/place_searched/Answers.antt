@@ -8,7 +8,7 @@ use Rattle.ent_members.specs.Order.{IsAscending, tx_of}
 use Rattle.ent_run.specs.Places.{IsAt}
 use Rattle.ent_run.specs.UnderKeys.{member_under}
 use Rattle.ent_run.proofs.InOrder.{found_under, nowhere_under}
-use Rattle.ent_run.proofs.member_list.MemberList.place_by_number.Goals as goal
+use Rattle.ent_run.proofs.member_list.MemberList.place_searched.Goals as goal
 
 pub returns-in-Ok-clause-some : goal.returns-in-Ok-clause-some
 returns-in-Ok-clause-some c =
