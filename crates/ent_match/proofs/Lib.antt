@@ -13,3 +13,4 @@ pub mod Owners
 pub mod Offered
 pub mod Partners
 pub mod Refused
+pub mod Signatures

@@ -8,3 +8,4 @@ pub mod Components
 pub mod Same
 pub mod Parts
 pub mod Demand
+pub mod Signature

@@ -18,6 +18,7 @@ mod place;
 mod pool;
 mod posted;
 mod remainder;
+mod signature;
 
 pub use demand::{Demand, demand_of};
 pub use fault::{PostFault, Unsafe};

@@ -5,8 +5,8 @@ ghost use Rattle.ent_coordination.specs.Pool.{CanMeet};
 use crate::posted::Posted;
 use ent_unify::unifies;
 
-/// Whether a post of one statement, by its index, unifies with a head of another.
-pub(crate) fn can_meet(asker: &Posted, index: usize, owner: &Posted) -> bool
+/// Whether a post of one statement, by its index, unifies with a head of another. It tries each head.
+pub(crate) fn has_head_for(owner: &Posted, asker: &Posted, index: usize) -> bool
     requires { index < length asker.now.statement.posts }
     ensures { IsTrue result ↔ CanMeet asker.now index owner.now }
 {
@@ -24,4 +24,15 @@ pub(crate) fn can_meet(asker: &Posted, index: usize, owner: &Posted) -> bool
         }
     }
     false
+}
+
+/// Whether a post of one statement, by its index, unifies with a head of another.
+pub(crate) fn can_meet(asker: &Posted, index: usize, owner: &Posted) -> bool
+    requires { index < length asker.now.statement.posts }
+    ensures { IsTrue result ↔ CanMeet asker.now index owner.now }
+{
+    if !asker.may_meet(owner) {
+        return false;
+    }
+    has_head_for(owner, asker, index)
 }

@@ -9,7 +9,7 @@ ghost use Rattle.ent_match.specs.Posting.{IsWhyIn};
 ghost use Rattle.ent_match.specs.declared.offers.Offer.{Offer};
 
 use crate::fault::{PostFault, Unsafe, fault_of};
-use crate::meets::can_meet;
+use crate::meets::has_head_for;
 use crate::place::place_of;
 use crate::posted::Posted;
 use ent_group::Tx;
@@ -50,14 +50,14 @@ pub(crate) fn forget(offers: &mut Vec<Offer>, tx: Tx)
     offers.retain(|offer| !is_of(offer, tx));
 }
 
-/// Puts down for which posts of one statement another has a head.
-fn push_met(offers: &mut Vec<Offer>, asker: &Posted, owner: &Posted) -> Result<(), AllocError>
+/// Puts down for which posts of one statement another has a head. It tries each post.
+fn push_each_met(offers: &mut Vec<Offer>, asker: &Posted, owner: &Posted) -> Result<(), AllocError>
     ensures grows { GrowBy offers.old.items offers.new.items (IsMetBy asker.now owner.now) }
     ensures ok { OnOk result ((offer : Offer) → IsMetBy asker.now owner.now offer
         → Contains offers.new.items offer) }
 {
     for index in 0..asker.statement().posts.len() {
-        if can_meet(asker, index, owner) {
+        if has_head_for(owner, asker, index) {
             offers.push(Offer {
                 asker: asker.tx(),
                 index,
@@ -66,6 +66,18 @@ fn push_met(offers: &mut Vec<Offer>, asker: &Posted, owner: &Posted) -> Result<(
         }
     }
     Ok(())
+}
+
+/// Puts down for which posts of one statement another has a head. Their signatures tell of most that there are none.
+fn push_met(offers: &mut Vec<Offer>, asker: &Posted, owner: &Posted) -> Result<(), AllocError>
+    ensures grows { GrowBy offers.old.items offers.new.items (IsMetBy asker.now owner.now) }
+    ensures ok { OnOk result ((offer : Offer) → IsMetBy asker.now owner.now offer
+        → Contains offers.new.items offer) }
+{
+    if !asker.may_meet(owner) {
+        return Ok(());
+    }
+    push_each_met(offers, asker, owner)
 }
 
 /// Puts down the offers between two statements, once where the two are one.

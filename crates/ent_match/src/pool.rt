@@ -59,8 +59,8 @@ impl Pool {
     }
 
     /// Posts a statement. Refused where a post of the pool would unify with heads of two statements, or where memory
-    /// runs out; then the pool is as before and the statement comes back. Each of its posts is unified with each head
-    /// of the pool, and each post of the pool with each of its heads.
+    /// runs out; then the pool is as before and the statement comes back. Its signatures are compared with those of
+    /// each statement of the pool; its posts and heads are unified with those of the few whose signatures are alike.
     pub fn post(&mut self, member: Posted) -> Result<(), (Posted, PostFault)>
         requires { HasNone self.old member }
         ensures posted { OnOk result (IsPostedTo self.old self.new member) }

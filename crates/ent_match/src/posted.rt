@@ -1,8 +1,10 @@
 //! Posted statements.
-ghost use Rattle.std.specs.Prelude.{◌≡◌, IfOk};
+ghost use Rattle.std.specs.Prelude.{◌≡◌, ℕ, IfOk, false};
 ghost use Rattle.std.specs.Arc.{arc_value};
+ghost use Rattle.ent_coordination.specs.Pool.{CanMeet};
 
-use ent_group::Tx;
+use crate::signature::signature_of;
+use ent_group::{Row, Tx};
 use ent_semantics::Entangled;
 use ent_tree::{Duplicate, Same};
 use ent_value::Value;
@@ -17,6 +19,10 @@ pub struct Posted {
     attempt: u64,
     place: u64,
     statement: Arc<Entangled<Value>>,
+    /// The signature of its posts.
+    posts: Row,
+    /// The signature of its heads.
+    heads: Row,
 }
 
 impl Drop for Posted {
@@ -26,6 +32,8 @@ impl Drop for Posted {
             attempt: _attempt,
             place: _place,
             statement: _statement,
+            posts: _posts,
+            heads: _heads,
         } = self;
     }
 }
@@ -33,21 +41,28 @@ impl Drop for Posted {
 impl Model for Posted {
     ghost use Rattle.std.specs.Arc.{arc_value};
     ghost use Rattle.ent_coordination.specs.Pool.{Posted as PostedStatement};
+    ghost use Rattle.ent_match.specs.Signature.{AreSignatures};
 
     ghost Value = { PostedStatement };
 
     ghost view = { λ p. record { tx = p.tx; attempt = p.attempt; place = p.place; statement = arc_value p.statement } };
+
+    ghost invariant = { λ p. AreSignatures (arc_value p.statement) p.posts p.heads };
 }
 
 impl Posted {
     pub fn new(tx: Tx, attempt: u64, place: u64, statement: Arc<Entangled<Value>>) -> Self
         ensures { result ≡ record { tx = tx; attempt = attempt; place = place; statement = arc_value statement } }
     {
+        let posts = signature_of(statement.posts.as_slice());
+        let heads = signature_of(statement.heads.as_slice());
         Posted {
             tx,
             attempt,
             place,
             statement,
+            posts,
+            heads,
         }
     }
 
@@ -61,6 +76,8 @@ impl Posted {
             attempt: self.attempt,
             place: self.place,
             statement,
+            posts: self.posts,
+            heads: self.heads,
         })
     }
 
@@ -89,6 +106,13 @@ impl Posted {
         ensures { result.now ≡ self.now.statement }
     {
         &self.statement
+    }
+
+    /// Whether a post of this statement may unify with a head of another one, by their signatures.
+    pub(crate) fn may_meet(&self, owner: &Posted) -> bool
+        ensures { result ≡ false → (index : ℕ) → CanMeet self.now index owner.now → ⊥ }
+    {
+        self.posts & owner.heads != 0
     }
 }
 

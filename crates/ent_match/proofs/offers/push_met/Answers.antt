@@ -1,32 +1,8 @@
-use Rattle.std.proofs.Common.{◌+◌, List, length, arith, sym, ap, subst, ◌∙◌, true≢false, Vec, Global}
-use Rattle.ent_value.specs.declared.value.Value.{Value}
-use Rattle.ent_semantics.specs.declared.entangled.Entangled.{Entangled}
-use Rattle.ent_match.specs.declared.offers.Offer.{Offer}
-use Rattle.ent_match.proofs.Offered.{MetSoFar, met_all, met_more, met_same}
+use Rattle.std.proofs.Common.{inl}
 use Rattle.ent_match.proofs.offers.push_met.Goals as goal
-use Rattle.ent_match.proofs.offers.push_met.Goals.{then-can_meet+in_ok-push, else-can_meet}
 
-pub loop-index-preserved : goal.loop-index-preserved
-loop-index-preserved c =
-    let asker = c.args.asker.now in
-    let owner = c.args.owner.now in
-    let first = c.args.offers.now.items in
-    let old = c.loop-index.offers.items in
-    let i = c.loop-index.index in
-    let items = λ (v : Vec Offer Global). v.items in
-    elim c.if-can_meet.branch [
-      | then-can_meet+in_ok-push w ↦
-          met_more first old c.if-can_meet.offers.items asker owner i w.tx.result w.tx-then-can_meet.result
-          w.tx.ensures w.tx-then-can_meet.ensures (ap items w.offers-is ∙ w.in_ok-push.ensures.items)
-          (c.can_meet.ensures.0 w.if-can_meet.true) c.loop-index.invariant
-      | else-can_meet w ↦
-          subst (λ (xs : List Offer). MetSoFar first xs asker owner (i + 1)) (sym (ap items w.offers-is))
-          (met_same first old asker owner i (λ m. true≢false (sym (c.can_meet.ensures.1 m) ∙ w.if-can_meet.false))
-          c.loop-index.invariant)
-    ]
-
-pub returns-clause-ok : goal.returns-clause-ok
-returns-clause-ok c =
-    let posts = ap (λ (s : Entangled Value). length s.posts) c.statement.ensures in
-    met_all c.args.offers.now.items c.loop-index.offers.items c.args.asker.now c.args.owner.now c.loop-index.index
-    (omega arith) c.loop-index.invariant
+pub returns-then-not-may_meet : goal.returns-then-not-may_meet
+returns-then-not-may_meet c = record {
+  grows = record { kept = λ offer listed. listed; sound = λ offer listed. inl listed };
+  ok = λ offer met. absurd (c.may_meet.ensures c.if-not-may_meet.true offer.index met.2);
+}

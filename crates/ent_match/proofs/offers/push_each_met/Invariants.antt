@@ -1,5 +1,5 @@
 use Rattle.ent_match.proofs.Offered.{MetSoFar}
-use Rattle.ent_match.proofs.offers.push_met.Given as goal
+use Rattle.ent_match.proofs.offers.push_each_met.Given as goal
 
 -- the offers of the posts so far are put down
 abbrev pub invariant-loop-index : goal.invariant-loop-index
