@@ -24,9 +24,9 @@ use Rattle.ent_run.specs.Places.{IsAt as IsPlace}
 use Rattle.ent_run.specs.Run.{Run, with_run}
 use Rattle.ent_run.specs.Waits.{waits_by, waits_over}
 use Rattle.ent_run.proofs.HeldUses.{into_by_number}
-use Rattle.ent_run.proofs.Lists.{any_of, contains_cases, contains_none, into_filter, into_map, out_of_filter, some_of}
+use Rattle.ent_run.proofs.Lists.{contains_cases, contains_none, into_filter, into_map, out_of_filter, some_of}
 use Rattle.ent_run.proofs.OneMember.{found_tx, some_same}
-use Rattle.ent_protocol.specs.Member.{active_member, is_of, is_prepared, is_tx}
+use Rattle.ent_protocol.specs.Member.{active_member, is_of, is_tx}
 use Rattle.ent_protocol.specs.Rollback.{group_numbers}
 use Rattle.ent_protocol.specs.State.{Member, State, Use, by_number, first_of}
 use Rattle.ent_protocol.specs.Uses.{conflicting, exclusive, is_conflicting, not_passed, uses_conflict}
@@ -157,23 +157,13 @@ module _ (run : Run) where
   pub unpassed_member : (askers : Askers) (holder : Member) → IsNotPassed run askers holder → IsMember run holder
   unpassed_member askers holder (asker, is_asker, there) = member_by asker holder there
 
-  -- a prepared member that some of them don't pass is of another group
-  pub other_group : (askers : Askers) (holder : Member) (tx group : ℕ) → active_member s tx ≡ None
-      → IsNotPassed run askers holder → holder.tx ≡ tx → holder.group ≡ group → (group == askers.group) ≡ false
-  other_group askers holder tx group none (asker, is_asker, there) own label =
-      elim (unpassed_cases asker holder there) [
-        | inl early ↦
-            ap (λ (n : ℕ). n == askers.group) (sym label) ∙ ap (λ (n : ℕ). holder.group == n) is_asker.0 ∙ early.1
-        | inr late ↦ absurd (nobody tx holder none late.0 own)
-      ]
-
-  -- another member that some of them don't pass isn't the only one of them
-  pub other_one : (askers : Askers) (holder : Member) (tx : ℕ) → is_prepared s tx ≡ false
+  -- a member of their group that some of them don't pass isn't the only one of them
+  pub other_one : (askers : Askers) (holder : Member) (tx : ℕ) → holder.group ≡ askers.group
       → IsNotPassed run askers holder → holder.tx ≡ tx → option_eq nat_eq askers.only (Some tx) ≡ false
-  other_one askers holder tx active (asker, is_asker, there) own =
+  other_one askers holder tx of_group (asker, is_asker, there) own =
       elim (unpassed_cases asker holder there) [
-        | inl early ↦ clash (is_prepared s tx) (any_of (is_tx tx) run.prepared holder early.0
-            (ap (λ (n : ℕ). n == tx) own ∙ number_itself tx)) active
+        | inl early ↦ clash (holder.group == asker.group)
+            (ap (λ (n : ℕ). n == asker.group) (of_group ∙ is_asker.0) ∙ number_itself asker.group) early.1
         | inr late ↦ not_only askers.only is_asker.1 (λ same. differ holder.tx asker.tx late.1 (own ∙ same))
       ]
     where

@@ -1,10 +1,10 @@
 -- The rows that are made mark each pair of a waiter and one that it waits for.
 use Rattle.std.proofs.Common.{◌≡◌, ◌≢◌, inl, inr, ℕ, ◌+◌, ◌<◌, Bool, true, false}
-use Rattle.std.proofs.Common.{if◌then◌else◌, List, [], ◌∷◌, length, map, get_or, set, refl, sym, ap, subst, ◌∙◌}
-use Rattle.std.proofs.Common.{arith}
+use Rattle.std.proofs.Common.{if◌then◌else◌, List, [], ◌∷◌, length, map, get_or, set, take, refl, sym, ap, subst}
+use Rattle.std.proofs.Common.{◌∙◌, arith}
 use Rattle.std.specs.Prelude.{All, slice_index}
 use Rattle.std.specs.List.{flat_map}
-use Rattle.std.proofs.lemmas.List.{get_or_default, get_or-map, get_or-set_other, length-map}
+use Rattle.std.proofs.lemmas.List.{get_or_default, get_or-map, get_or-set_other, get_or-take, length-map}
 use Rattle.std.proofs.lemmas.Grind.{get_or-set_at}
 use Rattle.std.proofs.lemmas.List.Elements.{All-cons, All-nil}
 use Rattle.ent_lists.specs.Elements.{both_and}
@@ -35,6 +35,13 @@ abbrev pub AreRows : Run → List Submitted → List Job → List ℕ → Type 0
 AreRows run submitted lent rows =
     (place : ℕ) (asker : Member) → StandsAt run.active place asker
     → MarksAll run.active (awaits_now run submitted lent asker) (slice_index rows place)
+
+-- those at the places of members are left when the others go
+pub first_rows : (run : Run) (submitted : List Submitted) (lent : List Job) (rows : List ℕ)
+    → AreRows run submitted lent rows → AreRows run submitted lent (take (length run.active) rows)
+first_rows run submitted lent rows are = λ place asker stands.
+    subst (λ (row : ℕ). MarksAll run.active (awaits_now run submitted lent asker) row)
+    (sym (get_or-take (length run.active) rows place 0 stands.0)) (are place asker stands)
 
 abbrev pub AreRowsUpto : Run → List Submitted → List Job → ℕ → List ℕ → Type 0
 AreRowsUpto run submitted lent count rows =

@@ -15,7 +15,7 @@ use Rattle.ent_protocol.specs.Waits.{next_uses}
 use Rattle.ent_waits.specs.Free.{is_posting}
 
 -- nobody blocks who asks for nothing
-none_conflicting : (xs : List Member) → filter (is_conflicting []) xs ≡ []
+pub none_conflicting : (xs : List Member) → filter (is_conflicting []) xs ≡ []
 none_conflicting [] = refl
 none_conflicting (x ∷ xs) = none_conflicting xs
 

@@ -103,9 +103,9 @@ fn row_in_group(run: &Run, asker: &Member, place: usize, common: &mut ChangersRo
     }
 }
 
-/// The row of a member that changes a table. The row that it has in common with others is its own, but where it is
-/// marked itself: then some of its own group hold the table.
-pub(crate) fn row_of_changer(
+/// The row of a member that changes a table, where the row that it has in common with others isn't known, or isn't its
+/// own: it is its own, but where it is marked itself. Then some of its own group hold the table.
+fn row_of_next_changer(
     run: &Run,
     asker: &Member,
     place: usize,
@@ -126,4 +126,26 @@ pub(crate) fn row_of_changer(
     };
     *known = Some(common);
     row
+}
+
+/// The row of a member that changes a table, which it may have in common with others.
+pub(crate) fn row_of_changer(
+    run: &Run,
+    asker: &Member,
+    place: usize,
+    table: usize,
+    known: &mut Option<ChangersRow>,
+) -> Row
+    requires within { place < MOST_MEMBERS }
+    requires known { IfSome known.old (IsOfChangers run.now) }
+    ensures row { MarksAll run.now.active
+        (is_awaited (with_run run.now nothing) asker.now (exclusive table ∷ [])) result }
+    ensures known { IfSome known.new (IsOfChangers run.now) }
+{
+    match *known {
+        Some(common) if common.table == table && !share_mark(common.row, with_mark(0, place)) => {
+            common.row
+        }
+        _ => row_of_next_changer(run, asker, place, table, known),
+    }
 }

@@ -35,12 +35,14 @@ fn may_wait_on_cycle(run: &Run, submitted: &[SubmittedScript], lent: &[Job]) -> 
     ensures { (s : State) → result ≡ false → NoDeadlock (state_with run.now submitted.now lent.now s) }
 {
     awaited_members_are_waited_for();
-    let _most = run.active_len();
+    let count = run.active_len();
     let rows = rows_of(run, submitted, lent);
-    may_have_cycle(&rows)
+    may_have_cycle(&rows[..count])
 }
 
-/// The cycle as [`deadlock`] answers it, by all pairs of who waits and for whom.
+/// The cycle as [`deadlock`] answers it, by all pairs of who waits and for whom. It has the room of these pairs to
+/// itself: most looks end before.
+#[inline(never)]
 fn greatest_cycle(run: &Run, submitted: &[SubmittedScript], lent: &[Job]) -> Option<Members>
     ensures found { (s : State) → IfSome result (IsDeadlock (state_with run.now submitted.now lent.now s)) }
     ensures none { (s : State) → IsNone result → NoDeadlock (state_with run.now submitted.now lent.now s) }

@@ -1,6 +1,6 @@
 //! Whom each member waits for, as rows of marks.
 ghost use Rattle.std.specs.Prelude.{◌≡◌, ℕ, ◌<◌, slice_index, Some, IfSome, false};
-ghost use Rattle.ent_run.specs.Run.{with_run};
+ghost use Rattle.ent_run.specs.Run.{Run as Running, with_run};
 ghost use Rattle.ent_run.specs.Waits.{is_awaited, waits_by};
 ghost use Rattle.ent_protocol.specs.State.{Member as Seen};
 ghost use Rattle.ent_protocol.specs.Uses.{statement_uses};
@@ -31,16 +31,12 @@ pub(crate) struct MarkedGroups {
     pub(crate) last: Option<Tx>,
 }
 
-/// Whether those who ask pass the member of a number, whose group has the label: it is a prepared one of their group,
-/// or it isn't prepared and is the only one of them.
-fn is_passed(run: &Run, askers: Askers, tx: Tx, group: Tx) -> bool
-    ensures { (holder : Seen) → IsNotPassed run.now askers holder → holder.tx ≡ tx → holder.group ≡ group
+/// Whether those who ask are one only, and it is the member of a number, whose group has the label.
+fn is_only_one(askers: Askers, tx: Tx, group: Tx) -> bool
+    ensures { (run : Running) (holder : Seen) → IsNotPassed run askers holder → holder.tx ≡ tx → holder.group ≡ group
         → result ≡ false }
 {
-    if run.is_prepared(tx) {
-        return group == askers.group;
-    }
-    askers.only == Some(tx)
+    group == askers.group && askers.only == Some(tx)
 }
 
 /// A row with a mark too at the member of a number, unless it is prepared.
@@ -108,7 +104,7 @@ fn mark_over(marked: MarkedGroups, run: &Run, askers: Askers, tx: Tx) -> MarkedG
     ensures last { HasLast run.now result }
 {
     match run.label_of(tx) {
-        Some(group) if !is_passed(run, askers, tx, group) => {
+        Some(group) if !is_only_one(askers, tx, group) => {
             mark_awaited(marked, run, askers.group, tx, group)
         }
         _ => marked,
@@ -196,7 +192,7 @@ fn row_while_waiting(
     }
     match next_form(submitted, asker) {
         Some(form) => row_of_form(run, asker, place, form, known),
-        None => row_of(run, asker, &[]),
+        None => 0,
     }
 }
 

@@ -1,11 +1,9 @@
-use Rattle.std.proofs.Common.{arith}
-use Rattle.ent_waits.proofs.Stuck.{all_stuck, is_zero, none_stuck, still}
+use Rattle.ent_waits.proofs.Stuck.{all_awaited, is_zero, none_stuck, still}
 use Rattle.ent_waits.proofs.cycle_search.may_have_cycle.Goals as goal
 
 pub loop-round-init : goal.loop-round-init
 loop-round-init c =
-    all_stuck c.args.rows.now c.first_marks-stuck.result
-    (λ i below. c.first_marks-stuck.ensures i (omega (arith, below)))
+    all_awaited c.args.rows.now c.awaited-stuck.result c.awaited-stuck.ensures
 
 pub loop-round-preserved : goal.loop-round-preserved
 loop-round-preserved c =

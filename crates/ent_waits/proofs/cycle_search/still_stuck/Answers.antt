@@ -1,5 +1,5 @@
 use Rattle.std.proofs.Common.{◌+◌, arith, sym, subst}
-use Rattle.ent_waits.proofs.Stuck.{AreStuck, stuck_more, stuck_same}
+use Rattle.ent_waits.proofs.Stuck.{AreStuck, stuck_both, stuck_more, stuck_same}
 use Rattle.ent_waits.proofs.cycle_search.still_stuck.Goals.{then-share_mark, else-share_mark}
 use Rattle.ent_waits.proofs.cycle_search.still_stuck.Goals as goal
 
@@ -13,11 +13,17 @@ loop-place-preserved c =
     let at = c.loop-place.place in
     elim c.if-share_mark.branch [
       | then-share_mark w ↦
-          subst (λ left. AreStuck rows stuck left (at + 1)) (sym w.left-is)
-          (stuck_more rows stuck c.loop-place.left w.with_mark-left.result at w.with_mark-left.ensures
+          subst (λ waiting. AreStuck rows stuck waiting (at + 1)) (sym w.waiting-is)
+          (stuck_more rows stuck c.loop-place.waiting w.with_mark-waiting.result at w.with_mark-waiting.ensures
           c.loop-place.invariant)
       | else-share_mark w ↦
-          subst (λ left. AreStuck rows stuck left (at + 1)) (sym w.left-is)
-          (stuck_same rows stuck c.loop-place.left at c.share_mark.result w.if-share_mark.false c.share_mark.ensures
+          subst (λ waiting. AreStuck rows stuck waiting (at + 1)) (sym w.waiting-is)
+          (stuck_same rows stuck c.loop-place.waiting at c.share_mark.result w.if-share_mark.false c.share_mark.ensures
           c.loop-place.invariant)
     ]
+
+pub returns : goal.returns
+returns c = λ i j below own marked other.
+    stuck_both c.args.rows.now c.args.stuck c.loop-place.waiting
+    (λ k m under. c.loop-place.invariant k m (omega (arith, under)))
+    i j below own marked other

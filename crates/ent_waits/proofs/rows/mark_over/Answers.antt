@@ -15,7 +15,7 @@ returns-in_default-clause-marked c = λ holder own unpassed.
     let run = c.args.run.now in
     let label = label_is run c.args.tx c.in-Some.group c.label_of.result c.label_of.ensures c.in-Some.is holder
     (unpassed_member run c.args.askers holder unpassed) own in
-    absurd (true≢false (sym c.if-not-is_passed.false ∙ c.is_passed.ensures holder unpassed own label))
+    absurd (true≢false (sym c.if-not-is_only_one.false ∙ c.is_only_one.ensures run holder unpassed own label))
 
 pub returns-in_default-2-clause-marked : goal.returns-in_default-2-clause-marked
 returns-in_default-2-clause-marked c = λ holder own unpassed.
