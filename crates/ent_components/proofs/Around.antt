@@ -1,20 +1,19 @@
--- Whether some statements are a component, by the part around the first of them.
-use Rattle.std.proofs.Common.{◌≡◌, ℕ, List, [], ◌∷◌, get_or, refl, subst, Some, None}
+-- Whether some statements are a component, by the place of the first of them.
+use Rattle.std.proofs.Common.{◌≡◌, ℕ, ◌<◌, List, [], ◌∷◌, length, get_or, refl, sym, ap, subst, ◌∙◌, arith, inl, inr}
+use Rattle.std.proofs.Common.{Option, Some, None}
 use Rattle.std.specs.Prelude.{Contains, slice_get}
-use Rattle.std.proofs.lemmas.List.{get_or_default}
+use Rattle.std.proofs.lemmas.Bool.{cases_lt}
 use Rattle.ent_coordination.specs.Component.{IsComponent}
-use Rattle.ent_coordination.specs.Pool.{Posted}
+use Rattle.ent_coordination.specs.Pool.{Posted, first_tx}
+use Rattle.ent_match.specs.Components.{AreFirstPlaces, FirstIs, component_at}
 use Rattle.ent_match.specs.Fault.{IsByNumber}
-use Rattle.ent_match.specs.Parts.{IsPart}
-use Rattle.ent_match.specs.Remainder.{At}
 use Rattle.ent_protocol.specs.Member.{pool}
 use Rattle.ent_protocol.specs.PoolEvents.{IsPresentComponent}
 use Rattle.ent_protocol.specs.State.{State}
-use Rattle.ent_components.specs.Part.{IsTakenOut}
 use Rattle.ent_match.specs.Place.{HasNoneOf, IsPlaceOf}
-use Rattle.ent_components.proofs.Exact.{component_in, has_first, is_posted, present_in}
+use Rattle.ent_components.proofs.Exact.{AreClasses, begins_somewhere, component_in, has_first, is_posted, present_in}
 use Rattle.ent_components.proofs.Listed.{element_here, in_none}
-use Rattle.ent_components.proofs.Numbered.{same_member}
+use Rattle.ent_components.proofs.Picked.{first_at, within_posted}
 
 abbrev tx_of : Posted → ℕ
 tx_of member = member.tx
@@ -35,31 +34,42 @@ pub not_posted : (posted asked : List Posted) (first : Posted) → Some first �
 not_posted posted asked first is none component =
     none first (is_posted posted asked first component (first_member asked first is)) refl
 
--- where the first of them stands
-stands_at : (posted asked : List Posted) → IsByNumber posted → (first : Posted)
-    → Some first ≡ slice_get asked 0 → (place : ℕ) → IsPlaceOf posted first.tx place
-    → IsComponent posted asked → At posted place first
-stands_at posted asked ascends first is place (below, own) component =
-    let member = get_or posted place first in
-    let at : get_or posted place member ≡ member = get_or_default posted place member first below in
-    let there = is_posted posted asked first component (first_member asked first is) in
-    let same : member ≡ first =
-    same_member tx_of posted ascends member first (place, below, at) there (own first) in
-    subst (At posted place) same (below, at)
+first_tx_is : (asked : List Posted) (first : Posted) → Some first ≡ slice_get asked 0 → first_tx asked ≡ first.tx
+first_tx_is [] first is = cc
+first_tx_is (own ∷ more) first is = let same : first ≡ own = cc in ap tx_of (sym same)
 
-whole_part : (pool : List Posted) → IsPart pool pool
-whole_part pool = record { within = λ member inside. inside; joined = λ one other inside there joined. there }
+-- statements of one transaction stand at one place
+one_place : (posted : List Posted) → IsByNumber posted → (d : Posted) (k j : ℕ) → k < length posted
+    → j < length posted → (get_or posted k d).tx ≡ d.tx → (get_or posted j d).tx ≡ d.tx → k ≡ j
+one_place posted ascends d k j below_k below_j is_k is_j =
+    elim (cases_lt k j) [
+      | inl less ↦ (let l = ascends k j d less below_j in absurd (omega arith))
+      | inr not_less ↦ elim (cases_lt j k) [
+        | inl more ↦ (let l = ascends j k d more below_k in absurd (omega arith))
+        | inr not_more ↦ omega arith
+      ]
+    ]
 
-pub is_listed : (posted asked : List Posted) → IsByNumber posted → (first : Posted)
-    → Some first ≡ slice_get asked 0 → (place : ℕ) → IsPlaceOf posted first.tx place
-    → (lists : List (List Posted)) (rest : List Posted) → IsTakenOut posted place lists rest
-    → (Contains lists asked → IsComponent posted asked) × (IsComponent posted asked → Contains lists asked)
-is_listed posted asked ascends first is place at lists rest taken =
-    let of_part = taken.components posted ascends (whole_part posted) in (
-      of_part.exact asked,
-      λ component. of_part.covers asked first component (first_member asked first is)
-          (taken.split.here first (stands_at posted asked ascends first is place at component)),
-    )
+module _ (classes : AreClasses) (posted asked : List Posted) (ascends : IsByNumber posted) (first : Posted)
+    (is : Some first ≡ slice_get asked 0) (place : ℕ) (at : IsPlaceOf posted first.tx place)
+    (firsts : List (Option ℕ)) (are : AreFirstPlaces posted firsts) where
+  -- where a component begins with the first of them
+  pub begins_here : IsComponent posted asked
+      → FirstIs firsts place place × (component_at firsts place posted ≡ asked)
+  begins_here component =
+      let own = begins_somewhere classes posted firsts are asked component in
+      let tx : (get_or posted own.0 first).tx ≡ first.tx =
+      sym (first_at posted ascends firsts are own.0 first own.1) ∙ (ap first_tx own.2 ∙ first_tx_is asked first is) in
+      let room = are.room in
+      let below : own.0 < length posted = (let l = within_posted firsts own.0 own.0 own.1 in omega arith) in
+      let same : own.0 ≡ place = one_place posted ascends first own.0 place below at.0 tx (at.1 first) in (
+        subst (λ k. FirstIs firsts k k) same own.1,
+        subst (λ k. component_at firsts k posted ≡ asked) same own.2,
+      )
+
+  pub is_whole : (FirstIs firsts place place × (component_at firsts place posted ≡ asked) → IsComponent posted asked)
+      × (IsComponent posted asked → FirstIs firsts place place × (component_at firsts place posted ≡ asked))
+  is_whole = (λ whole. subst (IsComponent posted) whole.1 (are.exact place whole.0), begins_here)
 
 -- in a state
 

@@ -1,15 +1,12 @@
--- The components of a part of what is posted are components of all of that.
-use Rattle.std.proofs.Common.{◌≡◌, List, refl, sym, subst}
+-- The components of what is posted.
+use Rattle.std.proofs.Common.{◌≡◌, ℕ, List, Option, refl, sym, subst}
 use Rattle.std.specs.Prelude.{◌↔◌, Contains}
-use Rattle.ent_coordination.specs.Component.{IsComponent, IsInRemainder}
+use Rattle.ent_coordination.specs.Component.{IsComponent}
 use Rattle.ent_coordination.specs.Pool.{Posted}
-use Rattle.ent_match.specs.Components.{AreComponents}
-use Rattle.ent_match.specs.Fault.{IsByNumber}
-use Rattle.ent_match.specs.Parts.{IsPart}
+use Rattle.ent_match.specs.Components.{AreFirstPlaces, FirstIs, component_at}
 use Rattle.ent_protocol.specs.Member.{pool}
 use Rattle.ent_protocol.specs.PoolEvents.{IsPresentComponent}
 use Rattle.ent_protocol.specs.State.{State}
-use Rattle.ent_components.specs.Part.{AreComponentsOf}
 use Rattle.ent_components.proofs.Numbered.{same_statements}
 
 -- ---- what the crates below say
@@ -18,14 +15,6 @@ abbrev pub AreClasses : Type 0
 AreClasses = (pool members others : List Posted) (shared member : Posted) → IsComponent pool members
     → IsComponent pool others → Contains members shared → Contains others shared
     → Contains members member ↔ Contains others member
-
-abbrev pub Remain : Type 0
-Remain = (pool part : List Posted) (member : Posted) → IsByNumber pool → IsPart pool part → Contains part member
-    → IsInRemainder pool member ↔ IsInRemainder part member
-
-abbrev pub AreOfPool : Type 0
-AreOfPool = (pool part members : List Posted) → IsByNumber pool → IsPart pool part → IsComponent part members
-    → IsComponent pool members
 
 -- ---- the statements of a component
 
@@ -47,25 +36,26 @@ pub component_in : (s : State) (posted asked : List Posted) → pool s ≡ poste
     → IsComponent posted asked
 component_in s posted asked is present = subst (λ (xs : List Posted). IsComponent xs asked) is present
 
--- ---- the components of a part
+-- ---- the components by the places at which they begin
 
-module _ (classes : AreClasses) (remain : Remain) (are_of_pool : AreOfPool) (posted : List Posted)
-    (ascends : IsByNumber posted) where
+module _ (classes : AreClasses) (posted : List Posted) where
   -- two components that share a statement
-  same_components : (one other : List Posted) (shared : Posted) → IsComponent posted one → IsComponent posted other
-      → Contains one shared → Contains other shared → one ≡ other
+  pub same_components : (one other : List Posted) (shared : Posted) → IsComponent posted one
+      → IsComponent posted other → Contains one shared → Contains other shared → one ≡ other
   same_components one other shared is is_too there there_too =
       let class = λ (member : Posted). classes posted one other shared member is is_too there there_too in
       same_statements one other is.ascending is_too.ascending (λ member. (class member).0) (λ member. (class member).1)
 
-  pub components_of_part : (part : List Posted) (lists : List (List Posted)) → IsPart posted part
-      → AreComponents part lists → AreComponentsOf posted part lists
-  components_of_part part lists is found =
-      record {
-        exact = λ asked there. are_of_pool posted part asked ascends is (found.exact asked there);
-        covers = λ asked member component there here.
-            let remains = ((component.class member).0 there).0 in
-            let own = found.covers member ((remain posted part member ascends is here).0 remains) in
-            let component_too = are_of_pool posted part own.0 ascends is (found.exact own.0 own.1) in
-            subst (Contains lists) (same_components own.0 asked member component_too component own.2 there) own.1;
-      }
+  pub begins_somewhere : (firsts : List (Option ℕ)) → AreFirstPlaces posted firsts → (asked : List Posted)
+      → IsComponent posted asked
+      → (place : ℕ) × FirstIs firsts place place × (component_at firsts place posted ≡ asked)
+  begins_somewhere firsts are asked component =
+      let first = component.first in
+      let inside = component.in_remainder.is_in.0 in
+      let own = are.covers inside.0 first (inside.1, inside.2) component.in_remainder in
+      let begins = (are.first inside.0 own.0 own.1).1 in (
+        own.0,
+        begins,
+        same_components (component_at firsts own.0 posted) asked first (are.exact own.0 begins) component own.2
+            (has_first posted asked component),
+      )

@@ -1,3 +1,2 @@
 pub mod Component
 pub mod Open
-pub mod Part

@@ -1,6 +1,7 @@
--- Of some lists of statements the first that is neither tried nor out.
-use Rattle.std.specs.Prelude.{◌≡◌, ◌<◌, ◌≤◌, List, Contains, Option, Some, None}
-use Rattle.ent_coordination.specs.Pool.{Posted, first_tx}
+-- The first component that is neither tried nor out, by the places at which components begin.
+use Rattle.std.specs.Prelude.{◌≡◌, ◌≤◌, ℕ, List, Contains, Option}
+use Rattle.ent_coordination.specs.Pool.{Posted}
+use Rattle.ent_match.specs.Components.{FirstIs, component_at}
 use Rattle.ent_protocol.specs.Job.{Job, Joint}
 
 -- a joint job of exactly these statements is one of those lent
@@ -12,17 +13,17 @@ pub record IsOpen (tried : List (List Posted)) (lent : List Job) (asked : List P
   pub untried : Contains tried asked → ⊥
   pub not_out : IsOutAmong lent asked → ⊥
 
--- one of some lists that is open, no open one having a lesser first member
-pub record IsFirstOpen (lists tried : List (List Posted)) (lent : List Job) (asked : List Posted) : Type 0 where
-  pub there : Contains lists asked
-  pub is_open : IsOpen tried lent asked
-  pub least : (others : List Posted) → Contains lists others → IsOpen tried lent others
-      → first_tx asked ≤ first_tx others
+-- a component begins at a place, and is open
+pub record IsOpenAt (posted : List Posted) (firsts : List (Option ℕ)) (tried : List (List Posted)) (lent : List Job)
+    (place : ℕ) : Type 0 where
+  pub begins : FirstIs firsts place place
+  pub is_open : IsOpen tried lent (component_at firsts place posted)
 
-abbrev pub NoneIsOpen : List (List Posted) → List (List Posted) → List Job → Type 0
-NoneIsOpen lists tried lent = (asked : List Posted) → Contains lists asked → IsOpen tried lent asked → ⊥
+abbrev pub NoneIsOpen : List Posted → List (Option ℕ) → List (List Posted) → List Job → Type 0
+NoneIsOpen posted firsts tried lent = (place : ℕ) → IsOpenAt posted firsts tried lent place → ⊥
 
--- its first member is lesser than that of the other, where there is another
-abbrev pub IsBefore : List Posted → Option (List Posted) → Type 0
-IsBefore asked (Some other) = first_tx asked < first_tx other
-IsBefore asked None = Unit {0}
+-- the least such place
+pub record IsFirstOpen (posted : List Posted) (firsts : List (Option ℕ)) (tried : List (List Posted)) (lent : List Job)
+    (place : ℕ) : Type 0 where
+  pub is_open : IsOpenAt posted firsts tried lent place
+  pub least : (other : ℕ) → IsOpenAt posted firsts tried lent other → place ≤ other

@@ -8,7 +8,6 @@
 
 mod fault;
 mod open;
-mod part;
 mod picking;
 mod present;
 mod uses;

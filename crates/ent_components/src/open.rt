@@ -1,89 +1,87 @@
 //! Components that are neither tried nor out.
-ghost use Rattle.std.specs.Prelude.{◌≡◌, ◌↔◌, Contains, IsTrue, MatchOption};
-ghost use Rattle.ent_coordination.specs.Pool.{first_tx};
+ghost use Rattle.std.specs.Prelude.{◌≡◌, ◌↔◌, ◌<◌, Contains, IsTrue, MatchOption, length};
+ghost use Rattle.ent_match.specs.Components.{AreFirstPlaces, component_at};
 ghost use Rattle.ent_protocol.specs.Job.{Joint};
-ghost use Rattle.ent_components.specs.Open.{IsBefore, IsFirstOpen, IsOpen, IsOutAmong, NoneIsOpen};
+ghost use Rattle.ent_components.specs.Open.{IsFirstOpen, IsOpenAt, IsOutAmong, NoneIsOpen};
 
-use ent_group::Tx;
 use ent_job::{Job, Work};
-use ent_match::Posted;
-use ent_tree::are_same;
+use ent_match::{Posted, begins_at, is_component_at};
 use ent_value::Sequence;
 
-/// Whether a list is one of some.
-pub(crate) fn is_among(lists: &[Sequence<Posted>], asked: &[Posted]) -> bool
-    ensures { IsTrue result ↔ Contains lists.now asked.now }
+/// Whether the component that begins at a place is one of some lists.
+fn is_among(
+    lists: &[Sequence<Posted>],
+    members: &[Posted],
+    firsts: &[Option<usize>],
+    place: usize,
+) -> bool
+    requires { AreFirstPlaces members.now firsts.now }
+    ensures { IsTrue result ↔ Contains lists.now (component_at firsts.now place members.now) }
 {
     for other in lists {
-        if are_same(other.as_slice(), asked) {
+        if is_component_at(members, firsts, place, other.as_slice()) {
             return true;
         }
     }
     false
 }
 
-/// Whether a job is one of exactly these statements.
-fn is_job_of(job: &Job, asked: &[Posted]) -> bool
-    ensures { IsTrue result ↔ (job.now.work ≡ Joint asked.now) }
+/// Whether a job is one of exactly the component that begins at a place.
+fn is_job_of(job: &Job, members: &[Posted], firsts: &[Option<usize>], place: usize) -> bool
+    requires { AreFirstPlaces members.now firsts.now }
+    ensures { IsTrue result ↔ (job.now.work ≡ Joint (component_at firsts.now place members.now)) }
 {
     match job.work() {
         Work::One(_) => false,
-        Work::Joint(other) => are_same(other.as_slice(), asked),
+        Work::Joint(other) => is_component_at(members, firsts, place, other.as_slice()),
     }
 }
 
-/// Whether a job of exactly these statements is one of those lent.
-fn is_out(lent: &[Job], asked: &[Posted]) -> bool
-    ensures { IsTrue result ↔ IsOutAmong lent.now asked.now }
+/// Whether a job of exactly the component that begins at a place is one of those lent.
+fn is_out(lent: &[Job], members: &[Posted], firsts: &[Option<usize>], place: usize) -> bool
+    requires { AreFirstPlaces members.now firsts.now }
+    ensures { IsTrue result ↔ IsOutAmong lent.now (component_at firsts.now place members.now) }
 {
     for job in lent {
-        if is_job_of(job, asked) {
+        if is_job_of(job, members, firsts, place) {
             return true;
         }
     }
     false
 }
 
-fn is_open(tried: &[Sequence<Posted>], lent: &[Job], asked: &[Posted]) -> bool
-    ensures { IsTrue result ↔ IsOpen tried.now lent.now asked.now }
-{
-    !is_among(tried, asked) && !is_out(lent, asked)
-}
-
-/// The number of the first of some statements; 0 of none.
-pub(crate) fn first_tx(asked: &[Posted]) -> Tx
-    ensures { result ≡ first_tx asked.now }
-{
-    match asked.first() {
-        Some(query) => query.tx(),
-        None => 0,
-    }
-}
-
-/// Whether some statements go before those that are the first so far.
-fn is_before(asked: &[Posted], first: &Option<Sequence<Posted>>) -> bool
-    ensures { IsTrue result ↔ IsBefore asked.now first.now }
-{
-    match first {
-        Some(other) => first_tx(asked) < first_tx(other.as_slice()),
-        None => true,
-    }
-}
-
-/// Of some lists of statements the one with the least first member that is neither tried nor out.
-pub(crate) fn first_open(
-    lists: Vec<Sequence<Posted>>,
+/// Whether a component begins at a place, and is neither tried nor out.
+fn is_open_at(
+    members: &[Posted],
+    firsts: &[Option<usize>],
     tried: &[Sequence<Posted>],
     lent: &[Job],
-) -> Option<Sequence<Posted>>
-    ensures { MatchOption result (NoneIsOpen lists.items tried.now lent.now)
-        (IsFirstOpen lists.items tried.now lent.now) }
+    place: usize,
+) -> bool
+    requires firsts { AreFirstPlaces members.now firsts.now }
+    requires within { place < length firsts.now }
+    ensures { IsTrue result ↔ IsOpenAt members.now firsts.now tried.now lent.now place }
 {
-    let mut first = None;
-    for asked in lists {
-        if is_before(asked.as_slice(), &first) && is_open(tried, lent, asked.as_slice()) {
-            first = Some(asked);
+    begins_at(firsts[place], place)
+        && !is_among(tried, members, firsts, place)
+        && !is_out(lent, members, firsts, place)
+}
+
+/// The first place at which a component begins that is neither tried nor out.
+pub(crate) fn first_open(
+    members: &[Posted],
+    firsts: &[Option<usize>],
+    tried: &[Sequence<Posted>],
+    lent: &[Job],
+) -> Option<usize>
+    requires { AreFirstPlaces members.now firsts.now }
+    ensures { MatchOption result (NoneIsOpen members.now firsts.now tried.now lent.now)
+        (IsFirstOpen members.now firsts.now tried.now lent.now) }
+{
+    for place in 0..firsts.len() {
+        if is_open_at(members, firsts, tried, lent, place) {
+            return Some(place);
         }
     }
-    first
+    None
 }

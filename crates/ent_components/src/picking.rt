@@ -1,51 +1,21 @@
 //! Which component is picked.
-ghost use Rattle.std.specs.Prelude.{◌≡◌, ◌<◌, IfOk, MatchBool, MatchOption, length};
+ghost use Rattle.std.specs.Prelude.{◌≡◌, IfOk, MatchOption};
 ghost use Rattle.ent_lock.specs.Use.{IsLeast};
 ghost use Rattle.ent_protocol.specs.Member.{pool as pool_of};
 ghost use Rattle.ent_protocol.specs.Quiet.{IsUntried, NoneIs};
 ghost use Rattle.ent_protocol.specs.State.{State};
 ghost use Rattle.ent_components.specs.Component.{IsPick};
-ghost use Rattle.ent_components.specs.Part.{AreBehind, IsEarlier};
 
-use crate::open::{first_open, first_tx};
-use crate::part::take_part;
+use crate::open::first_open;
+use ent_coordination::components_are_classes;
 use ent_group::Tx;
 use ent_job::Job;
-use ent_match::{Pool, Posted};
+use ent_match::{Pool, Posted, component_at};
 use ent_value::Sequence;
 use std::alloc::{AllocError, Global};
 
-/// Whether a component of what is left of a pool may go before the first so far.
-fn may_go_before(rest: &Pool, first: &Option<Sequence<Posted>>) -> bool
-    ensures { MatchBool result (0 < length rest.now) (AreBehind rest.now first.now) }
-{
-    let Some(next) = rest.members().first() else {
-        return false;
-    };
-    match first {
-        Some(asked) => next.tx() < first_tx(asked.as_slice()),
-        None => true,
-    }
-}
-
-/// Of two components that may be there the one with the lesser first member.
-fn earlier(
-    one: Option<Sequence<Posted>>,
-    other: Option<Sequence<Posted>>,
-) -> Option<Sequence<Posted>>
-    ensures { IsEarlier one other result }
-{
-    let Some(one) = one else {
-        return other;
-    };
-    match other {
-        Some(other) if first_tx(other.as_slice()) < first_tx(one.as_slice()) => Some(other),
-        _ => Some(one),
-    }
-}
-
 /// The component that is picked: of those that weren't tried, and no joint job of which is lent, the one with the least
-/// first member; none where there is none. The pool is gone through part by part, and no further than need be.
+/// first member; none where there is none. Only its statements are shared.
 pub fn pick(
     alloc: Global,
     pool: &Pool,
@@ -54,18 +24,16 @@ pub fn pick(
 ) -> Result<Option<Sequence<Posted>>, AllocError>
     ensures { IfOk result (λ picked. IsPick pool.now tried.now lent.now picked) }
 {
-    if pool.members().is_empty() {
-        return Ok(None);
+    components_are_classes();
+    let members = pool.members();
+    let firsts = pool.first_places(alloc)?;
+    match first_open(members, firsts.as_slice(), tried, lent) {
+        Some(place) => {
+            let picked = component_at(alloc, members, firsts.as_slice(), place)?;
+            Ok(Some(picked))
+        }
+        None => Ok(None),
     }
-    let (lists, mut rest) = take_part(alloc, pool, 0)?;
-    let mut first = first_open(lists, tried, lent);
-    'parts: while may_go_before(&rest, &first) {
-        let (lists, others) = take_part(alloc, &rest, 0)?;
-        let found = first_open(lists, tried, lent);
-        first = earlier(first, found);
-        rest = others;
-    }
-    Ok(first)
 }
 
 /// The least first transaction of a component that wasn't tried, where there is one.
@@ -79,9 +47,11 @@ pub fn first_untried(
         → s.tried ≡ tried.now
         → MatchOption first (NoneIs (IsUntried s)) (IsLeast (IsUntried s))) }
 {
-    let first = pick(alloc, pool, tried, &[])?;
-    match first {
-        Some(asked) => Ok(Some(first_tx(asked.as_slice()))),
+    components_are_classes();
+    let members = pool.members();
+    let firsts = pool.first_places(alloc)?;
+    match first_open(members, firsts.as_slice(), tried, &[]) {
+        Some(place) => Ok(Some(members[place].tx())),
         None => Ok(None),
     }
 }

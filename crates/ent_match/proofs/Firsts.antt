@@ -1,11 +1,11 @@
--- The first statement of each class, where classes are looked for from the first place on.
-use Rattle.std.proofs.Common.{◌≡◌, ℕ, zero, suc, ◌<◌, ◌≤◌, Bool, true, false, List, [], ◌∷◌, refl, sym, ap, subst}
+-- The first of marked statements, and joins that lead both ways.
+use Rattle.std.proofs.Common.{◌≡◌, ℕ, zero, suc, ◌<◌, ◌≤◌, Bool, true, false, List, [], ◌∷◌, refl, sym, ap}
 use Rattle.std.proofs.Common.{◌∙◌, arith, length, true≢false}
 use Rattle.std.specs.Prelude.{Contains}
 use Rattle.ent_coordination.specs.Pool.{Posted, first_tx}
 use Rattle.ent_coordination.proofs.Linked.{joined_back}
 use Rattle.ent_match.specs.declared.link.Link.{Link}
-use Rattle.ent_match.specs.Links.{Closed, IsMarked, PathIn}
+use Rattle.ent_match.specs.Links.{Closed, IsMarked}
 use Rattle.ent_match.specs.Remainder.{At}
 use Rattle.ent_match.specs.Components.{AreLinkedBy, flipped, marked_in}
 
@@ -29,7 +29,7 @@ first_is (false ∷ marks) (m ∷ pool) (suc n) a (below, is) marked least =
 -- ---- joins lead both ways
 
 module _ (pool : List Posted) (joins : List Link) (removed : List Bool) (s : AreLinkedBy pool joins removed) where
-  leads_back : (join : Link) → Contains joins join → Contains joins (flipped join)
+  pub leads_back : (join : Link) → Contains joins join → Contains joins (flipped join)
   leads_back join inside =
       let w = s.within join inside in
       let a = some_at pool join.from w.0 in
@@ -45,11 +45,3 @@ module _ (pool : List Posted) (joins : List Link) (removed : List Bool) (s : Are
       let b = some_at pool join.to w.1 in
       let j = s.joined join a.0 b.0 inside a.1 b.1 in
       absurd (true≢false (sym gone ∙ j.1))
-
-  -- a place from which joins lead to a marked one is marked, where they lead from marked ones to marked ones
-  pub marked_before : (marks : List Bool) → Closed joins marks → (n first last : ℕ) → PathIn joins n first last
-      → IsMarked marks last → IsMarked marks first
-  marked_before marks closed zero first last same marked = subst (IsMarked marks) (sym same) marked
-  marked_before marks closed (suc n) first last (join, inside, to, path) marked =
-      marked_before marks closed n first join.from path
-      (closed (flipped join) (leads_back join inside) (subst (IsMarked marks) (sym to) marked))

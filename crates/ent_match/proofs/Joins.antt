@@ -1,146 +1,93 @@
 -- Joins of statements that remain, and the classes to which they lead.
-use Rattle.std.proofs.Common.{◌≡◌, ◌≢◌, ◌⊎◌, ℕ, zero, suc, ◌+◌, ◌<◌, Bool, true, false, List, [], ◌∷◌, ◌++◌}
-use Rattle.std.proofs.Common.{take, set, length, get_or, refl, sym, ◌∙◌, ap, subst, arith, inl, inr, true≢false}
+use Rattle.std.proofs.Common.{◌≡◌, ℕ, zero, suc, ◌<◌, Bool, true, false, List, [], ◌∷◌}
+use Rattle.std.proofs.Common.{length, get_or, refl, sym, ◌∙◌, ap, subst, arith, inl, inr, true≢false}
 use Rattle.std.proofs.Common.{All}
 use Rattle.std.specs.Prelude.{Contains}
-use Rattle.std.proofs.lemmas.Bool.{cases_lt, cases_Bool}
-use Rattle.std.proofs.lemmas.List.{get_or-set_same, get_or-set_other, get_or_default, take_more}
-use Rattle.std.proofs.lemmas.List.Elements.{Contains-push_cases, Contains-push, Contains-append_left}
+use Rattle.std.proofs.lemmas.Bool.{cases_Bool}
+use Rattle.std.proofs.lemmas.List.{get_or_default}
 use Rattle.std.proofs.lemmas.List.Kept.{AllPairs-cons}
 use Rattle.ent_coordination.specs.Component.{IsComponent, IsInRemainder, AreJoined, AreLinked}
 use Rattle.ent_coordination.specs.Component.{AreLinkedIn}
 use Rattle.ent_coordination.specs.Pool.{Posted}
 use Rattle.ent_match.specs.declared.link.Link.{Link}
 use Rattle.ent_match.specs.Fault.{IsByNumber}
-use Rattle.ent_match.specs.Links.{IsMarked, PathIn, Grows, Closed}
+use Rattle.ent_match.specs.Links.{IsMarked, PathIn, Closed}
 use Rattle.ent_match.specs.Remainder.{At}
-use Rattle.ent_match.specs.Components.{flipped, IsKept, AreJoinsOf, marked_in, AreLinkedBy}
+use Rattle.ent_match.specs.Components.{flipped, IsKept, AreJoinsOf, both_ways, joins_of, marked_in, AreLinkedBy}
 use Rattle.ent_match.proofs.Linked.{one_place}
 use Rattle.ent_match.proofs.Placed.{contains_cases, contains_first, contains_later}
-use Rattle.ent_match.proofs.Marks.{front_cases}
 
 -- ---- joins
 
-more_links : (links : List Link) (n : ℕ) (o x : Link) → n < length links → o ≡ get_or links n o
-    → Contains (take n links) x → Contains (take (n + 1) links) x
-more_links links n o x below is inside =
-    subst (λ xs. Contains xs x) (sym (take_more links n o below ∙ ap (λ z. take n links ++ z ∷ []) (sym is)))
-    (Contains-append_left (take n links) (o ∷ []) x inside)
+module _ (links : List Link) (removed : List Bool) (o : Link) (joins : List Link)
+    (are : AreJoinsOf links removed joins) where
+  later : (x : Link) → IsKept links removed x → IsKept (o ∷ links) removed x
+  later x (inside, remains) = (contains_later o links x inside, remains)
 
-last_link : (links : List Link) (n : ℕ) (o : Link) → n < length links → o ≡ get_or links n o
-    → Contains (take (n + 1) links) o
-last_link links n o below is =
-    subst (λ xs. Contains xs o) (sym (take_more links n o below ∙ ap (λ z. take n links ++ z ∷ []) (sym is)))
-    (Contains-push (take n links) o)
-
-module _ (links : List Link) (removed : List Bool) (n : ℕ) (o : Link) (below : n < length links)
-    (is : o ≡ get_or links n o)
-    (joins : List Link) where
-  kept_more : (x : Link) → IsKept (take n links) removed x → IsKept (take (n + 1) links) removed x
-  kept_more x (inside, remains) = (more_links links n o x below is inside, remains)
-
-  pub joins_same : get_or removed o.to false ≡ true → AreJoinsOf (take n links) removed joins
-      → AreJoinsOf (take (n + 1) links) removed joins
-  joins_same gone are =
+  joins_same : get_or removed o.to false ≡ true → AreJoinsOf (o ∷ links) removed joins
+  joins_same gone =
       record {
         sound = λ join inside. elim (are.sound join inside) [
-          | inl kept ↦ inl (kept_more join kept)
-          | inr kept ↦ inr (kept_more (flipped join) kept)
+          | inl kept ↦ inl (later join kept)
+          | inr kept ↦ inr (later (flipped join) kept)
         ];
         there = λ link kept. are.there link (before link kept);
         back = λ link kept. are.back link (before link kept);
       }
     where
-      before : (link : Link) → IsKept (take (n + 1) links) removed link → IsKept (take n links) removed link
+      before : (link : Link) → IsKept (o ∷ links) removed link → IsKept links removed link
       before link (inside, remains) =
-          elim (front_cases links n o link below is inside) [
-            | inl front ↦ (front, remains)
-            | inr last ↦ absurd (true≢false (sym gone ∙ (ap (λ (l : Link). get_or removed l.to false) last ∙ remains)))
+          elim (contains_cases o links link inside) [
+            | inl is ↦ absurd (true≢false (sym gone ∙ (ap (λ (l : Link). get_or removed l.to false) is ∙ remains)))
+            | inr rest ↦ (rest, remains)
           ]
 
-  pub joins_more : (mid new : List Link) → get_or removed o.to false ≡ false → AreJoinsOf (take n links) removed joins
-      → mid ≡ joins ++ o ∷ [] → new ≡ mid ++ flipped o ∷ [] → AreJoinsOf (take (n + 1) links) removed new
-  joins_more mid new remains are first second =
+  joins_more : get_or removed o.to false ≡ false → AreJoinsOf (o ∷ links) removed (o ∷ flipped o ∷ joins)
+  joins_more remains =
       record {
-        sound = λ join inside.
-            elim (Contains-push_cases mid (flipped o) join (subst (λ xs. Contains xs join) second inside)) [
-              | inl in_mid ↦ elim (Contains-push_cases joins o join (subst (λ xs. Contains xs join) first in_mid)) [
-                | inl old ↦ elim (are.sound join old) [
-                  | inl kept ↦ inl (kept_more join kept)
-                  | inr kept ↦ inr (kept_more (flipped join) kept)
-                ]
-                | inr one ↦ inl (subst (IsKept (take (n + 1) links) removed) one
-                    (last_link links n o below is, remains))
-              ]
-              | inr other ↦ inr (subst (λ j. IsKept (take (n + 1) links) removed (flipped j)) other
-                  (last_link links n o below is, remains))
-            ];
-        there = λ link (inside, kept). elim (front_cases links n o link below is inside) [
-          | inl front ↦ old_in link (are.there link (front, kept))
-          | inr last ↦ subst (Contains new) last one_in
+        sound = λ join inside. elim (contains_cases o (flipped o ∷ joins) join inside) [
+          | inl is ↦ inl (subst (IsKept (o ∷ links) removed) is (contains_first o links o refl, remains))
+          | inr rest ↦ elim (contains_cases (flipped o) joins join rest) [
+            | inl is ↦ inr (subst (λ j. IsKept (o ∷ links) removed (flipped j)) is
+                (contains_first o links o refl, remains))
+            | inr old ↦ elim (are.sound join old) [
+              | inl kept ↦ inl (later join kept)
+              | inr kept ↦ inr (later (flipped join) kept)
+            ]
+          ]
         ];
-        back = λ link (inside, kept). elim (front_cases links n o link below is inside) [
-          | inl front ↦ old_in (flipped link) (are.back link (front, kept))
-          | inr last ↦ subst (λ l. Contains new (flipped l)) last other_in
+        there = λ link (inside, kept). elim (contains_cases o links link inside) [
+          | inl is ↦ contains_first o (flipped o ∷ joins) link is
+          | inr rest ↦ behind link (are.there link (rest, kept))
+        ];
+        back = λ link (inside, kept). elim (contains_cases o links link inside) [
+          | inl is ↦ contains_later o (flipped o ∷ joins) (flipped link)
+              (contains_first (flipped o) joins (flipped link) (ap flipped is))
+          | inr rest ↦ behind (flipped link) (are.back link (rest, kept))
         ];
       }
     where
-      old_in : (x : Link) → Contains joins x → Contains new x
-      old_in x inside =
-          subst (λ xs. Contains xs x) (sym second) (Contains-append_left mid (flipped o ∷ []) x
-          (subst (λ xs. Contains xs x) (sym first) (Contains-append_left joins (o ∷ []) x inside)))
+      behind : (x : Link) → Contains joins x → Contains (o ∷ flipped o ∷ joins) x
+      behind x inside = contains_later o (flipped o ∷ joins) x (contains_later (flipped o) joins x inside)
 
-      one_in : Contains new o
-      one_in =
-          subst (λ xs. Contains xs o) (sym second) (Contains-append_left mid (flipped o ∷ []) o
-          (subst (λ xs. Contains xs o) (sym first) (Contains-push joins o)))
-
-      other_in : Contains new (flipped o)
-      other_in = subst (λ xs. Contains xs (flipped o)) (sym second) (Contains-push mid (flipped o))
+pub are_joins : (links : List Link) (removed : List Bool) → AreJoinsOf links removed (joins_of links removed)
+are_joins [] removed =
+    record {
+      sound = λ join inside. let below = inside.1 in absurd (omega arith);
+      there = λ link kept. let below = kept.0.1 in absurd (omega arith);
+      back = λ link kept. let below = kept.0.1 in absurd (omega arith);
+    }
+are_joins (o ∷ links) removed =
+    elim (cases_Bool (get_or removed o.to false)) [
+      | inl gone ↦ subst (AreJoinsOf (o ∷ links) removed)
+          (ap (λ b. both_ways b o (joins_of links removed)) (sym gone))
+          (joins_same links removed o (joins_of links removed) (are_joins links removed) gone)
+      | inr remains ↦ subst (AreJoinsOf (o ∷ links) removed)
+          (ap (λ b. both_ways b o (joins_of links removed)) (sym remains))
+          (joins_more links removed o (joins_of links removed) (are_joins links removed) remains)
+    ]
 
 -- ---- the statements at marked places
-
-pub class_more : (marks : List Bool) (pool : List Posted) (i : ℕ) (o : Posted) → length marks ≡ length pool
-    → i < length pool
-    → o ≡ get_or pool i o → get_or marks i false ≡ true
-    → marked_in (take (i + 1) marks) (take (i + 1) pool) ≡ marked_in (take i marks) (take i pool) ++ o ∷ []
-class_more marks pool i o room below is marked =
-    ap (λ n. marked_in (take n marks) (take n pool)) one ∙ more marks pool i o room below is marked
-  where
-    one : i + 1 ≡ suc i
-    one = omega arith
-
-    more : (marks : List Bool) (pool : List Posted) (i : ℕ) (o : Posted) → length marks ≡ length pool → i < length pool
-        → o ≡ get_or pool i o → get_or marks i false ≡ true
-        → marked_in (take (suc i) marks) (take (suc i) pool) ≡ marked_in (take i marks) (take i pool) ++ o ∷ []
-    more [] [] i o room below is marked = absurd (omega arith)
-    more [] (m ∷ pool) i o room below is marked = absurd (omega arith)
-    more (b ∷ marks) [] i o room below is marked = absurd (omega arith)
-    more (true ∷ marks) (m ∷ pool) zero o room below is marked = ap (λ z. z ∷ []) (sym is)
-    more (false ∷ marks) (m ∷ pool) zero o room below is marked = absurd (true≢false (sym marked))
-    more (true ∷ marks) (m ∷ pool) (suc i) o room below is marked =
-        ap (λ zs. m ∷ zs) (more marks pool i o (omega arith) (omega arith) is marked)
-    more (false ∷ marks) (m ∷ pool) (suc i) o room below is marked =
-        more marks pool i o (omega arith) (omega arith) is marked
-
-pub class_same : (marks : List Bool) (pool : List Posted) (i : ℕ) → get_or marks i false ≡ false
-    → marked_in (take (i + 1) marks) (take (i + 1) pool) ≡ marked_in (take i marks) (take i pool)
-class_same marks pool i unmarked = ap (λ n. marked_in (take n marks) (take n pool)) one ∙ same marks pool i unmarked
-  where
-    one : i + 1 ≡ suc i
-    one = omega arith
-
-    same : (marks : List Bool) (pool : List Posted) (i : ℕ) → get_or marks i false ≡ false
-        → marked_in (take (suc i) marks) (take (suc i) pool) ≡ marked_in (take i marks) (take i pool)
-    same [] pool zero unmarked = refl
-    same [] pool (suc i) unmarked = refl
-    same (true ∷ marks) [] zero unmarked = refl
-    same (false ∷ marks) [] zero unmarked = refl
-    same (b ∷ marks) [] (suc i) unmarked = refl
-    same (true ∷ marks) (m ∷ pool) zero unmarked = absurd (true≢false unmarked)
-    same (false ∷ marks) (m ∷ pool) zero unmarked = refl
-    same (true ∷ marks) (m ∷ pool) (suc i) unmarked = ap (λ zs. m ∷ zs) (same marks pool i unmarked)
-    same (false ∷ marks) (m ∷ pool) (suc i) unmarked = same marks pool i unmarked
 
 -- the places of the class
 pub marked_at : (marks : List Bool) (pool : List Posted) (x : Posted) → Contains (marked_in marks pool) x
@@ -185,64 +132,6 @@ marked_ordered (true ∷ marks) (m ∷ pool) ordered =
     (marked_ordered marks pool (λ i j d less within. ordered (suc i) (suc j) d (omega arith) (omega arith)))
 marked_ordered (false ∷ marks) (m ∷ pool) ordered =
     marked_ordered marks pool (λ i j d less within. ordered (suc i) (suc j) d (omega arith) (omega arith))
-
--- ---- marks that begin at one place
-
-pub one_place_marked : (n : ℕ) (marks : List Bool) (place : ℕ) → ((k : ℕ) → IsMarked marks k → ⊥) → (k : ℕ)
-    → IsMarked (set marks place true) k → place ≡ k
-one_place_marked n marks place none k marked =
-    elim (cases_lt place k) [
-      | inl less ↦ absurd (none k (sym (get_or-set_other marks place k true false (λ e. omega arith)) ∙ marked))
-      | inr not_less ↦ elim (cases_lt k place) [
-        | inl more ↦ absurd (none k (sym (get_or-set_other marks place k true false (λ e. omega arith)) ∙ marked))
-        | inr not_more ↦ (let e : place ≡ k = omega arith in e)
-      ]
-    ]
-
-pub from_one : (joins : List Link) (marks new : List Bool) (place : ℕ) → ((k : ℕ) → IsMarked marks k → ⊥)
-    → Grows joins (set marks place true) new → (last : ℕ) → IsMarked new last → (n : ℕ) × PathIn joins n place last
-from_one joins marks new place none grows last marked =
-    let r = grows.reached last marked in
-    let same = one_place_marked 0 marks place none r.first r.marked in
-    (r.steps, subst (λ k. PathIn joins r.steps k last) (sym same) r.path)
-
--- ---- what is seen
-
-pub seen_more : (old cur marks : List Bool) (i : ℕ) → i < length cur → IsMarked marks i
-    → ((k : ℕ) → IsMarked cur k → IsMarked old k ⊎ IsMarked marks k) → ((k : ℕ) → IsMarked old k → IsMarked cur k)
-    → ((k : ℕ) → k < i → IsMarked marks k → IsMarked cur k)
-    → ((k : ℕ) → IsMarked (set cur i true) k → IsMarked old k ⊎ IsMarked marks k)
-    × ((k : ℕ) → IsMarked old k → IsMarked (set cur i true) k)
-    × ((k : ℕ) → k < i + 1 → IsMarked marks k → IsMarked (set cur i true) k)
-seen_more old cur marks i within here seen kept added = (
-  (λ k marked. elim (cases k) [
-    | inl same ↦ inr (subst (IsMarked marks) same here)
-    | inr other ↦ seen k (sym (get_or-set_other cur i k true false other) ∙ marked)
-  ]),
-  (λ k marked. still k (kept k marked)),
-  (λ k less marked. elim (cases k) [
-    | inl same ↦ subst (IsMarked (set cur i true)) same (get_or-set_same cur i true false within)
-    | inr other ↦ get_or-set_other cur i k true false other ∙ added k (omega arith) marked
-  ]),
-)
-  where
-    cases : (k : ℕ) → (i ≡ k) ⊎ (k ≢ i)
-    cases k =
-        elim (cases_lt i k) [
-          | inl less ↦ inr (λ e. omega arith)
-          | inr not_less ↦ elim (cases_lt k i) [
-            | inl more ↦ inr (λ e. omega arith)
-            | inr not_more ↦
-                inl (omega arith)
-          ]
-        ]
-
-    still : (k : ℕ) → IsMarked cur k → IsMarked (set cur i true) k
-    still k marked =
-        elim (cases k) [
-          | inl same ↦ subst (IsMarked (set cur i true)) same (get_or-set_same cur i true false within)
-          | inr other ↦ get_or-set_other cur i k true false other ∙ marked
-        ]
 
 -- ---- a class is a component
 
@@ -312,13 +201,3 @@ module _ (pool : List Posted) (joins : List Link) (removed : List Bool) (s : Are
         );
         ascending = marked_ordered marks pool s.by_number;
       }
-
-pub unseen_more : (cur marks : List Bool) (i : ℕ) → get_or marks i false ≡ false
-    → ((k : ℕ) → k < i → IsMarked marks k → IsMarked cur k) → (k : ℕ) → k < i + 1 → IsMarked marks k → IsMarked cur k
-unseen_more cur marks i unmarked added k less marked =
-    elim (cases_lt k i) [
-      | inl before ↦ added k before marked
-      | inr not_before ↦
-          let same : i ≡ k = omega arith in
-          absurd (true≢false (sym marked ∙ (ap (λ n. get_or marks n false) (sym same) ∙ unmarked)))
-    ]

@@ -6,11 +6,13 @@ pub mod Linked
 pub mod Joins
 pub mod Firsts
 pub mod Listing
+pub mod Labelled
+pub mod Rests
+pub mod Searched
+pub mod Beginning
 pub mod Alike
 pub mod Parts
-pub mod Marked
 pub mod Owners
 pub mod Offered
-pub mod Partners
 pub mod Refused
 pub mod Signatures

@@ -1,183 +1,24 @@
--- The list of classes, and what a pool's links say of its remainder.
-use Rattle.std.proofs.Common.{◌≡◌, ℕ, zero, suc, ◌+◌, ◌<◌, ◌≤◌, Bool, true, false, not, cond, List, [], ◌∷◌}
-use Rattle.std.proofs.Common.{◌++◌}
-use Rattle.std.proofs.Common.{length, get_or, refl, sym, ◌∙◌, ap, subst, arith, inl, inr, true≢false}
+-- What a pool's links say of its remainder.
+use Rattle.std.proofs.Common.{◌≡◌, ℕ, zero, suc, ◌<◌, Bool, true, false, not, cond, List, [], ◌∷◌}
+use Rattle.std.proofs.Common.{length, get_or, sym, ◌∙◌, ap, subst, arith, inl, inr, true≢false}
 use Rattle.std.specs.Prelude.{Contains, ◌==◌, if◌then◌else◌}
 use Rattle.std.proofs.lemmas.Bool.{cases_lt, cases_Bool, eq-eqb, eqb-true}
-use Rattle.std.proofs.lemmas.List.Elements.{Contains-push_cases, Contains-push, Contains-append_left, Contains-get_or}
-use Rattle.std.proofs.lemmas.List.Quantifiers.{all_pairs_push}
 use Rattle.std.proofs.lemmas.Option.{slice_get_within}
 use Rattle.ent_lists.specs.Elements.{turned}
-use Rattle.ent_coordination.specs.Component.{IsComponent, IsInRemainder, IsSupported}
+use Rattle.ent_coordination.specs.Component.{IsInRemainder, IsSupported}
 use Rattle.ent_coordination.specs.Component.{SetOfTransactions}
-use Rattle.ent_coordination.specs.Pool.{Posted, CanMeet, IsSafe, first_tx}
+use Rattle.ent_coordination.specs.Pool.{Posted, CanMeet, IsSafe}
 use Rattle.ent_match.specs.declared.link.Link.{Link}
 use Rattle.ent_match.specs.Fault.{IsByNumber}
-use Rattle.ent_match.specs.Links.{Closed, IsMarked, PathIn, Closes}
+use Rattle.ent_match.specs.Links.{IsMarked, PathIn, Closes}
 use Rattle.ent_match.specs.Remainder.{At, HasLinks, IsAsked, IsStart}
-use Rattle.ent_match.specs.Components.{flipped, AreJoinsOf, marked_in, IsClassAt, AreLinkedBy, AreComponents}
-use Rattle.ent_match.specs.Components.{AscendByFirst}
-use Rattle.ent_match.proofs.Numbered.{at_place, same_member}
-use Rattle.ent_match.proofs.Firsts.{first_is, marked_before, removed_closed}
+use Rattle.ent_match.specs.Components.{flipped, AreJoinsOf, AreLinkedBy}
+use Rattle.ent_match.proofs.Numbered.{same_member}
 use Rattle.ent_match.proofs.Linked.{one_place}
-use Rattle.ent_match.proofs.Joins.{class_component, at_marked}
-
--- ---- the list of classes
-
--- what is listed of the statements so far
-pub record AreListed (pool : List Posted) (joins : List Link) (removed seen : List Bool) (n : ℕ)
-    (lists : List (List Posted)) : Type 0 where
-  pub room : length seen ≡ length removed
-  pub so_far : (p : ℕ) → p < n → IsMarked seen p
-  pub removed_seen : (p : ℕ) → IsMarked removed p → IsMarked seen p
-  pub closed : Closed joins seen
-  pub exact : (list : List Posted) → Contains lists list → IsComponent pool list
-  pub covers : (p : ℕ) (member : Posted) → At pool p member → IsMarked seen p → get_or removed p false ≡ false
-      → (list : List Posted) × Contains lists list × Contains list member
-  pub begins : (list : List Posted) → Contains lists list
-      → (p : ℕ) × (first : Posted) × (p < n) × At pool p first × (first_tx list ≡ first.tx)
-  pub ascending : AscendByFirst lists
-
-pub none_listed : (pool : List Posted) (joins : List Link) (removed : List Bool) → AreLinkedBy pool joins removed
-    → AreListed pool joins removed removed 0 []
-none_listed pool joins removed s =
-    record {
-      room = refl;
-      so_far = λ p less. absurd (omega arith);
-      removed_seen = λ p marked. marked;
-      closed = removed_closed pool joins removed s;
-      exact = λ list (k, below, is). absurd (omega arith);
-      covers = λ p member at marked remains. absurd (true≢false (sym marked ∙ remains));
-      begins = λ list (k, below, is). absurd (omega arith);
-      ascending = λ i j d less below. absurd (omega arith);
-    }
-
-pub listed_same : (pool : List Posted) (joins : List Link) (removed seen : List Bool) (n : ℕ)
-    (lists : List (List Posted)) → IsMarked seen n → AreListed pool joins removed seen n lists
-    → AreListed pool joins removed seen (n + 1) lists
-listed_same pool joins removed seen n lists here are =
-    record {
-      room = are.room;
-      so_far = λ p less. elim (cases_lt p n) [
-        | inl before ↦ are.so_far p before
-        | inr not_before ↦ (let same : n ≡ p = omega arith in subst (IsMarked seen) same here)
-      ];
-      removed_seen = are.removed_seen;
-      closed = are.closed;
-      exact = are.exact;
-      covers = are.covers;
-      begins = λ list inside.
-          let b = are.begins list inside in
-          let less : b.0 < n = b.2 in
-          (b.0, b.1, omega arith, b.3, b.4);
-      ascending = are.ascending;
-    }
 
 not_marked : (marks : List Bool) (k : ℕ) → (IsMarked marks k → ⊥) → get_or marks k false ≡ false
 not_marked marks k h =
     elim (cases_Bool (get_or marks k false)) [ inl marked ↦ absurd (h marked) | inr unmarked ↦ unmarked ]
-
-module _ (pool : List Posted) (joins : List Link) (removed seen new : List Bool) (n : ℕ) (a : Posted)
-    (lists fresh : List (List Posted)) (class : List Posted) (s : AreLinkedBy pool joins removed) (at : At pool n a)
-    (unseen : get_or seen n false ≡ false) (is_class : IsClassAt pool joins n seen new class)
-    (pushed : fresh ≡ lists ++ class ∷ []) (are : AreListed pool joins removed seen n lists) where
-  here_remains : get_or removed n false ≡ false
-  here_remains = not_marked removed n (λ gone. true≢false (sym (are.removed_seen n gone) ∙ unseen))
-
-  component : IsComponent pool (marked_in is_class.marks pool)
-  component = class_component pool joins removed s n a is_class.marks at here_remains is_class.here
-      is_class.reached is_class.closed
-
-  -- a class has no place before that from which it is found: it would have been found from there
-  none_before : (p : ℕ) → IsMarked is_class.marks p → n ≤ p
-  none_before p marked =
-      elim (cases_lt p n) [
-        | inl before ↦
-            let way = is_class.reached p marked in
-            absurd (true≢false (sym (marked_before pool joins removed s seen are.closed way.0 n p way.1
-            (are.so_far p before)) ∙ unseen))
-        | inr not_before ↦ omega arith
-      ]
-
-  class_begins : first_tx class ≡ a.tx
-  class_begins = ap first_tx is_class.class_is ∙ first_is is_class.marks pool n a at is_class.here none_before
-
-  begins_before : (list : List Posted) → Contains lists list → first_tx list < first_tx class
-  begins_before list inside =
-      let b = are.begins list inside in
-      let p : At pool b.0 b.1 = b.3 in
-      let less : (get_or pool b.0 a).tx < (get_or pool n a).tx = s.by_number b.0 n a b.2 at.0 in
-      let first : get_or pool b.0 a ≡ b.1 = at_place pool b.1 b.0 a p.0 p.1 in
-      let one : b.1.tx < a.tx =
-      subst (λ (z : Posted). b.1.tx < z.tx) at.1
-      (subst (λ (z : Posted). z.tx < (get_or pool n a).tx) first less) in
-      let e : first_tx list ≡ b.1.tx = b.4 in
-      let f : first_tx class ≡ a.tx = class_begins in
-      omega arith
-
-  within_new : (p : ℕ) → p < length pool → p < length seen
-  within_new p below = let r = s.room in let q = are.room in omega arith
-
-  still_closed : Closed joins new
-  still_closed join inside from =
-      elim (is_class.seen join.from from) [
-        | inl old ↦ is_class.kept join.to (are.closed join inside old)
-        | inr reached ↦ is_class.added join.to (within_new join.to (s.within join inside).1)
-            (is_class.closed join inside reached)
-      ]
-
-  pub listed_more : AreListed pool joins removed new (n + 1) fresh
-  listed_more = record {
-    room = is_class.room ∙ are.room;
-    so_far = λ p less. elim (cases_lt p n) [
-      | inl before ↦ is_class.kept p (are.so_far p before)
-      | inr not_before ↦
-          let same : n ≡ p = omega arith in
-          subst (IsMarked new) same (is_class.added n (within_new n at.0) is_class.here)
-    ];
-    removed_seen = λ p marked. is_class.kept p (are.removed_seen p marked);
-    closed = still_closed;
-    exact = λ list inside.
-        elim (Contains-push_cases lists class list (subst (λ xs. Contains xs list) pushed inside)) [
-          | inl old ↦ are.exact list old
-          | inr last ↦ subst (IsComponent pool) (sym is_class.class_is ∙ last) component
-        ];
-    covers = λ p member at_p marked remains. elim (is_class.seen p marked) [
-      | inl old ↦
-          let r = are.covers p member at_p old remains in
-          (r.0, subst (λ xs. Contains xs r.0) (sym pushed) (Contains-append_left lists (class ∷ []) r.0 r.1), r.2)
-      | inr reached ↦ (
-        class,
-        subst (λ xs. Contains {X = List Posted} xs class) (sym pushed) (Contains-push lists class),
-        subst (λ xs. Contains xs member) (sym is_class.class_is)
-            (at_marked is_class.marks pool member p at_p reached),
-      )
-    ];
-    begins = λ list inside.
-        elim (Contains-push_cases lists class list (subst (λ xs. Contains xs list) pushed inside)) [
-          | inl old ↦
-              let b = are.begins list old in
-              let less : b.0 < n = b.2 in
-              (b.0, b.1, omega arith, b.3, b.4)
-          | inr last ↦ (n, a, omega arith, at, ap first_tx (sym last) ∙ class_begins)
-        ];
-    ascending = subst AscendByFirst (sym pushed)
-        (all_pairs_push (λ (one other : List Posted). first_tx one < first_tx other) lists class are.ascending
-        (λ k d below. begins_before (get_or lists k d) (Contains-get_or lists k d below)));
-  }
-
-pub all_listed : (pool : List Posted) (joins : List Link) (removed seen : List Bool) (n : ℕ)
-    (lists : List (List Posted)) → AreLinkedBy pool joins removed → length pool ≤ n
-    → AreListed pool joins removed seen n lists → AreComponents pool lists
-all_listed pool joins removed seen n lists s all are =
-    record {
-      exact = are.exact;
-      covers = λ member remains.
-          let inside = remains.is_in.0 in
-          let at : At pool inside.0 member = (inside.1, inside.2) in
-          are.covers inside.0 member at (are.so_far inside.0 (let b = inside.1 in omega arith))
-          (not_marked removed inside.0 (λ gone. s.gone inside.0 member at gone remains));
-    }
 
 -- ---- the remainder
 

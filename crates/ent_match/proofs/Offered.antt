@@ -1,10 +1,9 @@
 -- Offers that are put down, and the offers of a pool.
-use Rattle.std.proofs.Common.{◌≡◌, ◌≢◌, ◌⊎◌, ◌∙◌, ℕ, ◌+◌, ◌<◌, ◌≤◌, Bool, true, false, not, List, [], ◌∷◌, ◌++◌}
-use Rattle.std.proofs.Common.{filter, take, length, get_or, refl, sym, ap, subst, arith, inl, inr, true≢false}
+use Rattle.std.proofs.Common.{◌≡◌, ◌≢◌, ◌⊎◌, ◌∙◌, ℕ, ◌+◌, ◌<◌, ◌≤◌, Bool, true, not, List, [], ◌∷◌, ◌++◌}
+use Rattle.std.proofs.Common.{filter, take, length, get_or, refl, sym, ap, subst, arith, inl, inr}
 use Rattle.std.proofs.Common.{Option, Some, None}
-use Rattle.std.specs.Prelude.{◌==◌, Contains, MatchOption, is_some}
+use Rattle.std.specs.Prelude.{◌==◌, Contains, MatchOption}
 use Rattle.std.proofs.lemmas.Bool.{cases_Bool, cases_lt}
-use Rattle.std.proofs.lemmas.List.{take_more, take_all}
 use Rattle.std.proofs.lemmas.List.Elements.{Contains-push_cases, Contains-push, Contains-append_left, Contains-get_or}
 use Rattle.std.proofs.lemmas.Option.{slice_get_within}
 use Rattle.ent_lists.specs.Elements.{clash, turned, or_first, or_second, or_cases, not_so, same_number, number_itself}
@@ -12,13 +11,11 @@ use Rattle.ent_lists.specs.Elements.{other_number, differ, of_filter, to_filter,
 use Rattle.ent_coordination.specs.Pool.{Posted, CanMeet, IsSafe}
 use Rattle.ent_match.specs.declared.offers.Offer.{Offer}
 use Rattle.ent_match.specs.Fault.{HasNoOwner, IsByNumber, IsSafeBut}
-use Rattle.ent_match.specs.Offers.{AreOffers, AreOffersBut, AreThoseWithin, GrowBy, IsBetween, IsContested, IsMetBy}
-use Rattle.ent_match.specs.Offers.{IsOfPair, IsOffered, is_of, is_of_others}
-use Rattle.ent_match.specs.Parts.{IsPart}
-use Rattle.ent_match.specs.Place.{HasNoneOf, HasOneOf, IsPlaceOf}
+use Rattle.ent_match.specs.Offers.{AreOffers, AreOffersBut, GrowBy, IsBetween, IsContested, IsMetBy}
+use Rattle.ent_match.specs.Offers.{IsOfPair, IsOffered, NoneIsFor, is_of, is_of_others}
+use Rattle.ent_match.specs.Place.{HasNoneOf, IsPlaceOf}
 use Rattle.ent_match.specs.Posting.{Adds, HasNone, is_of_other}
 use Rattle.ent_match.specs.Remainder.{IsOwnerAt}
-use Rattle.ent_match.proofs.Firsts.{some_at}
 use Rattle.ent_match.proofs.Marks.{same_or_not}
 use Rattle.ent_match.proofs.Numbered.{front_cases, front_all, same_member}
 
@@ -379,105 +376,6 @@ left_over pool tx offers are offer = (
     stays member inside other =
         into_filter (is_of_other tx) pool member inside (ap not (other_number member.tx tx other))
 
--- ---- a part of a pool
-
-pub part_offers : (pool part : List Posted) → IsByNumber pool → IsPart pool part → (offers kept : List Offer)
-    → AreOffers pool offers → AreThoseWithin part offers kept → AreOffers part kept
-part_offers pool part ordered is offers kept are those offer = (
-  (λ inside.
-      let both = (those offer).0 inside in
-      let h = (are offer).0 both.0 in
-      let own = both.1 in
-      let same = same_member pool ordered own.0 h.asker (is.within own.0 own.1) h.asks (own.2 ∙ sym h.asker_is) in
-      let asks : Contains part h.asker = subst (Contains part) same own.1 in
-      record {
-        asker = h.asker;
-        asks = asks;
-        asker_is = h.asker_is;
-        partner = h.partner;
-        offers = is.joined h.asker h.partner asks h.offers (offer.index, inl h.meets);
-        partner_is = h.partner_is;
-        meets = h.meets;
-      }),
-  (λ h.
-      let whole : IsOffered pool offer = record {
-        asker = h.asker;
-        asks = is.within h.asker h.asks;
-        asker_is = h.asker_is;
-        partner = h.partner;
-        offers = is.within h.partner h.offers;
-        partner_is = h.partner_is;
-        meets = h.meets;
-      } in
-      (those offer).1 ((are offer).1 whole, (h.asker, h.asks, h.asker_is))),
-)
-
--- ---- offer by offer
-
-front_offers : (offers : List Offer) (n : ℕ) (o x : Offer) → n < length offers → o ≡ get_or offers n o
-    → Contains (take (n + 1) offers) x → Contains (take n offers) x ⊎ (o ≡ x)
-front_offers offers n o x below is inside =
-    Contains-push_cases (take n offers) o x
-    (subst (λ xs. Contains xs x) (take_more offers n o below ∙ ap (λ z. take n offers ++ z ∷ []) (sym is)) inside)
-
-more_offers : (offers : List Offer) (n : ℕ) (o x : Offer) → n < length offers → o ≡ get_or offers n o
-    → Contains (take n offers) x → Contains (take (n + 1) offers) x
-more_offers offers n o x below is inside =
-    subst (λ xs. Contains xs x) (sym (take_more offers n o below ∙ ap (λ z. take n offers ++ z ∷ []) (sym is)))
-    (Contains-append_left (take n offers) (o ∷ []) x inside)
-
-last_offer : (offers : List Offer) (n : ℕ) (o : Offer) → n < length offers → o ≡ get_or offers n o
-    → Contains (take (n + 1) offers) o
-last_offer offers n o below is =
-    subst (λ xs. Contains xs o) (sym (take_more offers n o below ∙ ap (λ z. take n offers ++ z ∷ []) (sym is)))
-    (Contains-push (take n offers) o)
-
-pub within_more : (part : List Posted) (offers old new : List Offer) (n : ℕ) (o : Offer) → n < length offers
-    → o ≡ get_or offers n o → HasOneOf part o.asker → new ≡ old ++ o ∷ [] → AreThoseWithin part (take n offers) old
-    → AreThoseWithin part (take (n + 1) offers) new
-within_more part offers old new n o below is own pushed before offer = (
-  (λ inside. elim (Contains-push_cases old o offer (subst (λ xs. Contains xs offer) pushed inside)) [
-    | inl earlier ↦ (let both = (before offer).0 earlier in (more_offers offers n o offer below is both.0, both.1))
-    | inr last ↦ subst (λ x. Contains (take (n + 1) offers) x × HasOneOf part x.asker) last
-        (last_offer offers n o below is, own)
-  ]),
-  (λ both. elim (front_offers offers n o offer below is both.0) [
-    | inl front ↦ subst (λ xs. Contains xs offer) (sym pushed)
-        (Contains-append_left old (o ∷ []) offer ((before offer).1 (front, both.1)))
-    | inr last ↦ subst (λ x. Contains new x) last (subst (λ xs. Contains xs o) (sym pushed) (Contains-push old o))
-  ]),
-)
-
-pub within_same : (part : List Posted) (offers old : List Offer) (n : ℕ) (o : Offer) → n < length offers
-    → o ≡ get_or offers n o → HasNoneOf part o.asker → AreThoseWithin part (take n offers) old
-    → AreThoseWithin part (take (n + 1) offers) old
-within_same part offers old n o below is none before offer = (
-  (λ inside. let both = (before offer).0 inside in (more_offers offers n o offer below is both.0, both.1)),
-  (λ both. elim (front_offers offers n o offer below is both.0) [
-    | inl front ↦ (before offer).1 (front, both.1)
-    | inr last ↦
-        let own = both.1 in
-        absurd (none own.0 own.1 (own.2 ∙ sym (ap (λ (x : Offer). x.asker) last)))
-  ]),
-)
-
-pub within_all : (part : List Posted) (offers kept : List Offer) (n : ℕ) → length offers ≤ n
-    → AreThoseWithin part (take n offers) kept → AreThoseWithin part offers kept
-within_all part offers kept n all are = subst (λ xs. AreThoseWithin part xs kept) (take_all n offers all) are
-
--- a place holds a statement of its transaction
-pub one_of : (part : List Posted) (tx : ℕ) (r : Option ℕ) → is_some r ≡ true
-    → MatchOption r (HasNoneOf part tx) (IsPlaceOf part tx) → HasOneOf part tx
-one_of part tx None is found = absurd (true≢false (sym is))
-one_of part tx (Some place) is found =
-    let some = some_at part place found.0 in
-    (some.0, (place, some.1.0, some.1.1), subst (λ (z : Posted). z.tx ≡ tx) some.1.1 (found.1 some.0))
-
-pub none_of : (part : List Posted) (tx : ℕ) (r : Option ℕ) → is_some r ≡ false
-    → MatchOption r (HasNoneOf part tx) (IsPlaceOf part tx) → HasNoneOf part tx
-none_of part tx None is found = found
-none_of part tx (Some place) is found = absurd (true≢false is)
-
 -- ---- the owner of a head
 
 pub owner_at : (pool : List Posted) (offers : List Offer) (asker : Posted) (index : ℕ) → IsByNumber pool
@@ -498,11 +396,9 @@ owner_at pool offers asker index ordered are asks o inside is_asker is_index (So
       meets = subst (λ i. CanMeet asker i h.partner) is_index (subst (λ z. CanMeet z o.index h.partner) own h.meets);
     }
 
-pub no_owner : (pool : List Posted) (offers : List Offer) (asker : Posted) (index n : ℕ) → AreOffers pool offers
-    → Contains pool asker → length offers ≤ n
-    → ((k : ℕ) (d : Offer) → k < n → (get_or offers k d).asker ≡ asker.tx → (get_or offers k d).index ≡ index → ⊥)
-    → HasNoOwner pool asker index
-no_owner pool offers asker index n are asks all none owner inside meets =
+pub no_owner : (pool : List Posted) (offers : List Offer) (asker : Posted) (index : ℕ) → AreOffers pool offers
+    → Contains pool asker → NoneIsFor offers asker.tx index 0 (length offers) → HasNoOwner pool asker index
+no_owner pool offers asker index are asks none owner inside meets =
     let made = offer_of asker.tx index owner.tx in
     let listed : Contains offers made = (are made).1 (record {
       asker = asker;
@@ -513,5 +409,5 @@ no_owner pool offers asker index n are asks all none owner inside meets =
       partner_is = refl;
       meets = meets;
     }) in
-    none listed.0 made (let below = listed.1 in omega arith) (ap (λ (x : Offer). x.asker) listed.2)
-    (ap (λ (x : Offer). x.index) listed.2)
+    none listed.0 made (omega arith) listed.1
+    (ap (λ (x : Offer). x.asker) listed.2, ap (λ (x : Offer). x.index) listed.2)

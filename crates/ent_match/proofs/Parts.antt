@@ -7,17 +7,13 @@ use Rattle.std.proofs.lemmas.Bool.Decides.{Decides-and, Decides-by_or, Decides-e
 use Rattle.std.proofs.lemmas.List.{get_or_default}
 use Rattle.ent_coordination.specs.Component.{IsComponent, IsIn, IsInRemainder}
 use Rattle.ent_coordination.specs.Component.{AreLinkedIn, SetOfTransactions}
-use Rattle.ent_coordination.specs.Pool.{Posted, IsSafe}
+use Rattle.ent_coordination.specs.Pool.{Posted}
 use Rattle.ent_coordination.proofs.Linked.{joined_back}
 use Rattle.ent_match.specs.Fault.{IsByNumber}
 use Rattle.ent_match.specs.Parts.{IsPart}
 use Rattle.ent_match.proofs.Numbered.{same_member}
 
 -- ---- parts
-
-pub safe_part : (pool part : List Posted) → IsPart pool part → IsSafe pool → IsSafe part
-safe_part pool part is safe = λ asker first second index asks one two.
-    safe asker first second index (is.within asker asks) (is.within first one) (is.within second two)
 
 pub part_of_part : (pool rest part : List Posted) → IsPart pool rest → IsPart rest part → IsPart pool part
 part_of_part pool rest part one other =

@@ -3,6 +3,7 @@ pub mod Place
 pub mod Offers
 pub mod Posting
 pub mod Links
+pub mod Labels
 pub mod Remainder
 pub mod Components
 pub mod Same

@@ -1,8 +1,8 @@
 -- Which statements of a pool have heads for which posts.
-use Rattle.std.specs.Prelude.{◌≡◌, ◌≢◌, ◌⊎◌, ◌↔◌, ◌==◌, ◌||◌, ℕ, Bool, true, not, List, Contains}
+use Rattle.std.specs.Prelude.{◌≡◌, ◌≢◌, ◌<◌, ◌≤◌, ◌⊎◌, ◌↔◌, ◌==◌, ◌||◌, ℕ, Bool, true, not, List, length, Contains}
+use Rattle.std.specs.Prelude.{slice_index_or}
 use Rattle.ent_coordination.specs.Pool.{Posted, CanMeet, HasHeadFor, IsSafe}
 use Rattle.ent_match.specs.Fault.{IsByNumber}
-use Rattle.ent_match.specs.Place.{HasOneOf}
 use Rattle.ent_match.specs.declared.offers.Offer.{Offer}
 
 -- a statement of the pool has a head for the post of an offer, as it says
@@ -63,12 +63,16 @@ pub record IsContested (offers : List Offer) (tx : ℕ) : Type 0 where
   pub is_own : is_of tx offer ≡ true
   pub rival : HasRival offers offer
 
--- a transaction that an offer connects with another
-abbrev pub IsPartner : Offer → ℕ → ℕ → Type 0
-IsPartner offer tx other =
-    ((offer.asker ≡ tx) × (offer.owner ≡ other)) ⊎ ((offer.owner ≡ tx) × (offer.asker ≡ other))
+-- an offer is for a post of a transaction
+abbrev pub IsFor : ℕ → ℕ → Offer → Type 0
+IsFor asker index offer = (offer.asker ≡ asker) × (offer.index ≡ index)
 
--- exactly the offers to statements of a part are listed
-abbrev pub AreThoseWithin : List Posted → List Offer → List Offer → Type 0
-AreThoseWithin part offers kept =
-    (offer : Offer) → Contains kept offer ↔ (Contains offers offer × HasOneOf part offer.asker)
+-- an offer for a post stands at a place
+abbrev pub IsForAt : List Offer → ℕ → ℕ → ℕ → Type 0
+IsForAt offers asker index place =
+    (place < length offers) × ((d : Offer) → IsFor asker index (slice_index_or offers place d))
+
+-- no offer from one place on and before another is for a post
+abbrev pub NoneIsFor : List Offer → ℕ → ℕ → ℕ → ℕ → Type 0
+NoneIsFor offers asker index from end =
+    (place : ℕ) (d : Offer) → from ≤ place → place < end → IsFor asker index (slice_index_or offers place d) → ⊥

@@ -6,10 +6,6 @@ use Rattle.ent_coordination.specs.Pool.{Posted}
 abbrev pub HasNoneOf : List Posted → ℕ → Type 0
 HasNoneOf pool tx = (member : Posted) → Contains pool member → member.tx ≢ tx
 
--- a statement of a pool is of a transaction
-abbrev pub HasOneOf : List Posted → ℕ → Type 0
-HasOneOf pool tx = (member : Posted) × Contains pool member × (member.tx ≡ tx)
-
 -- where the statement of a transaction stands
 abbrev pub IsPlaceOf : List Posted → ℕ → ℕ → Type 0
 IsPlaceOf pool tx place = (place < length pool) × ((d : Posted) → (slice_index_or pool place d).tx ≡ tx)

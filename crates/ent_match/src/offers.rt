@@ -1,19 +1,18 @@
 //! Which statements of a pool have heads for which posts: found out when a statement is posted, and kept.
-ghost use Rattle.std.specs.Prelude.{◌≡◌, ◌↔◌, ℕ, false, Contains, IfErr, IfOk, IsTrue, MatchOption, OnErr, OnOk, Some};
+ghost use Rattle.std.specs.Prelude.{◌≡◌, ◌↔◌, false, Contains, IfErr, IsTrue, MatchOption, OnErr, OnOk};
 ghost use Rattle.std.specs.Prelude.{filter};
 ghost use Rattle.ent_coordination.specs.Pool.{IsFirstUnsafe, IsSafe};
 ghost use Rattle.ent_match.specs.Fault.{IsByNumber, IsSafeBut};
-ghost use Rattle.ent_match.specs.Offers.{AreOffers, AreOffersBut, AreThoseWithin, GrowBy, HasRival, IsBetween};
-ghost use Rattle.ent_match.specs.Offers.{IsContested, IsMetBy, IsOfPair, IsPartner, is_of, is_of_others};
+ghost use Rattle.ent_match.specs.Offers.{AreOffers, AreOffersBut, GrowBy, HasRival, IsBetween};
+ghost use Rattle.ent_match.specs.Offers.{IsContested, IsMetBy, IsOfPair, is_of, is_of_others};
 ghost use Rattle.ent_match.specs.Posting.{IsWhyIn};
 ghost use Rattle.ent_match.specs.declared.offers.Offer.{Offer};
 
 use crate::fault::{PostFault, Unsafe, fault_of};
 use crate::meets::has_head_for;
-use crate::place::place_of;
 use crate::posted::Posted;
 use ent_group::Tx;
-use std::alloc::{AllocError, Global};
+use std::alloc::AllocError;
 
 /// That a statement has a head for a post: the transaction of the post, its index, and the transaction of the head.
 #[derive(Clone, Copy)]
@@ -28,19 +27,6 @@ fn is_of(offer: &Offer, tx: Tx) -> bool
     ensures { result ≡ is_of tx offer.now }
 {
     offer.asker == tx || offer.owner == tx
-}
-
-/// The transaction that an offer connects with one.
-pub(crate) fn partner(offer: &Offer, tx: Tx) -> Option<Tx>
-    ensures { (other : ℕ) → IsPartner offer.now tx other ↔ (result ≡ Some other) }
-{
-    if offer.asker == tx {
-        Some(offer.owner)
-    } else if offer.owner == tx {
-        Some(offer.asker)
-    } else {
-        None
-    }
 }
 
 /// Takes the offers by a transaction, and those to it, out.
@@ -191,21 +177,4 @@ pub(crate) fn add_offers(
             Err(fault)
         }
     }
-}
-
-/// The offers to the statements of a part of a pool; they are by such statements, too.
-pub(crate) fn offers_within(
-    alloc: Global,
-    offers: &[Offer],
-    part: &[Posted],
-) -> Result<Vec<Offer>, AllocError>
-    ensures { IfOk result (λ kept. AreThoseWithin part.now offers.now kept.items) }
-{
-    let mut kept = Vec::new(alloc);
-    for offer in offers {
-        if place_of(part, offer.asker).is_some() {
-            kept.push(*offer)?;
-        }
-    }
-    Ok(kept)
 }

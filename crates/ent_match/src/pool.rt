@@ -1,16 +1,14 @@
 //! The pool.
-ghost use Rattle.std.specs.Prelude.{◌≡◌, ◌≢◌, [], ◌<◌, AllPairs, IfOk, OnOk, OnErr, IfErr, filter, length};
+ghost use Rattle.std.specs.Prelude.{◌≡◌, ◌≢◌, [], ◌<◌, AllPairs, IfOk, OnOk, OnErr, IfErr, filter};
 ghost use Rattle.ent_coordination.specs.Pool.{IsSafe};
-ghost use Rattle.ent_match.specs.Components.{AreComponents, AscendByFirst};
+ghost use Rattle.ent_match.specs.Components.{AreComponents, AreFirstPlaces, AscendByFirst};
 ghost use Rattle.ent_match.specs.Fault.{IsByNumber};
 ghost use Rattle.ent_match.specs.Offers.{AreOffers};
-ghost use Rattle.ent_match.specs.Parts.{AreSplit, IsPart};
 ghost use Rattle.ent_match.specs.Posting.{HasNone, IsPostedTo, IsWhyWith, IsPlaceFor, is_of_other};
 
-use crate::components::components_of;
+use crate::components::{components_by, first_places_of};
 use crate::fault::PostFault;
-use crate::offers::{Offer, add_offers, forget, offers_within};
-use crate::part::{part_marks, split_by};
+use crate::offers::{Offer, add_offers, forget};
 use crate::posted::Posted;
 use ent_group::Tx;
 use ent_value::Sequence;
@@ -77,32 +75,8 @@ impl Pool {
         ensures components { IfOk result (λ lists. AreComponents self.now lists.items) }
         ensures by_first { IfOk result (λ lists. AscendByFirst lists.items) }
     {
-        let members = self.members();
-        components_of(alloc, members, self.offers.as_slice())
-    }
-
-    /// The part of the pool around a place, and the rest: no statement of one has a head for a post of the other.
-    /// Statements are shared, so that none is copied, and no post is unified with a head.
-    pub fn split(&self, alloc: Global, place: usize) -> Result<(Pool, Pool), AllocError>
-        requires { place < length self.now }
-        ensures { IfOk result (λ two. AreSplit self.now place two.0 two.1) }
-    {
-        let members = self.members();
-        let marks = part_marks(alloc, members, self.offers.as_slice(), place)?;
-        let (around, others) = split_by(alloc, members, marks.as_slice())?;
-        let part = self.pool_of(alloc, around)?;
-        let rest = self.pool_of(alloc, others)?;
-        Ok((part, rest))
-    }
-
-    /// The pool of some of the statements, to which nothing joins the others.
-    fn pool_of(&self, alloc: Global, members: Vec<Posted>) -> Result<Pool, AllocError>
-        requires by_number { IsByNumber members.items }
-        requires part { IsPart self.now members.items }
-        ensures { IfOk result (λ pool. pool ≡ members.items) }
-    {
-        let offers = offers_within(alloc, self.offers.as_slice(), members.as_slice())?;
-        Ok(Pool { members, offers })
+        let firsts = self.first_places(alloc)?;
+        components_by(alloc, self.members(), firsts.as_slice())
     }
 
     /// The same pool once more. Statements are shared, so that none is copied.
@@ -120,6 +94,15 @@ impl Pool {
     {
         withdraw_from(&mut self.members, tx);
         forget(&mut self.offers, tx);
+    }
+
+    /// Of each statement, by number, the place of the first one of its component; none of a statement that is in none.
+    /// No statement is shared, and no post is unified with a head.
+    pub fn first_places(&self, alloc: Global) -> Result<Vec<Option<usize>>, AllocError>
+        ensures { IfOk result (λ firsts. AreFirstPlaces self.now firsts.items) }
+    {
+        let members = self.members();
+        first_places_of(alloc, members, self.offers.as_slice())
     }
 }
 

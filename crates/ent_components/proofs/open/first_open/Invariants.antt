@@ -1,6 +1,7 @@
-use Rattle.ent_components.proofs.Opened.{IsFirst}
+use Rattle.std.proofs.Common.{ℕ, ◌<◌}
+use Rattle.ent_components.specs.Open.{IsOpenAt}
 use Rattle.ent_components.proofs.open.first_open.Given as goal
 
--- the first of the lists so far
-abbrev pub invariant-loop-asked : goal.invariant-loop-asked
-invariant-loop-asked l = IsFirst l.tried l.lent l.yielded l.first
+-- no component begins at a place so far that is open
+abbrev pub invariant-loop-place : goal.invariant-loop-place
+invariant-loop-place l = (place : ℕ) → place < l.place → IsOpenAt l.members l.firsts l.tried l.lent place → ⊥

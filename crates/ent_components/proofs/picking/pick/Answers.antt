@@ -1,39 +1,55 @@
-use Rattle.std.proofs.Common.{◌≡◌, ◌∙◌, List, None, arith, length, refl, sym, subst}
+use Rattle.std.proofs.Common.{◌≡◌, ◌∙◌, ℕ, List, Option, Some, sym, ap, subst}
 use Rattle.ent_coordination.specs.Pool.{Posted}
-use Rattle.ent_components.proofs.Picked.{begins, ends, goes_on, nothing_there, pick_is}
+use Rattle.ent_match.specs.Components.{AreFirstPlaces, component_at}
+use Rattle.ent_components.specs.Component.{IsPick}
+use Rattle.ent_components.specs.Open.{IsFirstOpen, NoneIsOpen}
+use Rattle.ent_components.proofs.Picked.{picked_at, picked_none}
 use Rattle.ent_components.proofs.picking.pick.Goals as goal
 
-pub returns-then-is_empty : goal.returns-then-is_empty
-returns-then-is_empty c =
-    let posted = c.args.pool.now in
+pub first_open-requires : goal.first_open-requires
+first_open-requires c =
+    subst (AreFirstPlaces c.members-members.result.now) (sym c.as_slice.ensures.value)
+    (subst (λ (pool : List Posted). AreFirstPlaces pool c.in_ok-firsts.firsts.items)
+    (sym c.members-members.ensures.members)
+    c.in_ok-firsts.ensures)
+
+pub component_at-requires : goal.component_at-requires
+component_at-requires c =
+    subst (AreFirstPlaces c.members-members.result.now) (sym c.as_slice-in-Some.ensures.value)
+    (subst (λ (pool : List Posted). AreFirstPlaces pool c.in_ok-firsts.firsts.items)
+    (sym c.members-members.ensures.members)
+    c.in_ok-firsts.ensures)
+
+pub returns-in-Some : goal.returns-in-Some
+returns-in-Some c =
+    let pool = c.args.pool.now in
     let tried = c.args.tried.now in
     let lent = c.args.lent.now in
-    let none = subst (λ (members : List Posted). length members ≡ 0) c.members.ensures.members
-    (nothing_there c.members.result.now (sym c.is_empty.ensures ∙ c.if-is_empty.true)) in
-    pick_is posted tried lent None
-    (ends posted tried lent posted None (begins posted tried lent)
-    (λ member there. omega (arith, there.1, none)))
-
-pub parts-init : goal.parts-init
-parts-init c =
-    let posted = c.args.pool.now in
-    let tried = c.args.tried.now in
-    let lent = c.args.lent.now in
-    goes_on posted tried lent c.members.ensures.by_number posted c.in_ok-lists.rest c.in_ok-lists.lists.items None
-    c.first_open-first.result c.first_open-first.result (begins posted tried lent) c.in_ok-lists.ensures
-    c.first_open-first.ensures refl
-
-pub parts-preserved : goal.parts-preserved
-parts-preserved c =
-    goes_on c.args.pool.now c.args.tried.now c.args.lent.now c.members.ensures.by_number c.parts.rest
-    c.in_ok-lists-2.others c.in_ok-lists-2.lists.items c.parts.first c.first_open-found.result
-    c.earlier-first.result c.parts.invariant c.in_ok-lists-2.ensures c.first_open-found.ensures
-    c.earlier-first.ensures
+    let firsts = c.in_ok-firsts.firsts.items in
+    let place = c.in-Some.place in
+    let first = subst (λ (xs : List Posted). IsFirstOpen xs firsts tried lent place) c.members-members.ensures.members
+    (subst (λ (fs : List (Option ℕ)). IsFirstOpen c.members-members.result.now fs tried lent place)
+    c.as_slice.ensures.value
+    c.in-Some.ensures) in
+    let picked : c.in_ok-picked-in-Some.picked ≡ component_at firsts place pool =
+    c.in_ok-picked-in-Some.ensures
+    ∙ (ap (λ (fs : List (Option ℕ)). component_at fs place c.members-members.result.now)
+    c.as_slice-in-Some.ensures.value
+    ∙ ap (component_at firsts place) c.members-members.ensures.members) in
+    subst (λ (asked : List Posted). IsPick pool tried lent (Some asked)) (sym picked)
+    (picked_at c.components_are_classes.ensures pool c.members-members.ensures.by_number firsts
+    c.in_ok-firsts.ensures tried
+    lent place first)
 
 pub returns : goal.returns
 returns c =
-    let posted = c.args.pool.now in
+    let pool = c.args.pool.now in
     let tried = c.args.tried.now in
     let lent = c.args.lent.now in
-    pick_is posted tried lent c.parts.first
-    (ends posted tried lent c.parts.rest c.parts.first c.parts.invariant c.parts-test.ensures)
+    let firsts = c.in_ok-firsts.firsts.items in
+    let none = subst (λ (xs : List Posted). NoneIsOpen xs firsts tried lent) c.members-members.ensures.members
+    (subst (λ (fs : List (Option ℕ)). NoneIsOpen c.members-members.result.now fs tried lent) c.as_slice.ensures.value
+    c.in-None.ensures) in
+    picked_none c.components_are_classes.ensures pool c.members-members.ensures.by_number firsts
+    c.in_ok-firsts.ensures tried
+    lent none
