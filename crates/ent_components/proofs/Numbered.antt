@@ -1,10 +1,40 @@
 -- Lists by ascending numbers.
-use Rattle.std.proofs.Common.{◌≡◌, suc, ◌<◌, List, [], ◌∷◌, refl, sym, ap, ◌∙◌, subst, arith}
+use Rattle.std.proofs.Common.{◌≡◌, ℕ, suc, ◌<◌, List, [], ◌∷◌, length, get_or, refl, sym, ap, ◌∙◌, subst, arith}
 use Rattle.std.proofs.Common.{inl, inr}
-use Rattle.std.specs.Prelude.{Contains}
+use Rattle.std.specs.Prelude.{AllPairs, Contains}
+use Rattle.std.proofs.lemmas.Bool.{cases_lt}
+use Rattle.std.proofs.lemmas.List.{get_or_default}
 use Rattle.ent_coordination.specs.Pool.{Posted}
 use Rattle.ent_match.specs.Fault.{IsByNumber}
 use Rattle.ent_components.proofs.Listed.{element_cases, element_here, element_later, in_none}
+
+module _ {X : Type 0} (number : X → ℕ) where
+  abbrev pub Ascends : List X → Type 0
+  Ascends xs = AllPairs (λ (one other : X). number one < number other) xs
+
+  at_place : (xs : List X) (x : X) (k : ℕ) (d : X) → k < length xs → get_or xs k x ≡ x → get_or xs k d ≡ x
+  at_place xs x k d below is = get_or_default xs k d x below ∙ is
+
+  less : (xs : List X) → Ascends xs → (x y : X) (k j : ℕ) → k < j → j < length xs → get_or xs k x ≡ x
+      → get_or xs j y ≡ y → number x < number y
+  less xs ascends x y k j before below is_x is_y =
+      subst (λ (z : X). number z < number y) is_x
+      (subst (λ (z : X). number (get_or xs k x) < number z) (at_place xs y j x below is_y) (ascends k j x before below))
+
+  -- there is one element of a number at most
+  pub same_member : (xs : List X) → Ascends xs → (x y : X) → Contains xs x → Contains xs y → number x ≡ number y → x ≡ y
+  same_member xs ascends x y (k, below_k, is_x) (j, below_j, is_y) same =
+      elim (cases_lt k j) [
+        | inl before ↦
+            (let l = less xs ascends x y k j before below_j is_x is_y in absurd (omega arith))
+        | inr not_before ↦ elim (cases_lt j k) [
+          | inl after ↦
+              (let l = less xs ascends y x j k after below_k is_y is_x in absurd (omega arith))
+          | inr not_after ↦
+              let here : k ≡ j = omega arith in
+              sym is_x ∙ (ap (λ n. get_or xs n x) here ∙ at_place xs y j x below_j is_y)
+        ]
+      ]
 
 -- ---- statements by number
 
