@@ -7,7 +7,7 @@ use Rattle.std.specs.BTreeMap.{is_at}
 use Rattle.std.specs.BTreeSet.{BTreeSet, contains}
 use Rattle.std.specs.Ordering.{nat_cmp}
 use Rattle.ent_epoch.specs.Epoch.{Epoch}
-use Rattle.ent_commit_notes.specs.Telling.{IsToldTo}
+use Rattle.ent_epoch.specs.Telling.{IsToldTo}
 use Rattle.ent_feed.specs.Feed.{behind}
 use Rattle.ent_feed.specs.Group.{AreNumbered}
 use Rattle.ent_feed.specs.declared.group.EndedTicket.{EndedTicket}

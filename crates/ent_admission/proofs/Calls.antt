@@ -8,9 +8,9 @@ use Rattle.std.specs.BTreeSet.{BTreeSet, Updates, contains}
 use Rattle.std.specs.List.{cons_option}
 use Rattle.std.specs.Ordering.{nat_cmp}
 use Rattle.ent_meetings.specs.Waiting.{ChangesAt, Waiting, named, party_at}
-use Rattle.ent_parties.specs.declared.party.Party.{Party}
-use Rattle.ent_parties.specs.Party.{party_of}
-use Rattle.ent_commit_notes.specs.Telling.{Telling}
+use Rattle.ent_meetings.specs.declared.party.Party.{Party}
+use Rattle.ent_meetings.specs.Party.{party_of}
+use Rattle.ent_epoch.specs.Telling.{Telling}
 use Rattle.ent_feed.specs.Feed.{Feed}
 use Rattle.ent_feed.specs.declared.group.EndedTicket.{EndedTicket}
 use Rattle.ent_protocol.specs.State.{State}

@@ -7,8 +7,8 @@ use Rattle.std.specs.BTreeMap.{is_at}
 use Rattle.std.specs.BTreeSet.{contains}
 use Rattle.std.specs.Ordering.{nat_cmp}
 use Rattle.ent_meetings.specs.Waiting.{ChangesAt, Waiting, party_at}
-use Rattle.ent_parties.specs.Party.{party_of}
-use Rattle.ent_parties.specs.declared.party.Party.{Party}
+use Rattle.ent_meetings.specs.Party.{party_of}
+use Rattle.ent_meetings.specs.declared.party.Party.{Party}
 use Rattle.ent_semantics.specs.Serial.{numbered}
 use Rattle.ent_tree.specs.declared.declaration.Opening.{Opening}
 use Rattle.ent_tree.specs.declared.script.Script.{Script}

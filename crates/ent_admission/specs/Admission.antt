@@ -9,10 +9,10 @@ use Rattle.ent_form.specs.Catalogue.{schemas_of}
 use Rattle.ent_form.specs.Form.{script_in}
 use Rattle.ent_form.specs.declared.script.Plain.{Plain}
 use Rattle.ent_meetings.specs.Waiting.{Waiting, party_at}
-use Rattle.ent_parties.specs.Meeting.{IsClosed}
-use Rattle.ent_parties.specs.Party.{party_of}
-use Rattle.ent_parties.specs.declared.party.Party.{Party}
-use Rattle.ent_commit_notes.specs.Telling.{IsToldTo, groups_due}
+use Rattle.ent_meetings.specs.PartyMeeting.{IsClosed}
+use Rattle.ent_meetings.specs.Party.{party_of}
+use Rattle.ent_meetings.specs.declared.party.Party.{Party}
+use Rattle.ent_epoch.specs.Telling.{IsToldTo, groups_due}
 use Rattle.ent_feed.specs.Feed.{Feed}
 use Rattle.ent_feed.specs.declared.group.EndedTicket.{EndedTicket}
 use Rattle.ent_protocol.specs.Reached.{CanClose}

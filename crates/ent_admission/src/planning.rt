@@ -1,7 +1,7 @@
 //! Batches are made up.
 ghost use Rattle.std.specs.Prelude.{◌≡◌, ◌<◌, ◌≤◌, ◌+◌, All, None, OnErr, OnOk, IfErr, IfOk, Some, false, length, true};
 ghost use Rattle.ent_group.specs.declared.members.TheConstants.{MOST_MEMBERS};
-ghost use Rattle.ent_parties.specs.Meeting.{IsClosed};
+ghost use Rattle.ent_meetings.specs.PartyMeeting.{IsClosed};
 ghost use Rattle.ent_tree.specs.declared.limits.TheConstants.{MOST_SCRIPTS};
 ghost use Rattle.ent_value.specs.declared.refusal.Refusal.TheVariants.{Fault};
 ghost use Rattle.ent_admission.specs.Acts.{Advances};

@@ -15,7 +15,7 @@ ghost use Rattle.ent_waiting.specs.declared.waiting_list.NotRestored.TheVariants
 ghost use Rattle.ent_waiting.specs.declared.waiting_list.NotWithdrawn.TheVariants.{Absent, InBatch};
 
 use crate::admission::Admission;
-use ent_parties::Party;
+use ent_meetings::Party;
 use ent_tree::Script;
 use ent_value::Refusal;
 use ent_waiting::{Full, NotRestored, NotWithdrawn, Patience, Rank, Ticket};

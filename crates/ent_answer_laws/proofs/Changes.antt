@@ -12,7 +12,7 @@ use Rattle.ent_semantics.specs.Change.{assigned_value, assigned_values, image, m
 use Rattle.ent_semantics.specs.Database.{Rows, same_name}
 use Rattle.ent_semantics.specs.Term.{SourceColumn, Worth, expression_value}
 use Rattle.ent_semantics.proofs.EachRow.{EachRow, each_all_inserted, each_retained, to_ascending}
-use Rattle.ent_history_form.specs.Parts.{IsRow, IsValue}
+use Rattle.ent_history.specs.Parts.{IsRow, IsValue}
 use Rattle.ent_form_laws.proofs.Known.{one_value}
 use Rattle.ent_answer_laws.proofs.Read.{AreRead}
 use Rattle.ent_answer_laws.proofs.Values.{AreValues, all_there_are, expression_is_value}

@@ -46,7 +46,7 @@ use Rattle.ent_form.specs.declared.script.Plain.{Plain}
 use Rattle.ent_plan.specs.Ranged.{is_variable, stands_in}
 use Rattle.ent_sql_laws.specs.Fits.{ConditionFits, Each, EntangledFits, SelectFits}
 use Rattle.ent_form_laws.specs.Tables.{database_of}
-use Rattle.ent_history_form.specs.Parts.{IsRow, IsValue}
+use Rattle.ent_history.specs.Parts.{IsRow, IsValue}
 use Rattle.ent_form_laws.proofs.Steps.{bound_given, demand_given, one_answer}
 use Rattle.ent_lists.specs.Elements.{all_first, all_joined, all_second, and_both, or_cases, same_number}
 use Rattle.ent_semantics.proofs.EachRow.{EachRow}

@@ -27,8 +27,8 @@ use Rattle.ent_semantics.specs.Selection.{meets, select_rows}
 use Rattle.ent_semantics.specs.Statement.{statement_meaning, table_worth}
 use Rattle.ent_semantics.specs.Term.{expression_value, known_value, table_columns}
 use Rattle.ent_sql_laws.specs.Fits.{StatementFits}
-use Rattle.ent_history_form.specs.Answers.{IsOfSort}
-use Rattle.ent_history_form.specs.Parts.{IsRow}
+use Rattle.ent_history.specs.Answers.{IsOfSort}
+use Rattle.ent_history.specs.Parts.{IsRow}
 use Rattle.ent_form_laws.proofs.Steps.{one_answer}
 use Rattle.ent_lists.specs.Elements.{all_first}
 use Rattle.ent_semantics.proofs.EachRow.{EachRow, each_inserted, each_retained, to_ascending}

@@ -1,3 +1,17 @@
+pub mod Through
+pub mod Terms
+pub mod Selects
+pub mod Entangled
+pub mod Statements
+pub mod UnplacedRuns
+pub mod Books
+pub mod FaultLists
+pub mod TermFaults
+pub mod Faults
+pub mod EntangledFaults
+pub mod ScriptFaults
+pub mod OpeningFaults
+pub mod Reports
 pub mod Rows
 pub mod Read
 pub mod Values
@@ -13,3 +27,28 @@ pub mod Runs
 pub mod Turns
 pub mod Told
 pub mod Opened
+mod Texts
+mod Quoting
+mod Names
+mod CharacterValues
+mod Answers
+mod Printed
+mod Variables
+mod CharacterTold
+mod Carrying
+mod Lexed
+mod Literals
+mod CharacterSelects
+mod Entangling
+mod CharacterRead
+pub mod Written
+pub mod Worth
+pub mod Tables
+pub mod Selected
+pub mod Changed
+pub mod CharacterOffered
+pub mod CharacterLeaving
+pub mod Ranged
+pub mod CharacterGrounding
+pub mod CharacterRuns
+pub mod CharacterTurns

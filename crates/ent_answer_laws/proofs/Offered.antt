@@ -21,8 +21,8 @@ use Rattle.ent_semantics.specs.Database.{Environment, Name, same_name}
 use Rattle.ent_semantics.specs.Entangled.{Valuation, bound_values, facts, head_terms, heads, item_binds, term_worth}
 use Rattle.ent_semantics.specs.Entangled.{variable_value, written_variables}
 use Rattle.ent_sql_laws.specs.Fits.{EntangledFits}
-use Rattle.ent_history_form.specs.Answers.{IsFact}
-use Rattle.ent_history_form.specs.Parts.{IsRow, IsValue}
+use Rattle.ent_history.specs.Answers.{IsFact}
+use Rattle.ent_history.specs.Parts.{IsRow, IsValue}
 use Rattle.ent_lists.specs.Elements.{all_first, all_joined, all_second}
 use Rattle.ent_answer_laws.proofs.Read.{AreRead, separated_are_read}
 use Rattle.ent_answer_laws.proofs.Results.{some_mapped}

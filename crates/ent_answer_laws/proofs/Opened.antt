@@ -13,9 +13,9 @@ use Rattle.ent_tree.specs.declared.declaration.OpeningRow.{OpeningRow}
 use Rattle.ent_form.specs.Catalogue.{schemas_of}
 use Rattle.ent_form.specs.OpeningFault.{declarations_fault, first_of, opening_row_fault}
 use Rattle.ent_history.specs.Told.{opening_row}
-use Rattle.ent_history_form.specs.Parts.{IsRow}
+use Rattle.ent_history.specs.Parts.{IsRow}
 use Rattle.ent_form_laws.proofs.Steps.{nothing_first}
-use Rattle.ent_rules.specs.Formed.{is_declared}
+use Rattle.ent_history.specs.Formed.{is_declared}
 use Rattle.ent_lists.specs.Elements.{In, any_in, clash, contains_in, filter_empty, in_flat, index_pairs, not_so}
 use Rattle.ent_lists.specs.Elements.{of_all, of_map, shorter}
 use Rattle.ent_lists.specs.Laws.{len-from_list}

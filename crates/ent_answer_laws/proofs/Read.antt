@@ -7,7 +7,7 @@ use Rattle.ent_print.specs.Lexeme.{Lexeme}
 use Rattle.ent_print.specs.Reading.{CanBeRead}
 use Rattle.ent_print.specs.Spelling.{each_behind, separated}
 use Rattle.ent_print.specs.Spelling.{value_spelling}
-use Rattle.ent_history_form.specs.Parts.{IsValue}
+use Rattle.ent_history.specs.Parts.{IsValue}
 use Rattle.ent_lists.specs.Elements.{all_first, all_second}
 
 abbrev pub AreRead : List Lexeme → Type 0

@@ -17,7 +17,7 @@ use Rattle.ent_semantics.specs.Selection.{combinations, item_row, meets, select_
 use Rattle.ent_semantics.specs.Term.{source_columns}
 use Rattle.ent_text.specs.declared.keyword.Keyword.TheVariants as keywords
 use Rattle.ent_text.specs.declared.symbol.Symbol.TheVariants as symbols
-use Rattle.ent_history_form.specs.Parts.{IsRow, IsValue}
+use Rattle.ent_history.specs.Parts.{IsRow, IsValue}
 use Rattle.ent_sql_laws.specs.Fits.{ItemsFit, SelectFits}
 use Rattle.ent_lists.specs.Elements.{In, all_first, all_filtered, all_joined, to_all, of_map, of_all, in_flat}
 use Rattle.ent_semantics.proofs.EachRow.{EachRow, each_listed, to_ascending}

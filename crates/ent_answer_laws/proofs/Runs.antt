@@ -41,7 +41,7 @@ use Rattle.ent_answer_laws.proofs.Read.{AreRead}
 use Rattle.ent_answer_laws.proofs.Stepping.{IsBehind, steps_on}
 use Rattle.ent_answer_laws.proofs.Stored.{IsStored}
 use Rattle.ent_answer_laws.proofs.Values.{AreValues}
-use Rattle.ent_check_run.proofs.Along.{Resolves}
+use Rattle.ent_check.proofs.Along.{Resolves}
 use Rattle.ent_answer_laws.proofs.Walking.{Behind, IsReadViewTold, TakesNone, entangled_form}
 use Rattle.ent_answer_laws.proofs.Walking.{first_behind, next_behind, trees_of}
 

@@ -19,7 +19,7 @@ use Rattle.ent_sql_laws.specs.Fits.{StatementFits}
 use Rattle.ent_form_laws.specs.Kinds.{HasKinds}
 use Rattle.ent_form_laws.proofs.Steps.{one_answer}
 use Rattle.ent_form_laws.specs.Tables.{database_of, effect_of}
-use Rattle.ent_history_form.specs.Answers.{IsOfSort}
+use Rattle.ent_history.specs.Answers.{IsOfSort}
 use Rattle.ent_report_laws.specs.Tellable.{IsAnswerTold}
 use Rattle.ent_answer_laws.specs.Answered.{CanBeCounted}
 use Rattle.ent_answer_laws.specs.Held.{CanAnswer, HoldsValuesOf}

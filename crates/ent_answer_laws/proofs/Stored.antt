@@ -18,8 +18,8 @@ use Rattle.ent_form_laws.specs.Tables.{database_of}
 use Rattle.ent_form_laws.specs.Kinds.{AreKinded}
 use Rattle.ent_form_laws.proofs.NamesApart.{kinds_under, names_apart, nothing_under, schema_kinds}
 use Rattle.ent_form_laws.proofs.Opened.{as_many}
-use Rattle.ent_history_form.specs.Parts.{IsRow}
-use Rattle.ent_rules.specs.Formed.{is_declared}
+use Rattle.ent_history.specs.Parts.{IsRow}
+use Rattle.ent_history.specs.Formed.{is_declared}
 use Rattle.ent_lists.specs.Elements.{In, any_some, clash, contains_in, in_contains}
 use Rattle.ent_answer_laws.specs.Held.{HoldsRowsOf}
 use Rattle.ent_answer_laws.proofs.Leaving.{HoldsFew}

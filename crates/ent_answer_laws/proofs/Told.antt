@@ -23,8 +23,8 @@ use Rattle.ent_book.specs.Report2.{member_variables, script_statement, statement
 use Rattle.ent_book.proofs.Ascending.{count_of_ascending}
 use Rattle.ent_history.specs.Told.{shown_table, told_member}
 use Rattle.ent_history.specs.declared.history.History.{History}
-use Rattle.ent_history_form.specs.Joints.{Binds, BindsRight, binds_of, member_binds, resolved_at, script_binds}
-use Rattle.ent_history_form.specs.Parts.{IsRow}
+use Rattle.ent_history.specs.Joints.{Binds, BindsRight, binds_of, member_binds, resolved_at, script_binds}
+use Rattle.ent_history.specs.Parts.{IsRow}
 use Rattle.ent_lists.specs.Elements.{In}
 use Rattle.ent_semantics.proofs.EachRow.{to_ascending}
 use Rattle.ent_report_laws.specs.Tellable.{AreRowsOf, AreTablesOf, IsMemberTold}

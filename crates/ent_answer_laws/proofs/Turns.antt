@@ -24,7 +24,7 @@ use Rattle.ent_form.specs.OpeningFault.{declarations_fault}
 use Rattle.ent_form.specs.declared.fault.FormFault.{FormFault}
 use Rattle.ent_form.specs.declared.script.Plain.{Plain}
 use Rattle.ent_sql_laws.specs.Fits.{Each, StatementFits}
-use Rattle.ent_rules.proofs.Operations.{mapped_some, then_some}
+use Rattle.ent_history.proofs.Operations.{mapped_some, then_some}
 use Rattle.ent_lists.specs.Elements.{In, all_first, all_index, all_second, in_either, in_first, in_second}
 use Rattle.ent_report_laws.specs.Tellable.{AreAnswersTo}
 use Rattle.ent_answer_laws.specs.Answered.{AreTurnsAnswered, CanBeCounted, CanRun}
@@ -33,7 +33,7 @@ use Rattle.ent_answer_laws.specs.Laws.{Laws}
 use Rattle.ent_answer_laws.proofs.Read.{AreRead}
 use Rattle.ent_answer_laws.proofs.Runs.{IsLeft, RunsOn, runs_on}
 use Rattle.ent_answer_laws.proofs.Stored.{IsStored}
-use Rattle.ent_check_run.proofs.Along.{Resolves, resolved_so}
+use Rattle.ent_check.proofs.Along.{Resolves, resolved_so}
 use Rattle.ent_answer_laws.proofs.Walking.{IsReadViewTold, Behind, all_behind, operations_so}
 
 -- ---- a script that can run

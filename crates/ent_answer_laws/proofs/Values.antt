@@ -20,7 +20,7 @@ use Rattle.ent_semantics.specs.Change.{all_there}
 use Rattle.ent_semantics.specs.Database.{Environment, Name, with_value, with_values, same_name}
 use Rattle.ent_semantics.specs.Term.{SourceColumn, column_value, expression_value, in_64_bits, is_64_bits, known_value}
 use Rattle.ent_semantics.specs.Term.{no_value, number_of, operand_value, refers_to}
-use Rattle.ent_history_form.specs.Parts.{IsValue}
+use Rattle.ent_history.specs.Parts.{IsValue}
 use Rattle.ent_form_laws.proofs.Known.{one_value}
 use Rattle.ent_answer_laws.proofs.Read.{AreRead, literal_is_value}
 

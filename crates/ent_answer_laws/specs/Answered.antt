@@ -14,8 +14,8 @@ use Rattle.ent_form.specs.Catalogue.{schemas_of}
 use Rattle.ent_form.specs.Kinds.{Bound}
 use Rattle.ent_form.specs.ScriptFaults.{script_faults}
 use Rattle.ent_sql_laws.specs.Fits.{ScriptFits}
-use Rattle.ent_history_form.specs.Answers.{IsOfSort}
-use Rattle.ent_history_form.specs.Parts.{IsNumber}
+use Rattle.ent_history.specs.Answers.{IsOfSort}
+use Rattle.ent_history.specs.Parts.{IsNumber}
 use Rattle.ent_report_laws.specs.Tellable.{AreAnswersTo, IsAnswerTold}
 use Rattle.ent_answer_laws.specs.Held.{HoldsRowsOf, HoldsValuesOf}
 

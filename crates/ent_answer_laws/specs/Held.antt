@@ -14,8 +14,8 @@ use Rattle.ent_semantics.specs.declared.statement.Statement.{Statement}
 use Rattle.ent_form.specs.Kinds.{Bound}
 use Rattle.ent_form_laws.specs.Kinds.{AnswersInKind, HasKinds}
 use Rattle.ent_form_laws.specs.Tables.{Answers}
-use Rattle.ent_history_form.specs.Parts.{IsRow, IsValue}
-use Rattle.ent_rules.specs.Formed.{is_declared}
+use Rattle.ent_history.specs.Parts.{IsRow, IsValue}
+use Rattle.ent_history.specs.Formed.{is_declared}
 
 -- declared tables hold rows of their columns' kinds whose values can be told, no more than a table may hold; there is
 -- nothing under other names

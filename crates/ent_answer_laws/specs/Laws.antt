@@ -23,7 +23,7 @@ use Rattle.ent_form.specs.declared.catalogue.TableSchema.{TableSchema}
 use Rattle.ent_form.specs.declared.script.Plain.{Plain}
 use Rattle.ent_form_laws.specs.Tables.{AreWide, HaveDistinctColumns, database_of}
 use Rattle.ent_plan.specs.Ranged.{IsRanged}
-use Rattle.ent_check_run.specs.Laws.{Laws as FormLaws}
+use Rattle.ent_check.specs.Laws.{Laws as FormLaws}
 
 pub record Laws : Type 0 where
   -- what a statement means, its form does; and that keeps kinds

@@ -1,4 +1,9 @@
+pub mod Faults
+pub mod Unplaced
 pub mod Held
 pub mod Answered
 pub mod Runs
 pub mod Laws
+pub mod Characters
+pub mod Values
+pub mod Kept

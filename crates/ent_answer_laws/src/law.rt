@@ -41,7 +41,7 @@ use ent_form_laws::{
     resolved_means_the_same, resolved_offers_and_demands_the_same, resolved_selects_the_same,
     resolved_statements_fit, variables_are_the_written_ones,
 };
-use ent_offer_laws::resolved_variables_are_ranged;
+use ent_headline::resolved_variables_are_ranged;
 use ent_semantics::closing_keeps_the_meaning;
 
 /// What a statement means, its form does; and that keeps kinds.

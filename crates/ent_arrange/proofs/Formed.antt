@@ -19,8 +19,8 @@ use Rattle.ent_form.specs.declared.catalogue.TableSchema.{TableSchema}
 use Rattle.ent_form.specs.declared.fault.FormFault.{FormFault}
 use Rattle.ent_headline.specs.Resolved.{resolved_forms}
 use Rattle.ent_sched.specs.Play.{input_fault, scripts_fault}
-use Rattle.ent_unplaced_laws.specs.Faults.{unplaced_fault}
-use Rattle.ent_unplaced_laws.specs.Unplaced.{unplaced_create}
+use Rattle.ent_answer_laws.specs.Faults.{unplaced_fault}
+use Rattle.ent_answer_laws.specs.Unplaced.{unplaced_create}
 use Rattle.ent_arrange.specs.Arranged.{IsArranged}
 
 -- ---- checks

@@ -2,8 +2,7 @@
 ghost use Rattle.std.specs.Prelude.{◌≤◌, ◌<◌, OnOk, OnSome};
 ghost use Rattle.ent_arrange.specs.Doubts.{work_of};
 
-use ent_meetings::{Index, Lack, Next, unoffered};
-use ent_parties::Pattern;
+use ent_meetings::{Index, Lack, Next, Pattern, unoffered};
 use std::alloc::{AllocError, Global};
 
 /// How many are looked at to find who is doubtful, and who has no hope.

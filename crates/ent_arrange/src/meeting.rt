@@ -1,5 +1,5 @@
 //! Meetings.
-use ent_parties::{Party, Pattern};
+use ent_meetings::{Party, Pattern};
 
 /// A script, by its place in the input, from 0, with what it offers and demands.
 #[derive(Drop)]

@@ -3,7 +3,7 @@ use crate::meeting::Member;
 use crate::order::Arrangement;
 use ent_excerpt::{Excerpt, Line, Place};
 use ent_fault_text::Explanation;
-use ent_parties::Pattern;
+use ent_meetings::Pattern;
 use ent_tree::Script;
 use ent_warnings::Postcondition;
 use std::alloc::{AllocError, Global};

@@ -6,8 +6,7 @@ ghost use Rattle.ent_arrange.specs.Doubts.{work_of};
 use crate::doubts::Doubts;
 use crate::meeting::{Meeting, Member};
 use ent_group::MOST_MEMBERS;
-use ent_meetings::{Found, Index, Search, widen};
-use ent_parties::Party;
+use ent_meetings::{Found, Index, Party, Search, widen};
 use ent_tree::Script;
 use std::alloc::{AllocError, Global};
 

@@ -1,7 +1,7 @@
 -- What C's calls do with rows of tables.
 use Rattle.std.specs.Prelude.{◌≡◌, ◌⊎◌, ℕ, ℤ, pos, true, List, Option, Some, None}
-use Rattle.ent_given.specs.Givable.{IsGivable}
-use Rattle.ent_given.specs.declared.row.GivenRow.{GivenRow}
+use Rattle.ent_prepare.specs.Givable.{IsGivable}
+use Rattle.ent_prepare.specs.declared.row.GivenRow.{GivenRow}
 use Rattle.ent_room_calls.specs.Rows.{AddsTo, HasNoPlace, with_row}
 use Rattle.ent_room_calls.specs.Values.{IsNotAdded}
 use Rattle.ent_room_calls.specs.declared.fault.RoomFault.{RoomFault}

@@ -5,7 +5,7 @@ use Rattle.std.specs.BTreeSet.{contains}
 use Rattle.std.specs.Ordering.{nat_cmp}
 use Rattle.ent_admission.specs.Admission.{IsAtRest}
 use Rattle.ent_bound.specs.declared.variable.BoundVariable.{BoundVariable}
-use Rattle.ent_given.specs.declared.row.GivenRow.{GivenRow}
+use Rattle.ent_prepare.specs.declared.row.GivenRow.{GivenRow}
 use Rattle.ent_prepare.specs.Prepared.{IsFirstFault}
 use Rattle.ent_room.specs.Acts.{Advances}
 use Rattle.ent_room.specs.Putting as putting

@@ -13,7 +13,7 @@ use crate::told::Told;
 use crate::values_handle::ValuesHandle;
 use crate::{DONE, MISUSED};
 use ent_bound::BoundVariable;
-use ent_given::GivenRow;
+use ent_prepare::GivenRow;
 use ent_room::{Room, Stay, Stepped};
 use ent_room_calls::{RoomFault, stay_numbered, turn};
 use ent_waiting::{Limits as ListLimits, Ticket};

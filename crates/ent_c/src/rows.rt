@@ -1,7 +1,7 @@
 //! Rows of tables that a caller of C collects.
 ghost use Rattle.std.specs.Prelude.{◌≡◌, ◌⊎◌, IfErr, OnErr, OnOk, true};
 ghost use Rattle.std.specs.declared.option.Option.TheVariants.{None, Some};
-ghost use Rattle.ent_given.specs.Givable.{IsGivable};
+ghost use Rattle.ent_prepare.specs.Givable.{IsGivable};
 ghost use Rattle.ent_room_calls.specs.Rows.{AddsTo, HasNoPlace, with_row};
 ghost use Rattle.ent_room_calls.specs.Values.{IsNoText, IsNotAdded};
 ghost use Rattle.ent_value.specs.Name.{is_word};
@@ -12,7 +12,7 @@ ghost use Rattle.ent_c.specs.Rooms.{given_in};
 use crate::MISUSED;
 use crate::room_told::tell;
 use crate::rows_handle::RowsHandle;
-use ent_given::GivenValue;
+use ent_prepare::GivenValue;
 use ent_room_calls::{GivenRows, RoomFault, given_text};
 use std::alloc::Global;
 

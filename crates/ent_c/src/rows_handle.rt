@@ -4,7 +4,7 @@ ghost use Rattle.std.specs.Coded.{coded_option};
 ghost use Rattle.std.specs.declared.option.Option.{Option};
 ghost use Rattle.std.specs.declared.option.Option.TheVariants.{None, Some};
 ghost use Rattle.ent_pointer.specs.Handle.{held_at};
-ghost use Rattle.ent_given.specs.declared.row.GivenRow.{GivenRow};
+ghost use Rattle.ent_prepare.specs.declared.row.GivenRow.{GivenRow};
 ghost use Rattle.ent_room_calls.specs.contracts.rows.GivenRows.{the_row as rows_row};
 
 use ent_pointer::RawBox;

@@ -3,7 +3,7 @@ use Rattle.std.proofs.Common.{◌≡◌, ℕ, zero, suc, ◌<◌, ◌≤◌, Lis
 use Rattle.std.proofs.Common.{slice_index_or}
 use Rattle.ent_tree.specs.declared.script.Script.{Script}
 use Rattle.ent_history.specs.declared.history.Told.{Told}
-use Rattle.ent_rules.specs.Account.{Account, accounts_from}
+use Rattle.ent_history.specs.Account.{Account, accounts_from}
 
 -- a transaction of this number
 abbrev pub account_of : ℕ → Script → Told → Account

@@ -12,12 +12,12 @@ use Rattle.std.proofs.lemmas.List.{take-append-drop}
 use Rattle.std.proofs.lemmas.List.Elements.{filter-append}
 use Rattle.ent_tree.specs.declared.script.Script.{Script}
 use Rattle.ent_history.specs.declared.history.Told.{Told}
-use Rattle.ent_rules.specs.Account.{Account, accounts_from, commit_count, commit_number, committed_as}
-use Rattle.ent_rules.specs.Account.{in_commit_order, is_number, numbers_from}
-use Rattle.ent_rules.specs.Journal.{journal_findings}
-use Rattle.ent_rules.specs.Verdict.{first_of}
-use Rattle.ent_rules.specs.declared.finding.Finding.{Finding}
-use Rattle.ent_rules.proofs.Commits.{NotSame, numbered_if_none}
+use Rattle.ent_history.specs.Account.{Account, accounts_from, commit_count, commit_number, committed_as}
+use Rattle.ent_history.specs.Account.{in_commit_order, is_number, numbers_from}
+use Rattle.ent_history.specs.Journal.{journal_findings}
+use Rattle.ent_history.specs.Verdict.{first_of}
+use Rattle.ent_history.specs.declared.finding.Finding.{Finding}
+use Rattle.ent_history.proofs.Commits.{NotSame, numbered_if_none}
 use Rattle.ent_lists.specs.Elements.{Pairs, filter_empty, not_so, pairs_across, same_number, all_joined}
 use Rattle.ent_check.specs.Order.{AreBelow, AreNumbered, accounts_at}
 use Rattle.ent_check.proofs.Accounts.{account_of, accounts_behind, behind_some, nothing_behind}

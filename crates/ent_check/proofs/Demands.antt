@@ -10,19 +10,19 @@ use Rattle.ent_semantics.specs.declared.book.Member.{Member}
 use Rattle.ent_semantics.specs.Book.{all_members}
 use Rattle.ent_semantics.specs.Serial.{ReadView}
 use Rattle.ent_history.specs.declared.history.ToldJoint.{ToldJoint}
-use Rattle.ent_rules.specs.Account.{Account}
-use Rattle.ent_rules.specs.Joint.{is_right, is_statement_of, left_out_findings, members_findings, stands_among}
-use Rattle.ent_rules.specs.Journal.{unless}
-use Rattle.ent_rules.specs.Placed.{Placed, member_at, members_from, placed, placed_from, stands_at}
-use Rattle.ent_rules.specs.Post.{are_met, post_findings}
-use Rattle.ent_rules.specs.Verdict.{first_of}
-use Rattle.ent_rules.specs.declared.finding.Finding.{Finding}
-use Rattle.ent_rules.specs.declared.finding.Rule.TheVariants as rule
-use Rattle.ent_rules.specs.declared.finding.Thing.TheVariants as thing
-use Rattle.ent_rules.proofs.Found.{unless_holds}
-use Rattle.ent_rules.proofs.Joints.{stands_there}
+use Rattle.ent_history.specs.Account.{Account}
+use Rattle.ent_history.specs.Joint.{is_right, is_statement_of, left_out_findings, members_findings, stands_among}
+use Rattle.ent_history.specs.Journal.{unless}
+use Rattle.ent_history.specs.Placed.{Placed, member_at, members_from, placed, placed_from, stands_at}
+use Rattle.ent_history.specs.Post.{are_met, post_findings}
+use Rattle.ent_history.specs.Verdict.{first_of}
+use Rattle.ent_history.specs.declared.finding.Finding.{Finding}
+use Rattle.ent_history.specs.declared.finding.Rule.TheVariants as rule
+use Rattle.ent_history.specs.declared.finding.Thing.TheVariants as thing
+use Rattle.ent_history.proofs.Found.{unless_holds}
+use Rattle.ent_history.proofs.Joints.{stands_there}
 use Rattle.ent_lists.specs.Elements.{and_both, any_some, clash, not_so, number_itself, other_number, turned}
-use Rattle.ent_rules.proofs.Lists.{every, none_first, none_second}
+use Rattle.ent_history.proofs.RuleLists.{every, none_first, none_second}
 use Rattle.ent_check.proofs.Found.{first_behind, first_here}
 use Rattle.ent_check.specs.Offers.{joint_of}
 use Rattle.ent_check.specs.Seats.{AreSeatsOf, place_cmp, seat_of}

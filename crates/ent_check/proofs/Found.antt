@@ -7,15 +7,15 @@ use Rattle.ent_tree.specs.declared.declaration.Create.{Create}
 use Rattle.ent_semantics.specs.Database.{Name, Database, Rows, same_name}
 use Rattle.ent_form_laws.specs.Tables.{database_of}
 use Rattle.ent_history.specs.declared.history.Shown.{Shown}
-use Rattle.ent_rules.specs.Alike.{same_rows}
-use Rattle.ent_rules.specs.Journal.{unless}
-use Rattle.ent_rules.specs.Table.{tables_findings}
-use Rattle.ent_rules.specs.Verdict.{first_of}
-use Rattle.ent_rules.specs.declared.finding.Finding.{Finding}
-use Rattle.ent_rules.specs.declared.finding.Rule.{Rule}
-use Rattle.ent_rules.specs.declared.finding.Rule.TheVariants as rule
-use Rattle.ent_rules.specs.declared.finding.Thing.{Thing}
-use Rattle.ent_rules.specs.declared.finding.Thing.TheVariants as thing
+use Rattle.ent_history.specs.Alike.{same_rows}
+use Rattle.ent_history.specs.Journal.{unless}
+use Rattle.ent_history.specs.Table.{tables_findings}
+use Rattle.ent_history.specs.Verdict.{first_of}
+use Rattle.ent_history.specs.declared.finding.Finding.{Finding}
+use Rattle.ent_history.specs.declared.finding.Rule.{Rule}
+use Rattle.ent_history.specs.declared.finding.Rule.TheVariants as rule
+use Rattle.ent_history.specs.declared.finding.Thing.{Thing}
+use Rattle.ent_history.specs.declared.finding.Thing.TheVariants as thing
 
 -- ---- the table of a name, from the table of an index on
 

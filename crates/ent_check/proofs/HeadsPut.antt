@@ -13,7 +13,7 @@ use Rattle.ent_value.specs.Order.{rows_total}
 use Rattle.ent_value.specs.Value.{row_cmp}
 use Rattle.ent_semantics.specs.Database.{same_name}
 use Rattle.ent_semantics.specs.declared.answer.Fact.{Fact}
-use Rattle.ent_rules.specs.Alike.{same_fact, same_row}
+use Rattle.ent_history.specs.Alike.{same_fact, same_row}
 use Rattle.ent_check.specs.Heads.{Head, Heads, has}
 use Rattle.ent_check.specs.declared.offer.Offer.{Offer}
 use Rattle.ent_check.proofs.Lists.{all_same, any_same}

@@ -10,13 +10,13 @@ use Rattle.ent_semantics.specs.declared.book.Member.{Member}
 use Rattle.ent_semantics.specs.Book.{all_members}
 use Rattle.ent_history.specs.declared.history.ToldJoint.{ToldJoint}
 use Rattle.ent_history.specs.declared.history.ToldMember.{ToldMember}
-use Rattle.ent_rules.specs.Account.{Account}
-use Rattle.ent_rules.specs.Joint.{is_right, is_statement_of, members_findings, stands_among}
-use Rattle.ent_rules.specs.Journal.{unless}
-use Rattle.ent_rules.specs.Placed.{Placed, member_at, members_from, placed, placed_from, stands_at}
-use Rattle.ent_rules.specs.Verdict.{first_of}
-use Rattle.ent_rules.specs.declared.finding.Rule.TheVariants as rule
-use Rattle.ent_rules.specs.declared.finding.Thing.TheVariants as thing
+use Rattle.ent_history.specs.Account.{Account}
+use Rattle.ent_history.specs.Joint.{is_right, is_statement_of, members_findings, stands_among}
+use Rattle.ent_history.specs.Journal.{unless}
+use Rattle.ent_history.specs.Placed.{Placed, member_at, members_from, placed, placed_from, stands_at}
+use Rattle.ent_history.specs.Verdict.{first_of}
+use Rattle.ent_history.specs.declared.finding.Rule.TheVariants as rule
+use Rattle.ent_history.specs.declared.finding.Thing.TheVariants as thing
 use Rattle.ent_lists.specs.Elements.{all_by, all_joined, map_joined}
 use Rattle.ent_check.proofs.Found.{first_behind, first_here}
 use Rattle.ent_check.specs.Above.{is_above}

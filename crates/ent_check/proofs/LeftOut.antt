@@ -9,14 +9,14 @@ use Rattle.ent_tree.specs.declared.script.Statement.{Statement}
 use Rattle.ent_semantics.specs.declared.book.Member.{Member}
 use Rattle.ent_semantics.specs.Serial.{is_entangled}
 use Rattle.ent_history.specs.declared.history.Told.{Told}
-use Rattle.ent_rules.specs.Account.{Account, accounts_from, has_committed}
-use Rattle.ent_rules.specs.Joint.{all_stand, left_out, left_out_findings, stands_among}
-use Rattle.ent_rules.specs.Journal.{unless}
-use Rattle.ent_rules.specs.Placed.{Placed, member_at, stands_at}
-use Rattle.ent_rules.specs.Verdict.{first_of}
-use Rattle.ent_rules.specs.declared.finding.Finding.{Finding}
-use Rattle.ent_rules.specs.declared.finding.Rule.TheVariants as rule
-use Rattle.ent_rules.specs.declared.finding.Thing.TheVariants as thing
+use Rattle.ent_history.specs.Account.{Account, accounts_from, has_committed}
+use Rattle.ent_history.specs.Joint.{all_stand, left_out, left_out_findings, stands_among}
+use Rattle.ent_history.specs.Journal.{unless}
+use Rattle.ent_history.specs.Placed.{Placed, member_at, stands_at}
+use Rattle.ent_history.specs.Verdict.{first_of}
+use Rattle.ent_history.specs.declared.finding.Finding.{Finding}
+use Rattle.ent_history.specs.declared.finding.Rule.TheVariants as rule
+use Rattle.ent_history.specs.declared.finding.Thing.TheVariants as thing
 use Rattle.ent_check.specs.Seats.{AreSeatsOf, place_cmp, seat_of}
 use Rattle.ent_check.proofs.Accounts.{account_of, accounts_behind, behind_here, nothing_behind}
 use Rattle.ent_check.proofs.Joints.{members_in}

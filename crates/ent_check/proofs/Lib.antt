@@ -16,3 +16,10 @@ pub mod Taken
 pub mod Found
 pub mod Places
 pub mod Told
+pub mod Ordinary
+pub mod Compared
+pub mod Step
+pub mod Along
+pub mod Next
+pub mod Seated
+pub mod Turns

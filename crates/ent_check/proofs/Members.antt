@@ -7,8 +7,8 @@ use Rattle.ent_tree.specs.declared.script.Script.{Script}
 use Rattle.ent_semantics.specs.declared.book.Member.{Member}
 use Rattle.ent_semantics.specs.Serial.{numbered}
 use Rattle.ent_history.specs.declared.history.Told.{Told}
-use Rattle.ent_rules.specs.Account.{accounts_from, commit_number}
-use Rattle.ent_rules.specs.Joint.{is_entangled_one, is_statement_of}
+use Rattle.ent_history.specs.Account.{accounts_from, commit_number}
+use Rattle.ent_history.specs.Joint.{is_entangled_one, is_statement_of}
 
 other : (m n : ℕ) → n < m → (m == n) ≡ false
 other m n less = grind (arith, less)

@@ -6,12 +6,12 @@ use Rattle.ent_tree.specs.declared.script.Script.{Script}
 use Rattle.ent_history.specs.declared.history.Told.{Told}
 use Rattle.ent_check.proofs.Accounts.{account_of, accounts_behind, behind_here, behind_some, nothing_behind}
 use Rattle.std.specs.List.{cons_option, list_any}
-use Rattle.ent_rules.specs.Account.{Account, accounts_from, commit_count, commit_number, has_committed}
-use Rattle.ent_rules.specs.Journal.{commits, journal_findings, journal_from, number_finding, unless}
-use Rattle.ent_rules.specs.Verdict.{first_of}
-use Rattle.ent_rules.specs.declared.finding.Finding.{Finding}
-use Rattle.ent_rules.specs.declared.finding.Rule.TheVariants as rules
-use Rattle.ent_rules.specs.declared.finding.Thing.TheVariants as things
+use Rattle.ent_history.specs.Account.{Account, accounts_from, commit_count, commit_number, has_committed}
+use Rattle.ent_history.specs.Journal.{commits, journal_findings, journal_from, number_finding, unless}
+use Rattle.ent_history.specs.Verdict.{first_of}
+use Rattle.ent_history.specs.declared.finding.Finding.{Finding}
+use Rattle.ent_history.specs.declared.finding.Rule.TheVariants as rules
+use Rattle.ent_history.specs.declared.finding.Thing.TheVariants as things
 
 -- a number stands among others
 abbrev pub among : List ℕ → ℕ → Bool

@@ -7,9 +7,9 @@ use Rattle.ent_semantics.specs.declared.answer.Fact.{Fact}
 use Rattle.ent_semantics.specs.declared.book.Member.{Member}
 use Rattle.ent_semantics.specs.Joint.{read_view_heads, read_view_posts}
 use Rattle.ent_semantics.specs.Serial.{ReadView}
-use Rattle.ent_rules.specs.Alike.{same_fact}
-use Rattle.ent_rules.specs.Joint.{stands_among}
-use Rattle.ent_rules.specs.Post.{are_met, is_offered, read_views_of}
+use Rattle.ent_history.specs.Alike.{same_fact}
+use Rattle.ent_history.specs.Joint.{stands_among}
+use Rattle.ent_history.specs.Post.{are_met, is_offered, read_views_of}
 use Rattle.ent_check.specs.Offers.{offer_of, offers_of}
 use Rattle.ent_check.specs.declared.offer.Offer.{Offer}
 use Rattle.ent_check.proofs.Lists.{all_same, and_assoc, any_same, or_assoc}

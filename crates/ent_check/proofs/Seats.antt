@@ -10,7 +10,7 @@ use Rattle.std.proofs.lemmas.List.Folds.{find-append}
 use Rattle.std.specs.Cmp.{unsigned_tied}
 use Rattle.ent_lists.specs.Elements.{and_both}
 use Rattle.ent_semantics.specs.declared.book.Member.{Member}
-use Rattle.ent_rules.specs.Placed.{Placed, member_at, stands_at}
+use Rattle.ent_history.specs.Placed.{Placed, member_at, stands_at}
 use Rattle.ent_check.specs.Seats.{AreSeatsOf, place_cmp, seat_of}
 
 same_number : (a b : ℕ) → is_eq (nat_cmp a b) ≡ (a == b)

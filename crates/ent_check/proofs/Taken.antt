@@ -8,7 +8,7 @@ use Rattle.ent_semantics.specs.declared.book.Member.{Member}
 use Rattle.ent_history.specs.declared.history.ToldJoint.{ToldJoint}
 use Rattle.ent_history.specs.declared.history.ToldMember.{ToldMember}
 use Rattle.ent_history.specs.Told.{joint_answer_of}
-use Rattle.ent_rules.specs.Placed.{Placed, members_from, placed, placed_from}
+use Rattle.ent_history.specs.Placed.{Placed, members_from, placed, placed_from}
 use Rattle.ent_check.specs.Seats.{AreSeatsOf, place_cmp}
 use Rattle.ent_check.proofs.Lists.{here, none_behind}
 

@@ -8,7 +8,7 @@ use Rattle.std.proofs.lemmas.List.Folds.{find-append}
 use Rattle.ent_semantics.specs.Entangled.{Valuation}
 use Rattle.ent_semantics.specs.declared.book.JointAnswer.{JointAnswer}
 use Rattle.ent_semantics.specs.declared.book.Member.{Member}
-use Rattle.ent_rules.specs.Placed.{Placed, member_at, members_from, placed, placed_from, stands_at}
+use Rattle.ent_history.specs.Placed.{Placed, member_at, members_from, placed, placed_from, stands_at}
 use Rattle.ent_check.specs.Seats.{seat_of}
 use Rattle.ent_check.specs.Told.{member_in, told_seat}
 

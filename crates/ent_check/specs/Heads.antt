@@ -6,7 +6,7 @@ use Rattle.std.specs.List.{list_any}
 use Rattle.ent_value.specs.declared.value.Value.{Value}
 use Rattle.ent_semantics.specs.Database.{same_name}
 use Rattle.ent_semantics.specs.declared.answer.Fact.{Fact}
-use Rattle.ent_rules.specs.Alike.{same_row}
+use Rattle.ent_history.specs.Alike.{same_row}
 
 -- a head, by where its relation and its row stand
 abbrev pub Head : Type 0

@@ -5,3 +5,8 @@ pub mod Heads
 pub mod Offers
 pub mod Order
 pub mod Told
+pub mod Sorts
+pub mod Closed
+pub mod Alike
+pub mod Laws
+pub mod Alone

@@ -3,7 +3,7 @@ use Rattle.std.specs.Prelude.{◌≡◌, ◌<◌, ℕ, List, [], IfSome, slice_g
 use Rattle.std.specs.BTreeMap.{BTreeMap, get}
 use Rattle.std.specs.List.{cons_option, filter, flat_map}
 use Rattle.std.specs.Ordering.{nat_cmp}
-use Rattle.ent_rules.specs.Account.{Account, committed_as}
+use Rattle.ent_history.specs.Account.{Account, committed_as}
 
 -- the transactions at these indices from 0, in their order
 abbrev pub accounts_at : List Account → List ℕ → List Account

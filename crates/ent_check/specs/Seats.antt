@@ -4,7 +4,7 @@ use Rattle.std.specs.BTreeMap.{BTreeMap, get}
 use Rattle.std.specs.Option.{option_map}
 use Rattle.std.specs.Ordering.{nat_cmp, ordering_then}
 use Rattle.std.specs.declared.cmp.Ordering.{Ordering}
-use Rattle.ent_rules.specs.Placed.{Placed, member_at}
+use Rattle.ent_history.specs.Placed.{Placed, member_at}
 
 -- places in order: the number of a transaction first, then that of its statement
 abbrev pub place_cmp : ℕ × ℕ → ℕ × ℕ → Ordering

@@ -1,7 +1,7 @@
 -- Members of joint answers by their numbers, and what is told of a place.
 use Rattle.std.specs.Prelude.{ℕ, List, Option}
 use Rattle.std.specs.Option.{option_and_then}
-use Rattle.ent_rules.specs.Placed.{Placed}
+use Rattle.ent_history.specs.Placed.{Placed}
 use Rattle.ent_semantics.specs.Entangled.{Valuation}
 use Rattle.ent_semantics.specs.Serial.{numbered}
 use Rattle.ent_semantics.specs.declared.book.JointAnswer.{JointAnswer}

@@ -1,7 +1,7 @@
 //! Answers, facts and rows that are the same.
 ghost use Rattle.std.specs.Prelude.{◌≡◌};
 ghost use Rattle.std.specs.Cmp.Lexicographic.{pointwise};
-ghost use Rattle.ent_rules.specs.Alike.{same_row, same_rows, same_fact, same_answer};
+ghost use Rattle.ent_history.specs.Alike.{same_row, same_rows, same_fact, same_answer};
 
 use ent_semantics::{Answer, Fact};
 use ent_value::Row;

@@ -2,7 +2,7 @@
 ghost use Rattle.std.specs.Prelude.{◌≡◌, ℕ, map};
 ghost use Rattle.std.specs.Option.{option_map};
 ghost use Rattle.ent_history.specs.Told.{joint_answer_of};
-ghost use Rattle.ent_rules.specs.Placed.{member_at, placed};
+ghost use Rattle.ent_history.specs.Placed.{member_at, placed};
 ghost use Rattle.ent_check.specs.Seats.{AreSeatsOf};
 ghost use Rattle.ent_check.specs.Told.{member_in, told_seat};
 ghost use Rattle.ent_semantics.specs.Entangled.{Valuation};
@@ -32,7 +32,7 @@ pub struct Groundings<'a> {
 impl<'a> Model for Groundings<'a> {
     ghost use Rattle.std.specs.Prelude.{List, map};
     ghost use Rattle.ent_history.specs.Told.{joint_answer_of};
-    ghost use Rattle.ent_rules.specs.Placed.{Placed, placed};
+    ghost use Rattle.ent_history.specs.Placed.{Placed, placed};
     ghost use Rattle.ent_check.specs.Seats.{AreSeatsOf};
 
     ghost Value = { List Placed };

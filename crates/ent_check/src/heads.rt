@@ -2,7 +2,7 @@
 ghost use Rattle.std.specs.Prelude.{◌≡◌, ◌||◌, IfOk, OnOk};
 ghost use Rattle.std.specs.List.{list_any};
 ghost use Rattle.ent_check.specs.Heads.{has};
-ghost use Rattle.ent_rules.specs.Post.{is_offered};
+ghost use Rattle.ent_history.specs.Post.{is_offered};
 ghost use Rattle.ent_semantics.specs.declared.answer.Fact.{Fact as Stated};
 
 use crate::offer::Offer;

@@ -5,10 +5,10 @@ ghost use Rattle.std.specs.List.{list_all, list_any};
 ghost use Rattle.ent_check.specs.Above.{is_above};
 ghost use Rattle.ent_check.specs.Seats.{AreSeatsOf, place_cmp};
 ghost use Rattle.ent_history.specs.Told.{joint_answer_of};
-ghost use Rattle.ent_rules.specs.Account.{accounts_from};
-ghost use Rattle.ent_rules.specs.Joint.{all_stand, is_statement_of, left_out, left_out_findings, members_findings};
-ghost use Rattle.ent_rules.specs.Placed.{Placed, placed};
-ghost use Rattle.ent_rules.specs.Verdict.{first_of};
+ghost use Rattle.ent_history.specs.Account.{accounts_from};
+ghost use Rattle.ent_history.specs.Joint.{all_stand, is_statement_of, left_out, left_out_findings, members_findings};
+ghost use Rattle.ent_history.specs.Placed.{Placed, placed};
+ghost use Rattle.ent_history.specs.Verdict.{first_of};
 ghost use Rattle.ent_semantics.specs.Book.{all_members};
 ghost use Rattle.ent_semantics.specs.Serial.{is_entangled};
 
@@ -16,8 +16,7 @@ use crate::journal::commit_number;
 use crate::member::{is_entangled, is_entangled_statement};
 use crate::seat::Seats;
 use crate::seating::seat_at;
-use ent_history::{Told, ToldJoint, ToldMember};
-use ent_rules::{Finding, Rule, Thing};
+use ent_history::{Finding, Rule, Thing, Told, ToldJoint, ToldMember};
 use ent_semantics::Member;
 use ent_tree::{Script, Statement};
 

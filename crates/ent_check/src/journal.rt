@@ -1,12 +1,11 @@
 //! The rule of the journal.
 ghost use Rattle.std.specs.Prelude.{◌≡◌, ◌++◌, [], IfOk, OnOk};
 ghost use Rattle.std.specs.List.{cons_option};
-ghost use Rattle.ent_rules.specs.Account.{accounts_from, commit_count, commit_number};
-ghost use Rattle.ent_rules.specs.Journal.{commits, is_next, journal_findings, number_finding};
-ghost use Rattle.ent_rules.specs.Verdict.{first_of};
+ghost use Rattle.ent_history.specs.Account.{accounts_from, commit_count, commit_number};
+ghost use Rattle.ent_history.specs.Journal.{commits, is_next, journal_findings, number_finding};
+ghost use Rattle.ent_history.specs.Verdict.{first_of};
 
-use ent_history::Told;
-use ent_rules::{Finding, Rule, Thing};
+use ent_history::{Finding, Rule, Thing, Told};
 use ent_semantics::Fate;
 use ent_tree::{End, Script};
 use std::alloc::{AllocError, Global};

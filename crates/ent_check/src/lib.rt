@@ -4,9 +4,15 @@
 //! order. Each finding has a line. Nothing is searched for: a grounding is looked up by the place of its statement and
 //! tested, each tuple among the rows of its sub-select's result, and each test; an answer is compared with the one that
 //! the report tells.
+//!
+//! Statements and transactions that the check of a report runs alone, each over the tables that the one before left.
+//!
+//! An entangled statement is answered under the grounding that the report tells; nothing is searched for. A law says
+//! that a closed form and the statement whose form it is have the same finding.
 #![tactic(auto)]
 
 mod alike;
+mod declared;
 mod facts;
 mod ground;
 mod groundings;
@@ -17,14 +23,21 @@ mod journal;
 mod line;
 mod member;
 mod offer;
+mod operation;
 mod order;
 mod post;
+mod replay_law;
+mod replay_offer;
 mod seat;
 mod seating;
+mod serial;
+mod statement;
 mod table;
 mod term;
+mod transaction;
 
 pub use alike::same_answer;
+pub use declared::Declared;
 pub use facts::{bindings_of, facts_of};
 pub use ground::{is_grounding, tables_of};
 pub use groundings::{Groundings, Seat};
@@ -34,6 +47,9 @@ pub use line::line_of;
 pub use offer::Offer;
 pub use order::commit_order;
 pub use post::post_finding;
+pub use replay_law::statements_are_found_as_their_forms;
 pub use seat::Seats;
 pub use seating::seats_of;
+pub use serial::{Replayed, replay};
+pub use statement::carry_out;
 pub use table::tables_finding;

@@ -3,10 +3,9 @@ ghost use Rattle.std.specs.Prelude.{◌≡◌, ℕ, ◌+◌, ◌<◌, ◌^◌, S
 ghost use Rattle.ent_semantics.specs.Database.{rows_named};
 ghost use Rattle.ent_history.specs.Lines.{answer_line, answer_lines, joint_line, joint_lines, member_line};
 ghost use Rattle.ent_history.specs.Lines.{opening_lines, script_lines, shown_lines, table_line, told_lines, tx_line};
-ghost use Rattle.ent_rules.specs.Verdict.{line_of};
+ghost use Rattle.ent_history.specs.Verdict.{line_of};
 
-use ent_history::{History, Shown, Told, ToldJoint};
-use ent_rules::Thing;
+use ent_history::{History, Shown, Thing, Told, ToldJoint};
 use ent_semantics::Answer;
 use ent_tree::{Opening, Script};
 use ent_value::Name;

@@ -1,8 +1,8 @@
 //! Which statements members of joint answers may be.
 ghost use Rattle.std.specs.Prelude.{◌≡◌, ◌&&◌, is_some};
 ghost use Rattle.std.specs.List.{list_any};
-ghost use Rattle.ent_rules.specs.Account.{accounts_from, commit_number};
-ghost use Rattle.ent_rules.specs.Joint.{is_entangled_one, is_statement_of};
+ghost use Rattle.ent_history.specs.Account.{accounts_from, commit_number};
+ghost use Rattle.ent_history.specs.Joint.{is_entangled_one, is_statement_of};
 ghost use Rattle.ent_semantics.specs.Serial.{is_entangled, numbered};
 
 use crate::journal::commit_number;

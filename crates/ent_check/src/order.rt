@@ -4,9 +4,9 @@ ghost use Rattle.std.specs.BTreeMap.{get};
 ghost use Rattle.std.specs.List.{AllByRecursion, cons_option};
 ghost use Rattle.std.specs.Ordering.{nat_cmp};
 ghost use Rattle.ent_check.specs.Order.{AreBelow, AreNumbered, accounts_at};
-ghost use Rattle.ent_rules.specs.Account.{accounts_from, commit_number, in_commit_order, is_number};
-ghost use Rattle.ent_rules.specs.Journal.{journal_findings};
-ghost use Rattle.ent_rules.specs.Verdict.{first_of};
+ghost use Rattle.ent_history.specs.Account.{accounts_from, commit_number, in_commit_order, is_number};
+ghost use Rattle.ent_history.specs.Journal.{journal_findings};
+ghost use Rattle.ent_history.specs.Verdict.{first_of};
 
 use crate::journal::{commit_count, commit_number};
 use ent_history::Told;

@@ -7,11 +7,11 @@ ghost use Rattle.ent_check.specs.Offers.{AreJoined, joint_in, offer_of};
 ghost use Rattle.ent_check.specs.Seats.{AreSeatsOf};
 ghost use Rattle.ent_check.specs.declared.offer.Offer.{Offer as Offered};
 ghost use Rattle.ent_history.specs.Told.{joint_answer_of};
-ghost use Rattle.ent_rules.specs.Account.{Account};
-ghost use Rattle.ent_rules.specs.Joint.{left_out_findings, members_findings};
-ghost use Rattle.ent_rules.specs.Placed.{placed};
-ghost use Rattle.ent_rules.specs.Post.{is_offered, post_findings};
-ghost use Rattle.ent_rules.specs.Verdict.{first_of};
+ghost use Rattle.ent_history.specs.Account.{Account};
+ghost use Rattle.ent_history.specs.Joint.{left_out_findings, members_findings};
+ghost use Rattle.ent_history.specs.Placed.{placed};
+ghost use Rattle.ent_history.specs.Post.{is_offered, post_findings};
+ghost use Rattle.ent_history.specs.Verdict.{first_of};
 ghost use Rattle.ent_semantics.specs.Book.{all_members};
 ghost use Rattle.ent_semantics.specs.Serial.{ReadView};
 
@@ -19,8 +19,7 @@ use crate::heads::{Heads, heads_of, is_head};
 use crate::joined::{Joined, joined_by, offers_of};
 use crate::offer::Offer;
 use crate::seat::Seats;
-use ent_history::ToldJoint;
-use ent_rules::{Finding, Rule, Thing};
+use ent_history::{Finding, Rule, Thing, ToldJoint};
 use ent_semantics::Fact;
 use std::alloc::{AllocError, Global};
 

@@ -1,7 +1,7 @@
 //! Where the members of joint answers stand.
 ghost use Rattle.std.specs.Prelude.{◌≡◌, ◌++◌, ◌∷◌, [], List, OnOk};
 ghost use Rattle.ent_check.specs.Seats.{AreSeatsOf};
-ghost use Rattle.ent_rules.specs.Placed.{Placed};
+ghost use Rattle.ent_history.specs.Placed.{Placed};
 
 use ent_semantics::Member;
 use std::alloc::AllocError;

@@ -3,7 +3,7 @@ ghost use Rattle.std.specs.Prelude.{◌≡◌, ◌++◌, List, map, IfOk, OnOk};
 ghost use Rattle.std.specs.BTreeMap.{get};
 ghost use Rattle.ent_check.specs.Seats.{AreSeatsOf, place_cmp};
 ghost use Rattle.ent_history.specs.Told.{joint_answer_of};
-ghost use Rattle.ent_rules.specs.Placed.{Placed, members_from, placed};
+ghost use Rattle.ent_history.specs.Placed.{Placed, members_from, placed};
 
 use crate::seat::{Seats, take_seat};
 use ent_history::{ToldJoint, ToldMember};

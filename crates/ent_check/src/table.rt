@@ -3,14 +3,13 @@ ghost use Rattle.std.specs.Prelude.{◌≡◌, ◌<◌, IfOk, length, map, slice
 ghost use Rattle.std.specs.Arc.{arc_value};
 ghost use Rattle.ent_lists.specs.Sets as set;
 ghost use Rattle.ent_form_laws.specs.Tables.{database_of};
-ghost use Rattle.ent_rules.specs.Table.{tables_findings};
-ghost use Rattle.ent_rules.specs.Verdict.{first_of};
+ghost use Rattle.ent_history.specs.Table.{tables_findings};
+ghost use Rattle.ent_history.specs.Verdict.{first_of};
 ghost use Rattle.ent_select.specs.Tables.{no_table, rows_in};
 
 use crate::alike::same_rows;
-use ent_history::Shown;
+use ent_history::{Finding, Rule, Shown, Thing};
 use ent_rel::Table;
-use ent_rules::{Finding, Rule, Thing};
 use ent_select::table_at;
 use ent_tree::Create;
 use ent_value::{Name, Row};

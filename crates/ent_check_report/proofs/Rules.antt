@@ -1,11 +1,11 @@
 -- The rules in their order: what is found of one comes before what is found of the next.
 use Rattle.std.proofs.Common.{◌≡◌, true, false, List, ◌++◌, sym, ap, ◌∙◌, is_some, Option, None}
 use Rattle.std.proofs.Common.{IfOk, Result, Ok, Err}
-use Rattle.ent_rules.specs.Verdict.{first_of}
-use Rattle.ent_rules.specs.declared.finding.Finding.{Finding}
+use Rattle.ent_history.specs.Verdict.{first_of}
+use Rattle.ent_history.specs.declared.finding.Finding.{Finding}
 use Rattle.ent_check.proofs.LeftOut.{first_kept}
 use Rattle.ent_check.proofs.Numbers.{first_none}
-use Rattle.ent_check_run.proofs.Next.{none_there}
+use Rattle.ent_check.proofs.Next.{none_there}
 
 -- a rule that isn't broken
 pub nothing_found : (own : List Finding) (finding : Option Finding) → finding ≡ first_of own

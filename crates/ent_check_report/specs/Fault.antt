@@ -1,8 +1,8 @@
 -- The number and the exit status of a fault, and what a verdict says.
 use Rattle.std.specs.Prelude.{ℕ, Bool, true, false, List, ◌++◌, codes, Result, Ok, Err}
 use Rattle.std.specs.Fmt.{decimal}
-use Rattle.ent_rules.specs.declared.finding.Rule.{Rule}
-use Rattle.ent_rules.specs.declared.finding.Rule.TheVariants as rules
+use Rattle.ent_history.specs.declared.finding.Rule.{Rule}
+use Rattle.ent_history.specs.declared.finding.Rule.TheVariants as rules
 use Rattle.ent_check_report.specs.declared.fault.CheckFault.{CheckFault}
 use Rattle.ent_check_report.specs.declared.fault.CheckFault.TheVariants.{ReadFault, TooLong, Memory}
 use Rattle.ent_check_report.specs.declared.verdict.Verdict.{Verdict}

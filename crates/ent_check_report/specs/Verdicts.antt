@@ -2,12 +2,12 @@
 use Rattle.std.specs.Prelude.{◌≡◌, ◌⊎◌, ℕ, List, Some, None}
 use Rattle.std.specs.Str.{IsUtf8}
 use Rattle.ent_history.specs.declared.history.History.{History}
-use Rattle.ent_history_form.specs.Fault.{IsNoReport}
-use Rattle.ent_history_form.specs.Stands.{Tells}
-use Rattle.ent_rules.specs.Verdict.{first_finding, line_of}
-use Rattle.ent_rules.specs.declared.finding.Finding.{Finding}
-use Rattle.ent_rules.specs.declared.finding.Rule.{Rule}
-use Rattle.ent_rules.specs.declared.finding.Rule.TheVariants.{Form}
+use Rattle.ent_history.specs.Fault.{IsNoReport}
+use Rattle.ent_history.specs.Stands.{Tells}
+use Rattle.ent_history.specs.Verdict.{first_finding, line_of}
+use Rattle.ent_history.specs.declared.finding.Finding.{Finding}
+use Rattle.ent_history.specs.declared.finding.Rule.{Rule}
+use Rattle.ent_history.specs.declared.finding.Rule.TheVariants.{Form}
 use Rattle.ent_check_report.specs.declared.verdict.Verdict.{Verdict}
 use Rattle.ent_check_report.specs.declared.verdict.Verdict.TheVariants.{Yes, No}
 

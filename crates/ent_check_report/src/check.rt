@@ -9,19 +9,18 @@ ghost use Rattle.ent_check_report.specs.declared.fault.CheckFault.TheVariants.{T
 ghost use Rattle.ent_form.specs.Catalogue.{schemas_of};
 ghost use Rattle.ent_form.specs.OpeningFault.{opening_fault};
 ghost use Rattle.ent_form.specs.ScriptFaults.{script_faults};
-ghost use Rattle.ent_rules.specs.Verdict.{first_finding, line_of};
-ghost use Rattle.ent_rules.specs.declared.finding.Finding.{Finding};
+ghost use Rattle.ent_history.specs.Verdict.{first_finding, line_of};
+ghost use Rattle.ent_history.specs.declared.finding.Finding.{Finding};
 ghost use Rattle.ent_value.specs.Watched.{IsUnmarked};
 
 use crate::fault::CheckFault;
 use crate::first::first_finding;
 use crate::verdict::Verdict;
 use ent_check::line_of;
-use ent_history::History;
+use ent_history::{History, Rule};
 use ent_report_laws::{found_lines_fit, told_histories_are_formed};
 use ent_report_reader::read_report;
-use ent_rules::Rule;
-use ent_stream::{StreamFault, read_whole};
+use ent_text::{StreamFault, read_whole};
 use ent_value::{Refusal, Watched};
 use std::alloc::{AllocError, Global};
 use std::io::Read;

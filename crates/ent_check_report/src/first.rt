@@ -2,24 +2,24 @@
 ghost use Rattle.std.specs.Prelude.{◌≡◌, ◌++◌, [], None, IfOk, map};
 ghost use Rattle.std.specs.List.{AllByRecursion};
 ghost use Rattle.ent_check.specs.Seats.{AreSeatsOf};
-ghost use Rattle.ent_check_run.specs.Alone.{IsResolved};
+ghost use Rattle.ent_check.specs.Alone.{IsResolved};
 ghost use Rattle.ent_form.specs.OpeningFault.{opening_fault};
 ghost use Rattle.ent_history.specs.Told.{joint_answer_of};
-ghost use Rattle.ent_rules.specs.Account.{accounts, in_commit_order};
-ghost use Rattle.ent_rules.specs.Joint.{left_out_findings, members_findings};
-ghost use Rattle.ent_rules.specs.Journal.{journal_findings};
-ghost use Rattle.ent_rules.specs.Placed.{placed};
-ghost use Rattle.ent_rules.specs.Post.{post_findings};
-ghost use Rattle.ent_rules.specs.Replay.{replay_findings, told_end, told_read_views};
-ghost use Rattle.ent_rules.specs.Table.{end_findings};
-ghost use Rattle.ent_rules.specs.Verdict.{first_finding, first_of};
+ghost use Rattle.ent_history.specs.Account.{accounts, in_commit_order};
+ghost use Rattle.ent_history.specs.Joint.{left_out_findings, members_findings};
+ghost use Rattle.ent_history.specs.Journal.{journal_findings};
+ghost use Rattle.ent_history.specs.Placed.{placed};
+ghost use Rattle.ent_history.specs.Post.{post_findings};
+ghost use Rattle.ent_history.specs.Replay.{replay_findings, told_end, told_read_views};
+ghost use Rattle.ent_history.specs.Table.{end_findings};
+ghost use Rattle.ent_history.specs.Verdict.{first_finding, first_of};
 ghost use Rattle.ent_semantics.specs.Book.{all_members};
 ghost use Rattle.ent_semantics.specs.Database.{opening_database};
 
-use ent_check::{Seats, joint_finding, journal_finding, post_finding, seats_of, tables_finding};
-use ent_check_run::{Replayed, replay};
-use ent_history::History;
-use ent_rules::Finding;
+use ent_check::{
+    Replayed, Seats, joint_finding, journal_finding, post_finding, replay, seats_of, tables_finding,
+};
+use ent_history::{Finding, History};
 use std::alloc::{AllocError, Global};
 
 /// What breaks the rules of groundings and answers, of postconditions and of tables first, where nothing breaks those

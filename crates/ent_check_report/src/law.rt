@@ -5,11 +5,11 @@ ghost use Rattle.ent_check_report.specs.Verdicts.{IsVerdict};
 ghost use Rattle.ent_check_report.specs.declared.verdict.Verdict.TheVariants.{Yes};
 ghost use Rattle.ent_history.specs.declared.history.History.{History};
 ghost use Rattle.ent_history.specs.Told.{book_of};
-ghost use Rattle.ent_history_form.specs.Stands.{Tells};
+ghost use Rattle.ent_history.specs.Stands.{Tells};
 ghost use Rattle.ent_semantics.specs.Book.{IsLegal};
 
+use ent_history::nothing_is_found_where_books_are_legal;
 use ent_report_laws::told_histories_are_formed;
-use ent_rules::nothing_is_found_where_books_are_legal;
 
 /// The verdict on a text is `yes` exactly where it is one of whole characters and tells of a legal book.
 pub fn reports_that_are_right_tell_of_legal_books()

@@ -2,7 +2,7 @@
 ghost use Rattle.std.specs.Prelude.{◌≡◌, Some};
 ghost use Rattle.ent_check_report.specs.Fault.{rule_word, verdict_text};
 
-use ent_rules::Rule;
+use ent_history::Rule;
 use std::fmt;
 
 /// What a check of a report answers.

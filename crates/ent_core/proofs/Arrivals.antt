@@ -7,13 +7,13 @@ use Rattle.ent_tree.specs.declared.declaration.Opening.{Opening}
 use Rattle.ent_form.specs.declared.catalogue.TableSchema.{TableSchema}
 use Rattle.ent_protocol.specs.State.{State, Submitted, Dormant, Member, members}
 use Rattle.ent_run.specs.Run.{Run}
-use Rattle.ent_transaction_table.specs.TransactionTable.{TransactionTable}
+use Rattle.ent_members.specs.TransactionTable.{TransactionTable}
 use Rattle.ent_protocol_laws.specs.Attempts.{AsksForRun}
 use Rattle.ent_coordination.specs.Pool.{Posted}
 use Rattle.ent_tables.specs.Stored.{Stored}
 use Rattle.ent_lists.specs.Elements.{in_contains, in_first, in_second, to_all, to_map}
 use Rattle.ent_protocol_laws.specs.Standing.{StandOnce, standing}
-use Rattle.ent_pool_laws.specs.Pooled.{IsPoolOf}
+use Rattle.ent_waits.specs.Pooled.{IsPoolOf}
 use Rattle.ent_core.specs.Store.{IsKept}
 
 abbrev IsWithin : ℕ → Dormant → Type 0

@@ -27,8 +27,8 @@ use Rattle.ent_tree.specs.declared.declaration.Opening.{Opening}
 use Rattle.ent_run.specs.Places.{IsAt, found}
 use Rattle.ent_run.specs.Run.{Run}
 use Rattle.ent_protocol.specs.State.{Submitted}
-use Rattle.ent_transaction_table.specs.TransactionTable.{TransactionTable}
-use Rattle.ent_pool_laws.specs.Pooled.{IsPoolOf}
+use Rattle.ent_members.specs.TransactionTable.{TransactionTable}
+use Rattle.ent_waits.specs.Pooled.{IsPoolOf}
 use Rattle.ent_core.specs.Store.{IsKept}
 use Rattle.ent_tables.specs.Stored.{Stored}
 use Rattle.ent_waits.proofs.Moving.{free_at_end}

@@ -21,7 +21,7 @@ use Rattle.ent_protocol.specs.Event.{Reply, Committed, Prepared}
 use Rattle.ent_protocol.specs.Member.{is_of, is_tx}
 use Rattle.ent_protocol.specs.Rollback.{is_among}
 use Rattle.ent_protocol.specs.State.{Change, State, Submitted, Member, first_of}
-use Rattle.ent_transaction_table.specs.ByNumber.{IsNumbered}
+use Rattle.ent_members.specs.ByNumber.{IsNumbered}
 use Rattle.ent_protocol_laws.specs.Attempts.{MayTakePart}
 use Rattle.ent_core.specs.Reply.{numbered_from}
 use Rattle.ent_core.proofs.TakenOut.{part_numbered}

@@ -44,7 +44,7 @@ use Rattle.ent_core.specs.declared.finish.Carried.{Carried}
 use Rattle.ent_core.specs.declared.finish.Carried.TheVariants as carried
 use Rattle.ent_core.specs.Begin.{IsUnposted}
 use Rattle.ent_coordination.specs.Pool.{Posted}
-use Rattle.ent_pool_laws.specs.Pooled.{IsPoolOf}
+use Rattle.ent_waits.specs.Pooled.{IsPoolOf}
 use Rattle.ent_core.proofs.Begun.{number_found, one_unposted, one_member}
 use Rattle.ent_core.proofs.Pooled.{kept_changing}
 

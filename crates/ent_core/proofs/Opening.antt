@@ -14,7 +14,7 @@ use Rattle.ent_protocol.specs.Reached.{opened, table_names}
 use Rattle.ent_protocol.specs.Member.{posted_by}
 use Rattle.ent_protocol.specs.State.{State, Submitted, Member}
 use Rattle.ent_run.specs.Run.{Run}
-use Rattle.ent_transaction_table.specs.TransactionTable.{TransactionTable}
+use Rattle.ent_members.specs.TransactionTable.{TransactionTable}
 use Rattle.ent_coordination.specs.Pool.{Posted}
 use Rattle.ent_tables.specs.Stored.{Stored, kinds_declared}
 use Rattle.ent_core.specs.Store.{IsKept}

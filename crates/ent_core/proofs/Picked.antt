@@ -1,6 +1,6 @@
 -- What is picked, and the job that is made of it.
 use Rattle.std.proofs.Common.{◌≡◌, List, Option, Some, None, sym, subst, ap, ◌∙◌}
-use Rattle.ent_components.specs.Component.{IsFirstToPick, IsPick, IsPickIn}
+use Rattle.ent_waits.specs.Component.{IsFirstToPick, IsPick, IsPickIn}
 use Rattle.ent_job.specs.Work.{IsJoint}
 use Rattle.ent_coordination.specs.Pool.{Posted}
 use Rattle.ent_protocol.specs.Job.{Job, Numbered}

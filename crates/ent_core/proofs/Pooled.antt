@@ -22,11 +22,11 @@ use Rattle.ent_protocol.specs.Run.{fresh, submitting}
 use Rattle.ent_protocol.specs.State.{State, Submitted, Dormant, Member, by_number}
 use Rattle.ent_protocol.specs.Uses.{entangled_uses}
 use Rattle.ent_protocol_laws.specs.Numbered.{from_by_number}
-use Rattle.ent_pool_laws.specs.Pooled.{IsPoolOf, is_of_none}
+use Rattle.ent_waits.specs.Pooled.{IsPoolOf, is_of_none}
 use Rattle.ent_core.proofs.Begun.{is_there, member_found, number_found}
-use Rattle.ent_pool_laws.proofs.Pooled.{joined_without, left_unposted, none_posted, pool_same, pool_without}
-use Rattle.ent_pool_laws.proofs.Pooled.{posted_adds}
-use Rattle.ent_pool_laws.proofs.Pooled.{replaced_unposted, submitted_more}
+use Rattle.ent_waits.proofs.Pooled.{joined_without, left_unposted, none_posted, pool_same, pool_without}
+use Rattle.ent_waits.proofs.Pooled.{posted_adds}
+use Rattle.ent_waits.proofs.Pooled.{replaced_unposted, submitted_more}
 
 -- ---- statements that leave one by one
 

@@ -16,7 +16,7 @@ use Rattle.ent_match.specs.declared.fault.PostFault.TheVariants as faults
 use Rattle.ent_match.specs.Same.{SameStatements}
 use Rattle.ent_members.specs.Changes.{posting as posting_member}
 use Rattle.ent_run.specs.Places.{Changes, found}
-use Rattle.ent_pool_laws.specs.Pooled.{IsPoolOf}
+use Rattle.ent_waits.specs.Pooled.{IsPoolOf}
 use Rattle.ent_protocol.specs.Begin.{Begins, holding, pool_with, posting, replaced}
 use Rattle.ent_protocol.specs.Event.{Reply}
 use Rattle.ent_protocol.specs.Event as replies

@@ -11,9 +11,9 @@ use Rattle.ent_coordination.specs.Pool.{Posted}
 use Rattle.ent_protocol.specs.Event.{Reply, Started}
 use Rattle.ent_protocol.specs.Run.{Starts, StartsWith, fresh, numbers_of, starting}
 use Rattle.ent_protocol.specs.State.{State, Submitted, Dormant, Member, by_number}
-use Rattle.ent_transaction_table.specs.TransactionTable.{TransactionTable}
+use Rattle.ent_members.specs.TransactionTable.{TransactionTable}
 use Rattle.ent_tables.specs.Stored.{Stored}
-use Rattle.ent_pool_laws.specs.Pooled.{IsPoolOf}
+use Rattle.ent_waits.specs.Pooled.{IsPoolOf}
 use Rattle.ent_core.specs.Store.{IsKept}
 
 abbrev numbers : List Dormant → List ℕ

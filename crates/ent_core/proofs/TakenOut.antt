@@ -17,9 +17,9 @@ use Rattle.ent_protocol.specs.Job.{Job, Work, One, Joint}
 use Rattle.ent_protocol.specs.Rollback.{Cause, dormant_by, fated_by, goes_with, is_among, is_joint_of}
 use Rattle.ent_protocol.specs.Rollback.{group_members, put_back, taken_out}
 use Rattle.ent_protocol.specs.State.{State, Submitted, Dormant, Member, Change, by_number, members}
-use Rattle.ent_transaction_table.specs.ByNumber.{IsNumbered}
-use Rattle.ent_transaction_table.specs.Leaving.{IsWithin, as_member}
-use Rattle.ent_transaction_table.specs.TransactionTable.{TransactionTable}
+use Rattle.ent_members.specs.ByNumber.{IsNumbered}
+use Rattle.ent_members.specs.Leaving.{IsWithin, as_member}
+use Rattle.ent_members.specs.TransactionTable.{TransactionTable}
 use Rattle.ent_semantics.specs.declared.book.Fated.{Fated}
 use Rattle.ent_semantics.specs.declared.book.JointAnswer.{JointAnswer}
 use Rattle.ent_semantics.specs.Serial.{numbered}
@@ -30,7 +30,7 @@ use Rattle.ent_coordination.specs.Pool.{Posted}
 use Rattle.ent_protocol.proofs.Numbers.{waiting_tx}
 use Rattle.ent_protocol_laws.proofs.Placed.{by_number_long}
 use Rattle.ent_tables.specs.Stored.{Stored}
-use Rattle.ent_pool_laws.specs.Pooled.{IsPoolOf}
+use Rattle.ent_waits.specs.Pooled.{IsPoolOf}
 use Rattle.ent_core.specs.Store.{IsKept}
 use Rattle.ent_core.specs.TakeOut.{MayLeave, is_joint_of_others}
 use Rattle.ent_core.proofs.Sorted.{all_by_number, among_by_number, distinct_if_apart, distinct_if_once}

@@ -1,6 +1,6 @@
 -- What is picked.
 use Rattle.std.specs.Prelude.{◌≡◌, List}
-use Rattle.ent_components.specs.Component.{IsFirstToPick}
+use Rattle.ent_waits.specs.Component.{IsFirstToPick}
 use Rattle.ent_coordination.specs.Pool.{Posted}
 use Rattle.ent_protocol.specs.Job.{Job}
 use Rattle.ent_protocol.specs.PoolEvents.{CanBePicked, joint_job}

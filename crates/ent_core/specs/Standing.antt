@@ -1,5 +1,5 @@
 -- Where transactions stand, in the words of the protocol.
-use Rattle.ent_next.specs.Turn.{turn_seen}
+use Rattle.ent_members.specs.Turn.{turn_seen}
 use Rattle.ent_protocol.specs.Lookup.{Standing}
 use Rattle.ent_protocol.specs.Lookup as lookups
 use Rattle.ent_core.specs.declared.standing.Standing.{Standing as Told}

@@ -6,10 +6,10 @@ use Rattle.ent_form.specs.declared.catalogue.TableSchema.{TableSchema}
 use Rattle.ent_form.specs.Catalogue.{schemas_of}
 use Rattle.ent_form.specs.OpeningFault.{opening_fault}
 use Rattle.ent_coordination.specs.Pool.{Posted}
-use Rattle.ent_pool_laws.specs.Pooled.{IsPoolOf}
+use Rattle.ent_waits.specs.Pooled.{IsPoolOf}
 use Rattle.ent_protocol.specs.State.{Submitted}
 use Rattle.ent_run.specs.Run.{Run}
-use Rattle.ent_transaction_table.specs.TransactionTable.{TransactionTable}
+use Rattle.ent_members.specs.TransactionTable.{TransactionTable}
 use Rattle.ent_protocol_laws.specs.Attempts.{AsksForRun}
 use Rattle.ent_tables.specs.Stored.{Stored, kinds_declared}
 

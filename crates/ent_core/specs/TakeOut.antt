@@ -4,8 +4,8 @@ use Rattle.std.specs.List.{AllByRecursion, IsDistinct, list_any}
 use Rattle.ent_members.specs.declared.run_attempts.RunAttempt.{RunAttempt}
 use Rattle.ent_members.specs.RunAttempts.{numbers_in}
 use Rattle.ent_protocol.specs.State.{State}
-use Rattle.ent_transaction_table.specs.ByNumber.{IsNumbered}
-use Rattle.ent_transaction_table.specs.Leaving.{IsWithin}
+use Rattle.ent_members.specs.ByNumber.{IsNumbered}
+use Rattle.ent_members.specs.Leaving.{IsWithin}
 use Rattle.ent_semantics.specs.declared.book.JointAnswer.{JointAnswer}
 
 -- one of these transactions is a member of a joint answer

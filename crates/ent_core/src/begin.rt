@@ -8,7 +8,7 @@ ghost use Rattle.ent_core.specs.Kept.{IsKeptState};
 ghost use Rattle.ent_core.specs.Reply.{reply_seen};
 ghost use Rattle.ent_match.specs.declared.fault.PostFault.TheVariants as post_faults;
 ghost use Rattle.ent_run.specs.Places.{IsAt};
-ghost use Rattle.ent_next.specs.Next.{next_seen};
+ghost use Rattle.ent_members.specs.Next.{next_seen};
 ghost use Rattle.ent_protocol.specs.Member.{Ordinary, RollsBack, active_member, next_of, posted_as};
 ghost use Rattle.ent_protocol.specs.Begin.{Begins};
 ghost use Rattle.ent_protocol.specs.Event as replies;
@@ -21,21 +21,19 @@ use crate::commit::commit;
 use crate::reply::Reply;
 use crate::store::Store;
 use crate::take_out::roll_back;
-use ent_components::unsafe_post;
 use ent_form::FormFault;
 use ent_group::Tx;
 use ent_headline::{begun_statements_are_work, used_tables_are_declared};
 use ent_job::{Job, Single, Work};
 use ent_match::{PostFault, Posted, same_statements_are_alike};
-use ent_members::{Member, Uses, entangled_uses, statement_uses};
-use ent_next::Next;
+use ent_members::{Cause, Member, Next, Uses, entangled_uses, statement_uses};
 use ent_protocol_laws::{
     attempts_stay_within, members_stand_by_number, transactions_are_counted,
     transactions_stand_once,
 };
 use ent_semantics::{Entangled, Statement};
-use ent_transaction_table::Cause;
 use ent_value::Value;
+use ent_waits::unsafe_post;
 use std::alloc::AllocError;
 use std::sync::Arc;
 
@@ -94,7 +92,7 @@ pub(crate) fn next_of(store: &Store, member: &Member) -> Result<Next, AllocError
     ensures next { IfOk result (λ next. next_seen next ≡ next_of store.now member.now) }
     ensures rolls_back { next_of store.now member.now ≡ RollsBack → IsOk result }
 {
-    ent_next::next_of(store.alloc, store.submitted.as_slice(), member)
+    ent_members::next_of(store.alloc, store.submitted.as_slice(), member)
 }
 
 /// The job of an ordinary statement that nobody blocks.

@@ -7,8 +7,8 @@ use crate::reply::Reply;
 use crate::store::Store;
 use crate::take_out::roll_back;
 use ent_form::FormFault;
+use ent_members::Cause;
 use ent_protocol_laws::{attempts_stay_within, transactions_are_counted, transactions_stand_once};
-use ent_transaction_table::Cause;
 use ent_waits::victim_of;
 
 /// Rolls back the group of the first member of the deadlock, where there is one. It takes no memory.

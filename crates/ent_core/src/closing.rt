@@ -12,7 +12,7 @@ use crate::reached::Core;
 use crate::store::Store;
 use ent_book::NamedTable;
 use ent_form::Catalogue;
-use ent_next::SubmittedScript;
+use ent_members::SubmittedScript;
 use ent_rel::Table;
 use ent_semantics::{Book, Fated};
 use ent_tree::Script;

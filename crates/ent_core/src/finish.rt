@@ -27,6 +27,7 @@ use ent_form::FormFault;
 use ent_group::Members;
 use ent_headline::{resolved_jobs_are_present, used_tables_are_declared};
 use ent_job::{Job, LentJobs, Single, Work};
+use ent_members::Cause;
 use ent_protocol_laws::{
     attempts_stay_within, lent_tables_are_declared, members_stand_by_number,
     transactions_are_counted, transactions_stand_once,
@@ -34,7 +35,6 @@ use ent_protocol_laws::{
 use ent_run::Run;
 use ent_semantics::Failure;
 use ent_tables::StoredTables;
-use ent_transaction_table::Cause;
 use ent_value::Refusal;
 use std::alloc::{AllocError, AllocFailed, Global};
 

@@ -13,12 +13,12 @@ ghost use Rattle.ent_protocol.specs.PoolEvents.{IsOutstandingJoint, IsPresentCom
 use crate::joining::join;
 use crate::reply::Reply;
 use crate::store::Store;
-use ent_components::is_present;
 use ent_eval::{Done, JobOutcome};
 use ent_job::Work;
 use ent_match::Posted;
 use ent_tree::Duplicate;
 use ent_value::{Sequence, Value};
+use ent_waits::is_present;
 use std::alloc::{AllocError, AllocFailed};
 
 /// Whether statements are posted just so, and exactly a component of the pool.

@@ -2,7 +2,7 @@
 ghost use Rattle.std.specs.Prelude.{◌≡◌, ◌++◌, OnErr, OnOk, filter, length, map, nat_eq};
 ghost use Rattle.std.specs.List.{IsDistinct};
 ghost use Rattle.ent_run.specs.Answered.{member_answers};
-ghost use Rattle.ent_pool_laws.specs.Pooled.{is_of_none};
+ghost use Rattle.ent_waits.specs.Pooled.{is_of_none};
 ghost use Rattle.ent_protocol.specs.PoolEvents.{joining, joint_members};
 
 use crate::store::Store;

@@ -11,13 +11,12 @@ ghost use Rattle.ent_core.specs.Obstacle.{AreBetween, IsBetween, IsHeldBack, IsO
 
 use crate::begin::{BeginRefusal, FreeMember, free_member, next_of, query_of};
 use crate::store::Store;
-use ent_components::post_fault;
 use ent_form::FormFault;
 use ent_group::Tx;
 use ent_match::{Demand, Posted, Unsafe, demand_of};
-use ent_members::{Conflict, Member, statement_uses};
-use ent_next::{Next, next_form};
+use ent_members::{Conflict, Member, Next, next_form, statement_uses};
 use ent_protocol_laws::members_stand_by_number;
+use ent_waits::post_fault;
 use std::alloc::AllocError;
 
 /// Why a member can't move now.

@@ -7,11 +7,11 @@ ghost use Rattle.ent_protocol.specs.PoolEvents.{IsPresentComponent, Picks, joint
 
 use crate::reply::Reply;
 use crate::store::Store;
-use ent_components::{joint_uses, pick as first_to_pick};
 use ent_headline::{picked_statements_fit, used_tables_are_declared};
 use ent_job::Job;
 use ent_match::Posted;
 use ent_value::Sequence;
+use ent_waits::{joint_uses, pick as first_to_pick};
 use std::alloc::AllocError;
 
 /// The job of a component over the tables as they stand.

@@ -4,7 +4,7 @@ ghost use Rattle.std.specs.Option.{option_map};
 ghost use Rattle.ent_core.specs.Begin.{IsFreeMember};
 ghost use Rattle.ent_core.specs.Kept.{IsKeptState};
 ghost use Rattle.ent_core.specs.Standing.{standing_seen};
-ghost use Rattle.ent_next.specs.Turn.{turn_seen};
+ghost use Rattle.ent_members.specs.Turn.{turn_seen};
 ghost use Rattle.ent_protocol.specs.Lookup as lookups;
 ghost use Rattle.ent_protocol.specs.Member.{active_member, next_of};
 ghost use Rattle.ent_protocol.specs.State.{Member as Seen};
@@ -13,8 +13,7 @@ use crate::begin::FreeMember;
 use crate::store::Store;
 use ent_form::FormFault;
 use ent_group::Tx;
-use ent_members::Member;
-use ent_next::{Turn, turn_of};
+use ent_members::{Member, Turn, turn_of};
 use ent_protocol_laws::transactions_stand_once;
 use ent_semantics::Fate;
 

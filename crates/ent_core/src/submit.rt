@@ -10,7 +10,7 @@ ghost use Rattle.ent_protocol.specs.Run.{Submits};
 use crate::reply::Reply;
 use crate::store::Store;
 use ent_form::{Catalogue, FormFault, resolve};
-use ent_next::SubmittedScript;
+use ent_members::SubmittedScript;
 use ent_protocol_laws::transactions_stand_once;
 use ent_semantics::{Known, Statement};
 use ent_tree::{MOST_SCRIPTS, MOST_STATEMENTS, Opening, Script};

@@ -3,19 +3,19 @@ ghost use Rattle.std.specs.Prelude.{◌≡◌, ◌+◌, ◌≤◌, List, filter,
 ghost use Rattle.ent_core.specs.TakeOut.{MayLeave, is_joint_of_any, is_joint_of_others};
 ghost use Rattle.ent_members.specs.RunAttempts.{numbers_in, run_attempt_of, run_attempts_in};
 ghost use Rattle.ent_members.specs.Order.{tx_of};
-ghost use Rattle.ent_pool_laws.specs.Pooled.{is_of_none};
+ghost use Rattle.ent_waits.specs.Pooled.{is_of_none};
 ghost use Rattle.ent_protocol.specs.Rollback.{group_numbers, rolled_back, taken_out};
 ghost use Rattle.ent_protocol.specs.Run.{ending, numbers_of};
 ghost use Rattle.ent_protocol.specs.State.{Member as Seen, by_number, members};
-ghost use Rattle.ent_transaction_table.specs.Cause.{cause_seen};
+ghost use Rattle.ent_members.specs.Cause.{cause_seen};
 ghost use Rattle.ent_protocol_laws.specs.Attempts.{StayWithin};
 ghost use Rattle.ent_protocol_laws.specs.Standing.{StandOnce};
 
 use crate::store::Store;
 use ent_group::{Members, Tx};
 use ent_match::Pool;
+use ent_members::Cause;
 use ent_semantics::JointAnswer;
-use ent_transaction_table::Cause;
 
 /// Whether one of these transactions is a member of a joint answer.
 fn is_joint_of(numbers: &Members, joint: &JointAnswer) -> bool

@@ -15,7 +15,7 @@ ghost use Rattle.ent_semantics.specs.declared.book.Fate.TheVariants.{Committed};
 use crate::ticket::Receipt;
 use ent_core::{Core, FreeMember, Standing, answers_copy};
 use ent_group::Tx;
-use ent_next::Turn;
+use ent_members::Turn;
 use ent_semantics::{Answer, Entry, Fate};
 use ent_value::Sequence;
 use std::alloc::{AllocError, Global};

@@ -1,3 +1,10 @@
+pub mod Runs
+pub mod NotesTold
+pub mod Groups
+pub mod Keeping
+pub mod Standing
+pub mod Owned
+pub mod Shared
 pub mod Tries
 pub mod Turned
 pub mod Told

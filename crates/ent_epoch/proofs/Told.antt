@@ -13,7 +13,7 @@ use Rattle.ent_semantics.specs.Database.{Database}
 use Rattle.ent_semantics.specs.Form.{Tables}
 use Rattle.ent_semantics.specs.Serial.{numbered}
 use Rattle.ent_semantics.specs.declared.book.Entry.{Entry}
-use Rattle.ent_commit_laws.specs.Commits.{GoesOnBy, committed_by}
+use Rattle.ent_serializability.specs.Commits.{GoesOnBy, committed_by}
 use Rattle.ent_protocol.specs.Event.{Event, Recall, Recalled, Reply, StartRun}
 use Rattle.ent_protocol.specs.Reached.{LeadsTo, named_tables, opened, settled, table_names}
 use Rattle.ent_protocol.specs.State.{State}
@@ -23,7 +23,7 @@ use Rattle.ent_feed.specs.declared.group.Group.{Group}
 use Rattle.ent_feed.specs.Feed.{Feed}
 use Rattle.ent_feed.specs.Group.{after_changes, after_groups}
 use Rattle.ent_feed.specs.Telling.{AreTold, all_commits, commits_of, settled_database}
-use Rattle.ent_commit_notes.specs.Telling.{HaveTickets, TellsRest, telling_at}
+use Rattle.ent_epoch.specs.Telling.{HaveTickets, TellsRest, telling_at}
 use Rattle.ent_waiting.specs.declared.waiter.Submission.{Submission}
 use Rattle.ent_epoch.specs.Epoch.{Epoch, Publishes, Takes}
 use Rattle.ent_epoch.specs.OneRun.{MakesRun}

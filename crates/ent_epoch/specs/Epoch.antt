@@ -16,7 +16,7 @@ use Rattle.ent_waiting.specs.declared.waiter.Submission.{Submission}
 use Rattle.ent_feed.specs.Feed.{Feed}
 use Rattle.ent_feed.specs.Group.{AreNumbered}
 use Rattle.ent_feed.specs.declared.group.Group.{Group}
-use Rattle.ent_commit_notes.specs.Telling.{KeepsUp, Telling, TellsRest, telling_at}
+use Rattle.ent_epoch.specs.Telling.{KeepsUp, Telling, TellsRest, telling_at}
 
 pub record Epoch : Type 0 where
   -- epochs are counted

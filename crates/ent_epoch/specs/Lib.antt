@@ -1,3 +1,6 @@
+pub mod Notes
+pub mod Publishing
+pub mod Telling
 pub mod OneRun
 pub mod Epoch
 pub mod Told

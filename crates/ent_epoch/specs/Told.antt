@@ -6,7 +6,7 @@ use Rattle.ent_protocol.specs.Reached.{named_tables, opened, table_names}
 use Rattle.ent_feed.specs.declared.group.Group.{Group}
 use Rattle.ent_feed.specs.Group.{after_groups}
 use Rattle.ent_feed.specs.Telling.{all_commits, commits_of, settled_database}
-use Rattle.ent_commit_notes.specs.Telling.{HaveTickets}
+use Rattle.ent_epoch.specs.Telling.{HaveTickets}
 use Rattle.ent_epoch.specs.Epoch.{Epoch}
 
 -- An epoch goes on, and no more of it is told: tickets and entries of the journal may come behind others.

@@ -13,7 +13,7 @@ ghost use Rattle.ent_form.specs.declared.fault.FormFault.{FormFault as FormFault
 ghost use Rattle.ent_protocol.specs.Event.{Full as IsFull, Faulty as IsFaulty, Submit, Submitted};
 ghost use Rattle.ent_protocol.specs.Lookup.{standing};
 ghost use Rattle.ent_protocol.specs.Reached.{CanClose, book_of, settled};
-ghost use Rattle.ent_commit_notes.specs.Telling.{KeepsUp, Telling as TellingSeen, groups_due, telling_at};
+ghost use Rattle.ent_epoch.specs.Telling.{KeepsUp, Telling as TellingSeen, groups_due, telling_at};
 ghost use Rattle.ent_protocol.specs.Step.{Step};
 ghost use Rattle.ent_renewal.specs.Renewal.{GoesOn, IsRenewed, rows_together};
 ghost use Rattle.ent_sched.specs.Onward.{LeadsOn};
@@ -30,7 +30,7 @@ use crate::law::journals_go_on;
 use crate::one_run::run_to_end;
 use crate::script::for_one_run;
 use crate::turn::{NotTurned, can_close, exchange, next_core};
-use ent_commit_notes::{Telling, entries_have_tickets, tellings_keep_up, told_tables_are_settled};
+use crate::{Telling, entries_have_tickets, tellings_keep_up, told_tables_are_settled};
 use ent_core::{Core, NotDone, Reply, Standing};
 use ent_feed::{Feed, NoNumber};
 use ent_form::FormFault;

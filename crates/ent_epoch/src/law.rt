@@ -21,11 +21,11 @@ ghost use Rattle.ent_tree.specs.declared.declaration.Opening.{Opening};
 ghost use Rattle.ent_tree.specs.declared.script.Script.{Script};
 ghost use Rattle.ent_waiting.specs.declared.waiter.Submission.{Submission};
 
-use ent_commit_laws::journals_grow_by_commits;
 use ent_feed::{groups_give_the_journal, groups_give_the_settled_tables};
 use ent_form::FormFault;
 use ent_protocol_laws::{attempts_stay_within, steps_go_on};
 use ent_sched::events_use_up_tries;
+use ent_serializability::journals_grow_by_commits;
 use ent_termination::events_lead_on;
 
 /// Where each script asks for one run, only those have a try left who wait for a run, one each; and the present run is

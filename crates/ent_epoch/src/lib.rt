@@ -1,3 +1,9 @@
+//! The telling of commits: how far a core is told of, and the groups that tell the rest.
+//!
+//! A [`Telling`] knows up to where a core is told of. As the watcher of a run it notes each commit, with the settled
+//! tables behind it. A caller may rely on it that the groups that it makes tell of all that was committed since, one
+//! group for each commit, or one for all of them where memory ran out while it noted.
+//!
 //! An epoch: a core whose transactions are those of tickets, each for one run.
 //!
 //! An [`Epoch`] takes a batch of scripts, at most as many as a run has members, and makes one run of them, to its end.
@@ -9,12 +15,21 @@
 
 mod epoch;
 mod law;
+mod notes;
+mod notes_law;
 mod one_run;
+mod publishing;
 mod script;
+mod telling;
 mod turn;
 
 pub use epoch::{Epoch, NotClosed, NotSubmitted};
 pub use law::groups_tell_of_epochs;
+pub use notes_law::{
+    entries_have_tickets, groups_of_notes_tell, notes_are_of_what_was_told, tellings_keep_up,
+    told_tables_are_settled,
+};
 pub use one_run::run_to_end;
 pub use script::for_one_run;
+pub use telling::Telling;
 pub use turn::NotTurned;

@@ -1,12 +1,12 @@
 //! One run of a core, whose scripts ask for one run each.
 ghost use Rattle.std.specs.Prelude.{◌≡◌, ℕ, [], IfErr, IfOk, OnOk};
 ghost use Rattle.ent_epoch.specs.OneRun.{AreForOneRun, EndsRun, MakesRun, StartsRun};
-ghost use Rattle.ent_commit_notes.specs.Telling.{KeepsUp, Telling as TellingSeen};
+ghost use Rattle.ent_epoch.specs.Telling.{KeepsUp, Telling as TellingSeen};
 ghost use Rattle.ent_headline.specs.Resolved.{resolved_forms};
 ghost use Rattle.ent_sched.specs.Onward.{LeadsOn};
 
 use crate::law::batches_go_on;
-use ent_commit_notes::{Telling, tellings_keep_up};
+use crate::{Telling, tellings_keep_up};
 use ent_form::FormFault;
 use ent_sched::{Core, Counted, run_watched};
 use ent_termination::{events_keep_the_input, events_lead_on, jobs_are_lent_by_replies};

@@ -4,7 +4,7 @@ use crate::out::{Out, Stop};
 use ent_book::append_fate;
 use ent_core::{Core, Standing};
 use ent_group::Tx;
-use ent_next::Turn;
+use ent_members::Turn;
 use ent_rel::Table;
 use ent_semantics::Fate;
 use ent_trace::{put_answers, put_rows};

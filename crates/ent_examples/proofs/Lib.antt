@@ -1,3 +1,9 @@
+pub mod Conflicting
+pub mod Rows
+pub mod Joined
+pub mod OneJoined
+pub mod Traced
+pub mod Operations
 pub mod Lists
 pub mod Good
 pub mod Refused

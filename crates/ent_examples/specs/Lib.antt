@@ -1,3 +1,6 @@
+pub mod Beginning
+pub mod Joining
+pub mod SerialTrace
 pub mod Wish
 pub mod Written
 pub mod Friends

@@ -1,3 +1,8 @@
+//! Second definitions of events and of the serial run, which a reader believes sooner than the first ones.
+//!
+//! The functions here have no body: their contracts say that these definitions and those of ent_protocol and
+//! ent_semantics say the same.
+//!
 //! Examples of the definitions: a legal book, books that aren't, pools, and plays of a core, event by event.
 //!
 //! The contract of a play says that its events lead, with these replies, from an opening's own state to a state, and
@@ -6,11 +11,16 @@
 //! the laws of resolved forms say something. Nothing here has a body that does more than call laws.
 #![tactic(auto)]
 
+mod event_law;
 mod friends;
 mod play;
 mod pool;
 mod resolved_play;
 
+pub use event_law::{
+    begin_goes_by_rows, joint_answers_join_groups, oracles_answer_in_order,
+    serial_runs_are_read_off_traces,
+};
 pub use friends::{friends_may_fly_together, oracle_answers_are_counted, wrong_books_are_refused};
 pub use play::{
     component_grows, component_shrinks_back, failure_takes_the_group_back,

@@ -1,3 +1,7 @@
+pub mod Statements
+pub mod Offers
+pub mod Noted
+pub mod Ranged
 pub mod Numbers
 pub mod Widths
 pub mod FittedRows

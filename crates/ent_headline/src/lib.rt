@@ -1,3 +1,9 @@
+//! What resolved entangled statements offer, and where their variables get their values.
+//!
+//! [`resolved_heads_are_distinct`]: the heads of each are of distinct relations, so each post unifies with one of them
+//! at most, as a plan and a joint job require. [`resolved_variables_are_ranged`]: each written variable stands in a
+//! tuple of some sub-select, so rows of tables give its values.
+//!
 //! The headline: the book of every state that a core can reach is legal, so its committed transactions are serializable
 //! with an oracle. [`resolved_runs_are_legal`] says so, for scripts that `resolve` resolves over an opening without a
 //! fault of form.
@@ -13,12 +19,14 @@
 
 mod form;
 mod kinds;
+mod offer_law;
 mod reached;
 mod run;
 mod work;
 
 pub use form::resolved_forms_are_faithful;
 pub use kinds::{host_variables_have_kinds, next_statements_fit, resolved_runs_keep_kinds};
+pub use offer_law::{resolved_heads_are_distinct, resolved_variables_are_ranged};
 pub use reached::{
     posted_heads_are_distinct, posted_variables_are_ranged, submitted_forms_are_resolved,
 };

@@ -8,7 +8,7 @@ ghost use Rattle.ent_protocol.specs.Run.{Forms};
 ghost use Rattle.ent_protocol.specs.State.{State, Submitted};
 ghost use Rattle.ent_headline.specs.Resolved.{resolved_forms};
 
-use ent_offer_laws::{resolved_heads_are_distinct, resolved_variables_are_ranged};
+use crate::{resolved_heads_are_distinct, resolved_variables_are_ranged};
 
 /// In every state that is reached the form of each script that was submitted is what it resolves to over the opening.
 pub fn submitted_forms_are_resolved<F>()

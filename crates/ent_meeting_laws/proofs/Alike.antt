@@ -11,8 +11,8 @@ use Rattle.ent_value.specs.declared.value.Value.{Value}
 use Rattle.ent_semantics.specs.declared.answer.Fact.{Fact}
 use Rattle.ent_semantics.specs.Database.{same_name}
 use Rattle.ent_semantics.specs.Names.{name_itself}
-use Rattle.ent_parties.specs.Pattern.{may_be_one, may_meet}
-use Rattle.ent_parties.specs.declared.pattern.Pattern.{Pattern}
+use Rattle.ent_meetings.specs.Pattern.{may_be_one, may_meet}
+use Rattle.ent_meetings.specs.declared.pattern.Pattern.{Pattern}
 use Rattle.ent_meeting_laws.specs.Cover.{Covers}
 
 -- each known term has that value

@@ -15,11 +15,11 @@ use Rattle.ent_semantics.specs.Book.{IsLegal, all_members, book_read_views}
 use Rattle.ent_semantics.specs.Database.{Database, Environment, opening_database}
 use Rattle.ent_semantics.specs.Joint.{member_of}
 use Rattle.ent_semantics.specs.Serial.{Turn, numbered}
-use Rattle.ent_parties.specs.Meeting.{IsClosed, is_met, offers}
-use Rattle.ent_parties.specs.Party.{TextView, party_of, view_demands, view_offers}
-use Rattle.ent_parties.specs.Pattern.{may_meet}
-use Rattle.ent_parties.specs.declared.party.Party.{Party}
-use Rattle.ent_parties.specs.declared.pattern.Pattern.{Pattern}
+use Rattle.ent_meetings.specs.PartyMeeting.{IsClosed, is_met, offers}
+use Rattle.ent_meetings.specs.Party.{TextView, party_of, view_demands, view_offers}
+use Rattle.ent_meetings.specs.Pattern.{may_meet}
+use Rattle.ent_meetings.specs.declared.party.Party.{Party}
+use Rattle.ent_meetings.specs.declared.pattern.Pattern.{Pattern}
 use Rattle.ent_meeting_laws.specs.Answered.{KeepsTogether}
 use Rattle.ent_meeting_laws.specs.Known.{demands_at, known_before, offers_at, view_at, viewed}
 use Rattle.ent_meeting_laws.proofs.Partners.{met_by, one_script, of_book, of_turn}

@@ -17,9 +17,9 @@ use Rattle.ent_semantics.specs.Entangled.{Valuation, condition_posts, head_terms
 use Rattle.ent_semantics.specs.Entangled.{term_worth, variable_value, written_variables}
 use Rattle.ent_semantics.specs.Term.{known_value as worth_of, no_value}
 use Rattle.std.specs.Prelude.{unwrap_or}
-use Rattle.ent_parties.specs.Known.{known_term, known_value}
-use Rattle.ent_parties.specs.Party.{TextView, condition_demands, offered_in, view_demands, view_offers}
-use Rattle.ent_parties.specs.declared.pattern.Pattern.{Pattern}
+use Rattle.ent_meetings.specs.Known.{known_term, known_value}
+use Rattle.ent_meetings.specs.Party.{TextView, condition_demands, offered_in, view_demands, view_offers}
+use Rattle.ent_meetings.specs.declared.pattern.Pattern.{Pattern}
 use Rattle.ent_meeting_laws.specs.Cover.{Covers, IsCovered}
 use Rattle.ent_meeting_laws.specs.Known.{Agrees}
 

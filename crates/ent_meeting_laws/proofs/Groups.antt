@@ -11,10 +11,10 @@ use Rattle.ent_semantics.specs.declared.book.JointAnswer.{JointAnswer}
 use Rattle.ent_semantics.specs.declared.book.Member.{Member as JointMember}
 use Rattle.ent_semantics.specs.Joint.{member_of}
 use Rattle.ent_semantics.specs.Serial.{ReadView, numbered}
-use Rattle.ent_parties.specs.Meeting.{IsClosed, is_met, offers}
-use Rattle.ent_parties.specs.Party.{party_of, view_demands}
-use Rattle.ent_parties.specs.declared.party.Party.{Party}
-use Rattle.ent_parties.specs.declared.pattern.Pattern.{Pattern}
+use Rattle.ent_meetings.specs.PartyMeeting.{IsClosed, is_met, offers}
+use Rattle.ent_meetings.specs.Party.{party_of, view_demands}
+use Rattle.ent_meetings.specs.declared.party.Party.{Party}
+use Rattle.ent_meetings.specs.declared.pattern.Pattern.{Pattern}
 use Rattle.ent_protocol.specs.Reached.{live_joints, scripts_of}
 use Rattle.ent_protocol.specs.Rollback.{is_among, is_joint_of}
 use Rattle.ent_protocol.specs.Member.{is_of, is_tx}

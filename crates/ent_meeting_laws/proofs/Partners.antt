@@ -10,9 +10,9 @@ use Rattle.ent_semantics.specs.Book.{IsLegal, book_read_views}
 use Rattle.ent_semantics.specs.Database.{Database, opening_database}
 use Rattle.ent_semantics.specs.Joint.{IsGood, member_of}
 use Rattle.ent_semantics.specs.Serial.{ReadView, Turn, numbered}
-use Rattle.ent_parties.specs.Party.{TextView, view_demands, view_offers}
-use Rattle.ent_parties.specs.Pattern.{may_meet}
-use Rattle.ent_parties.specs.declared.pattern.Pattern.{Pattern}
+use Rattle.ent_meetings.specs.Party.{TextView, view_demands, view_offers}
+use Rattle.ent_meetings.specs.Pattern.{may_meet}
+use Rattle.ent_meetings.specs.declared.pattern.Pattern.{Pattern}
 use Rattle.ent_meeting_laws.specs.Answered.{IsMetAmong}
 use Rattle.ent_meeting_laws.specs.Known.{IsKnownThere, demands_at, known_before, offers_at, view_at, viewed}
 use Rattle.ent_meeting_laws.proofs.Alike.{rows_may_meet}

@@ -5,9 +5,9 @@ use Rattle.ent_lists.specs.Elements.{In, contains_in, in_contains, in_either, in
 use Rattle.ent_tree.specs.declared.script.Script.{Script}
 use Rattle.ent_tree.specs.declared.script.Statement.{Statement}
 use Rattle.ent_semantics.specs.Database.{Environment, nothing_bound}
-use Rattle.ent_parties.specs.Known.{known_after}
-use Rattle.ent_parties.specs.Party.{TextView, text_view, text_views}
-use Rattle.ent_parties.specs.declared.pattern.Pattern.{Pattern}
+use Rattle.ent_meetings.specs.Known.{known_after}
+use Rattle.ent_meetings.specs.Party.{TextView, text_view, text_views}
+use Rattle.ent_meetings.specs.declared.pattern.Pattern.{Pattern}
 use Rattle.ent_meeting_laws.specs.Known.{known_after_all, view_at, viewed}
 
 -- the statement behind so many others, with what is known before it

@@ -32,7 +32,7 @@ use Rattle.ent_semantics.specs.Serial.{read_views, script_read_views, script_run
 use Rattle.ent_semantics.specs.Serial.{Run, seen_from, with_answer}
 use Rattle.ent_semantics.specs.Statement.{statement_meaning, table_worth}
 use Rattle.ent_semantics.specs.Term.{expression_value, known_value as worth_of, table_columns}
-use Rattle.ent_parties.specs.Known.{forgotten, known_after, known_after_binding, known_after_items, known_after_set}
+use Rattle.ent_meetings.specs.Known.{forgotten, known_after, known_after_binding, known_after_items, known_after_set}
 use Rattle.ent_meeting_laws.specs.Known.{Agrees, IsKnownThere, known_after_all, known_before}
 
 one_value : (a b : Value) → Some a ≡ Some b → a ≡ b

@@ -7,9 +7,9 @@ use Rattle.ent_tree.specs.declared.script.Statement.{Statement}
 use Rattle.ent_tree.specs.declared.script.Statement.TheVariants.{Entangled}
 use Rattle.ent_semantics.specs.Database.{Name, Environment, nothing_bound}
 use Rattle.ent_semantics.specs.Serial.{ReadView, numbered}
-use Rattle.ent_parties.specs.Known.{known_after}
-use Rattle.ent_parties.specs.Party.{TextView, text_view, view_demands, view_offers}
-use Rattle.ent_parties.specs.declared.pattern.Pattern.{Pattern}
+use Rattle.ent_meetings.specs.Known.{known_after}
+use Rattle.ent_meetings.specs.Party.{TextView, text_view, view_demands, view_offers}
+use Rattle.ent_meetings.specs.declared.pattern.Pattern.{Pattern}
 
 -- each host variable that is known has that value
 abbrev pub Agrees : Environment → Environment → Type 0

@@ -4,9 +4,9 @@ use Rattle.std.specs.List.{filter, filter_map}
 use Rattle.ent_tree.specs.declared.script.Script.{Script}
 use Rattle.ent_tree.specs.declared.script.Statement.{Statement}
 use Rattle.ent_semantics.specs.Serial.{numbered}
-use Rattle.ent_parties.specs.Meeting.{offers}
-use Rattle.ent_parties.specs.Party.{party_of}
-use Rattle.ent_parties.specs.declared.pattern.Pattern.{Pattern}
+use Rattle.ent_meetings.specs.PartyMeeting.{offers}
+use Rattle.ent_meetings.specs.Party.{party_of}
+use Rattle.ent_meetings.specs.declared.pattern.Pattern.{Pattern}
 use Rattle.ent_protocol.specs.Member.{is_of}
 use Rattle.ent_protocol.specs.Reached.{scripts_of}
 use Rattle.ent_protocol.specs.State.{State, Member, members}

@@ -7,10 +7,10 @@ use Rattle.std.proofs.lemmas.List.{append-nil}
 use Rattle.std.proofs.lemmas.List.Elements.{filter_map-append}
 use Rattle.std.proofs.lemmas.List.Sums.{AllPass-from_list_all, sum_by-append, sum_by-cons}
 use Rattle.ent_lists.specs.Elements.{In, and_both, any_none, in_contains, in_either, in_first, neither, same_number, turned}
-use Rattle.ent_parties.specs.Meeting.{offers, ways}
-use Rattle.ent_parties.specs.Pattern.{may_meet}
-use Rattle.ent_parties.specs.declared.party.Party.{Party}
-use Rattle.ent_parties.specs.declared.pattern.Pattern.{Pattern}
+use Rattle.ent_meetings.specs.PartyMeeting.{offers, ways}
+use Rattle.ent_meetings.specs.Pattern.{may_meet}
+use Rattle.ent_meetings.specs.declared.party.Party.{Party}
+use Rattle.ent_meetings.specs.declared.pattern.Pattern.{Pattern}
 use Rattle.ent_meetings.specs.Group.{demands_of, is_served_once, may_come, serves}
 use Rattle.ent_meetings.specs.Waiting.{Waiting, named, party_at}
 use Rattle.ent_meetings.specs.Widening.{IsServed, IsWidened}

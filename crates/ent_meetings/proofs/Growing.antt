@@ -3,7 +3,7 @@ use Rattle.std.proofs.Common.{◌≡◌, ◌≢◌, ◌<◌, ℕ, true, List, []
 use Rattle.std.proofs.lemmas.List.{append-nil, length-append, length_push}
 use Rattle.ent_group.specs.declared.members.TheConstants.{MOST_MEMBERS}
 use Rattle.ent_lists.specs.Elements.{In, pairs_behind}
-use Rattle.ent_parties.specs.declared.party.Party.{Party}
+use Rattle.ent_meetings.specs.declared.party.Party.{Party}
 use Rattle.ent_meetings.specs.Gathering.{Grows, IsGathering, IsRunnable}
 use Rattle.ent_meetings.specs.Group.{may_come, seen}
 use Rattle.ent_meetings.specs.Waiting.{Waiting, named, party_at}

@@ -3,7 +3,7 @@ use Rattle.std.proofs.Common.{◌≡◌, ◌++◌, ◌∷◌, [], ℕ, List, map
 use Rattle.std.proofs.Common.{◌⊎◌, inl, inr}
 use Rattle.std.specs.Global.{Vec}
 use Rattle.ent_lists.specs.Elements.{in_either, in_first, in_second, in_contains, contains_in, map_joined}
-use Rattle.ent_parties.specs.Meeting.{IsClear}
+use Rattle.ent_meetings.specs.PartyMeeting.{IsClear}
 use Rattle.ent_meetings.specs.Meeting.{HasOneOf, IsMeeting, IsWithin}
 use Rattle.ent_meetings.specs.Search.{AreCleared, IsStand, IsTaken, found_of}
 use Rattle.ent_meetings.specs.SearchSteps.{IsPast, Moves}

@@ -1,3 +1,5 @@
+pub mod Bindings
+mod Offered
 pub mod EntryOrder
 pub mod Posted
 pub mod Agreeing

@@ -8,8 +8,8 @@ use Rattle.std.proofs.lemmas.List.{length_push}
 use Rattle.std.proofs.lemmas.Map.Made.{IsDistinct-from_AllPairs, length-le_from_is_member}
 use Rattle.ent_group.specs.declared.members.TheConstants.{MOST_MEMBERS}
 use Rattle.ent_lists.specs.Elements.{In, Pairs, any_in, any_some, clash, in_either, pairs_behind, pairs_index, turned}
-use Rattle.ent_parties.specs.Meeting.{is_met, ways}
-use Rattle.ent_parties.specs.declared.pattern.Pattern.{Pattern}
+use Rattle.ent_meetings.specs.PartyMeeting.{is_met, ways}
+use Rattle.ent_meetings.specs.declared.pattern.Pattern.{Pattern}
 use Rattle.ent_meetings.specs.Group.{demands_of, first_unmet}
 use Rattle.ent_meetings.specs.Meeting.{HasOneOf, IsClosedWith, IsWithin}
 use Rattle.ent_meetings.specs.Stand.{IsPassed}

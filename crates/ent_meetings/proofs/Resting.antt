@@ -5,7 +5,7 @@ use Rattle.std.specs.Ordering.{nat_cmp}
 use Rattle.std.specs.declared.cmp.Ordering.TheVariants.{Less}
 use Rattle.std.proofs.lemmas.Bool.{both_ways, cases_lt}
 use Rattle.std.proofs.lemmas.Cmp.{nat_list_cmp_total}
-use Rattle.ent_parties.specs.Meeting.{IsClear}
+use Rattle.ent_meetings.specs.PartyMeeting.{IsClear}
 use Rattle.ent_meetings.specs.Meeting.{HasOneOf, IsLonely, IsMeeting}
 use Rattle.ent_meetings.specs.Search.{AreCleared, IsFound, IsFurther, IsStand, IsTaken, found_of, place_of}
 use Rattle.ent_meetings.specs.SearchSteps.{IsRest}

@@ -9,10 +9,10 @@ use Rattle.std.proofs.lemmas.List.{append-nil, take-append-le, take_all, take_mo
 use Rattle.std.proofs.lemmas.List.Elements.{filter_map-append}
 use Rattle.std.proofs.lemmas.List.Sums.{sum_by-append}
 use Rattle.ent_lists.specs.Elements.{In, any_none, any_some, clash, differ, in_either, in_first, in_flat, in_second, nth_in, to_flat}
-use Rattle.ent_parties.specs.Meeting.{offers, ways}
-use Rattle.ent_parties.specs.Pattern.{may_meet}
-use Rattle.ent_parties.specs.declared.party.Party.{Party}
-use Rattle.ent_parties.specs.declared.pattern.Pattern.{Pattern}
+use Rattle.ent_meetings.specs.PartyMeeting.{offers, ways}
+use Rattle.ent_meetings.specs.Pattern.{may_meet}
+use Rattle.ent_meetings.specs.declared.party.Party.{Party}
+use Rattle.ent_meetings.specs.declared.pattern.Pattern.{Pattern}
 use Rattle.ent_meetings.specs.Group.{demands_of, is_served_once, may_come, offers_of, serves}
 use Rattle.ent_meetings.specs.Meeting.{IsWithin}
 use Rattle.ent_meetings.specs.Next.{IsAfter}

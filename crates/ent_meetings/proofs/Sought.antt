@@ -17,9 +17,9 @@ use Rattle.ent_semantics.specs.Database.{Name, same_name}
 use Rattle.ent_value.specs.Order.{exact_values}
 use Rattle.ent_value.specs.Value.{value_cmp}
 use Rattle.ent_value.specs.declared.value.Value.{Value}
-use Rattle.ent_parties.specs.Pattern.{may_be_one, may_meet}
-use Rattle.ent_parties.specs.declared.party.Party.{Party}
-use Rattle.ent_parties.specs.declared.pattern.Pattern.{Pattern}
+use Rattle.ent_meetings.specs.Pattern.{may_be_one, may_meet}
+use Rattle.ent_meetings.specs.declared.party.Party.{Party}
+use Rattle.ent_meetings.specs.declared.pattern.Pattern.{Pattern}
 use Rattle.ent_meetings.specs.Keys.{has_key, has_key_below, have_key, key, key_at, unknown_at}
 use Rattle.ent_meetings.specs.Postings.{Agrees, IsPosted, Postings, has}
 use Rattle.ent_meetings.specs.Sides.{fits, fits_at, patterns_of}

@@ -7,7 +7,7 @@ use Rattle.std.proofs.Math.Seq.{get_or-append_seam}
 use Rattle.std.proofs.lemmas.List.{get_or_append_left, length_push, take-append-le, take_all}
 use Rattle.ent_group.specs.declared.members.TheConstants.{MOST_MEMBERS}
 use Rattle.ent_lists.specs.Elements.{In, contains_in, in_contains, all_first, all_joined, pairs_behind, pairs_first}
-use Rattle.ent_parties.specs.declared.pattern.Pattern.{Pattern}
+use Rattle.ent_meetings.specs.declared.pattern.Pattern.{Pattern}
 use Rattle.ent_meetings.specs.Group.{first_unmet}
 use Rattle.ent_meetings.specs.Next.{IsAfter, IsUpTo}
 use Rattle.ent_meetings.specs.Stand.{IsPassed, Stand, gives}

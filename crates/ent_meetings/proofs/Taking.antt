@@ -12,10 +12,10 @@ use Rattle.std.proofs.lemmas.Map.Keys.{IsDistinct-IsPermutation, IsStrictlyIncre
 use Rattle.std.proofs.lemmas.Map.Made.{AllPairs-from_IsDistinct, IsDistinct-from_AllPairs}
 use Rattle.std.specs.Prelude.{nat_eq}
 use Rattle.ent_lists.specs.Elements.{In, Pairs, any_none, any_some, contains_in, in_contains, index_pairs, of_all, pairs_index, to_flat}
-use Rattle.ent_parties.specs.Meeting.{IsClear, IsClosed, MeetAll, is_met, offers, ways}
-use Rattle.ent_parties.specs.Pattern.{may_meet}
-use Rattle.ent_parties.specs.declared.party.Party.{Party}
-use Rattle.ent_parties.specs.declared.pattern.Pattern.{Pattern}
+use Rattle.ent_meetings.specs.PartyMeeting.{IsClear, IsClosed, MeetAll, is_met, offers, ways}
+use Rattle.ent_meetings.specs.Pattern.{may_meet}
+use Rattle.ent_meetings.specs.declared.party.Party.{Party}
+use Rattle.ent_meetings.specs.declared.pattern.Pattern.{Pattern}
 use Rattle.ent_meetings.specs.Group.{demands_of, first_unmet, is_crowded}
 use Rattle.ent_meetings.specs.Meeting.{IsMeeting, IsWithin}
 use Rattle.ent_meetings.specs.Stand.{Stand}

@@ -6,9 +6,9 @@ use Rattle.std.specs.Option.{option_map_or}
 use Rattle.std.proofs.lemmas.List.{take_more}
 use Rattle.std.proofs.lemmas.List.Elements.{All-contains, filter_map-append}
 use Rattle.ent_lists.specs.Elements.{In, any_in, any_some, contains_in, in_contains, in_flat, to_flat, turned}
-use Rattle.ent_parties.specs.Meeting.{IsClosed, MeetAll, is_met, offers}
-use Rattle.ent_parties.specs.declared.party.Party.{Party}
-use Rattle.ent_parties.specs.declared.pattern.Pattern.{Pattern}
+use Rattle.ent_meetings.specs.PartyMeeting.{IsClosed, MeetAll, is_met, offers}
+use Rattle.ent_meetings.specs.declared.party.Party.{Party}
+use Rattle.ent_meetings.specs.declared.pattern.Pattern.{Pattern}
 use Rattle.ent_meetings.specs.Group.{demands_of, first_unmet}
 use Rattle.ent_meetings.specs.Meeting.{IsWithin}
 use Rattle.ent_meetings.specs.Waiting.{Waiting, Waits, named, offers_at, party_at}

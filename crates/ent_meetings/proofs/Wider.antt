@@ -10,10 +10,10 @@ use Rattle.std.proofs.lemmas.List.Sums.{sum_by-cons}
 use Rattle.std.proofs.lemmas.Map.Keys.{IsStrictlyIncreasing-from_distinct}
 use Rattle.std.proofs.lemmas.Map.Made.{IsDistinct-from_AllPairs}
 use Rattle.ent_lists.specs.Elements.{In, any_in, contains_in, in_contains, in_flat, index_pairs, pairs_by, pairs_index, to_flat}
-use Rattle.ent_parties.specs.Meeting.{IsClear, IsClosed, MeetAll, is_met, offers, ways}
-use Rattle.ent_parties.specs.Pattern.{may_meet}
-use Rattle.ent_parties.specs.declared.party.Party.{Party}
-use Rattle.ent_parties.specs.declared.pattern.Pattern.{Pattern}
+use Rattle.ent_meetings.specs.PartyMeeting.{IsClear, IsClosed, MeetAll, is_met, offers, ways}
+use Rattle.ent_meetings.specs.Pattern.{may_meet}
+use Rattle.ent_meetings.specs.declared.party.Party.{Party}
+use Rattle.ent_meetings.specs.declared.pattern.Pattern.{Pattern}
 use Rattle.ent_meetings.specs.Gathering.{IsRunnable}
 use Rattle.ent_meetings.specs.Group.{demands_of}
 use Rattle.ent_meetings.specs.Meeting.{IsClearMeeting, IsMeeting}

@@ -2,9 +2,9 @@
 use Rattle.std.specs.Prelude.{Bool, ◌==◌, ◌&&◌, not, nat_lt, List, [], ◌∷◌, ◌++◌, Option, map}
 use Rattle.std.specs.Borrow.{Bor}
 use Rattle.std.specs.List.{find, flat_map, list_all, list_any}
-use Rattle.ent_parties.specs.Meeting.{is_met, offers, ways}
-use Rattle.ent_parties.specs.declared.party.Party.{Party}
-use Rattle.ent_parties.specs.declared.pattern.Pattern.{Pattern}
+use Rattle.ent_meetings.specs.PartyMeeting.{is_met, offers, ways}
+use Rattle.ent_meetings.specs.declared.party.Party.{Party}
+use Rattle.ent_meetings.specs.declared.pattern.Pattern.{Pattern}
 
 -- the parties that references lead to
 abbrev pub seen : List (Bor Party) → List Party

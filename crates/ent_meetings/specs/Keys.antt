@@ -8,7 +8,7 @@ use Rattle.std.specs.List.{list_any}
 use Rattle.ent_value.specs.declared.value.Value.{Value}
 use Rattle.ent_value.specs.declared.value.Value.TheVariants.{Int, Text}
 use Rattle.ent_semantics.specs.Database.{Name}
-use Rattle.ent_parties.specs.declared.pattern.Pattern.{Pattern}
+use Rattle.ent_meetings.specs.declared.pattern.Pattern.{Pattern}
 
 -- the bytes that are hashed for what is known of a term
 abbrev pub hashed_term : Option Value → List (List ℕ)

@@ -1,7 +1,7 @@
 -- Demands that nobody meets who waits.
 use Rattle.std.specs.Prelude.{ℕ, ◌≡◌, ◌<◌, All, true, false, length, slice_get, take, IfSome}
-use Rattle.ent_parties.specs.declared.party.Party.{Party}
-use Rattle.ent_parties.specs.declared.pattern.Pattern.{Pattern}
+use Rattle.ent_meetings.specs.declared.party.Party.{Party}
+use Rattle.ent_meetings.specs.declared.pattern.Pattern.{Pattern}
 use Rattle.ent_meetings.specs.Waiting.{Waiting, offers_at}
 use Rattle.ent_meetings.specs.declared.lack.Lack.{Lack}
 use Rattle.ent_meetings.specs.declared.lack.Lack.TheVariants.{Unoffered, Nothing, Stopped}

@@ -1,3 +1,8 @@
+pub mod Pattern
+pub mod Known
+pub mod Bindings
+pub mod Party
+pub mod PartyMeeting
 pub mod Waiting
 pub mod Next
 pub mod Keys

@@ -2,7 +2,7 @@
 use Rattle.std.specs.Prelude.{ℕ, ◌≤◌, All, Any, Contains, List, length}
 use Rattle.std.specs.List.Sorted.{IsStrictlyIncreasing}
 use Rattle.ent_group.specs.declared.members.TheConstants.{MOST_MEMBERS}
-use Rattle.ent_parties.specs.Meeting.{IsClear, IsClosed}
+use Rattle.ent_meetings.specs.PartyMeeting.{IsClear, IsClosed}
 use Rattle.ent_meetings.specs.Waiting.{Waiting, Waits, named}
 
 -- those who wait under these tickets, the root among them, need nobody else

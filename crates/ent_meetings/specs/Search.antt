@@ -4,7 +4,7 @@ use Rattle.std.specs.Prelude.{Option, None, Some}
 use Rattle.std.specs.Cmp.Lexicographic.{slice_cmp}
 use Rattle.std.specs.Ordering.{nat_cmp}
 use Rattle.std.specs.declared.cmp.Ordering.TheVariants.{Less}
-use Rattle.ent_parties.specs.Meeting.{IsClear}
+use Rattle.ent_meetings.specs.PartyMeeting.{IsClear}
 use Rattle.ent_meetings.specs.Meeting.{HasOneOf, IsClearMeeting, IsLonely, IsMeeting}
 use Rattle.ent_meetings.specs.Stand.{Stand}
 use Rattle.ent_meetings.specs.Waiting.{Waiting, Waits, named}

@@ -2,10 +2,10 @@
 use Rattle.std.specs.Prelude.{ℕ, ◌≡◌, ◌<◌, ◌+◌, true, false, List, [], ◌∷◌, Option, Some, ◌⊎◌}
 use Rattle.std.specs.List.{count_by}
 use Rattle.ent_lists.specs.Elements.{In}
-use Rattle.ent_parties.specs.Meeting.{offers, ways}
-use Rattle.ent_parties.specs.Pattern.{may_meet}
-use Rattle.ent_parties.specs.declared.party.Party.{Party}
-use Rattle.ent_parties.specs.declared.pattern.Pattern.{Pattern}
+use Rattle.ent_meetings.specs.PartyMeeting.{offers, ways}
+use Rattle.ent_meetings.specs.Pattern.{may_meet}
+use Rattle.ent_meetings.specs.declared.party.Party.{Party}
+use Rattle.ent_meetings.specs.declared.pattern.Pattern.{Pattern}
 use Rattle.ent_meetings.specs.Group.{demands_of, may_come, offers_of}
 use Rattle.ent_meetings.specs.Next.{IsUpTo}
 use Rattle.ent_meetings.specs.Waiting.{Waiting, demands, named, party_at}

@@ -1,9 +1,9 @@
 -- What is sought of those who wait: who offers what may meet a demand, or who demands what an offer may meet.
 use Rattle.std.specs.Prelude.{ℕ, Bool, false, List}
 use Rattle.std.specs.Option.{option_map_or}
-use Rattle.ent_parties.specs.Meeting.{offers}
-use Rattle.ent_parties.specs.declared.party.Party.{Party}
-use Rattle.ent_parties.specs.declared.pattern.Pattern.{Pattern}
+use Rattle.ent_meetings.specs.PartyMeeting.{offers}
+use Rattle.ent_meetings.specs.declared.party.Party.{Party}
+use Rattle.ent_meetings.specs.declared.pattern.Pattern.{Pattern}
 use Rattle.ent_meetings.specs.Waiting.{Waiting, demands, party_at}
 use Rattle.ent_meetings.specs.declared.side.Side.{Side}
 use Rattle.ent_meetings.specs.declared.side.Side.TheVariants.{Offers, Demands}

@@ -5,7 +5,7 @@ use Rattle.std.specs.List.{AllByRecursion}
 use Rattle.std.specs.Option.{option_map_or}
 use Rattle.ent_group.specs.declared.members.TheConstants.{MOST_MEMBERS}
 use Rattle.ent_lists.specs.Elements.{Pairs}
-use Rattle.ent_parties.specs.Meeting.{IsClear}
+use Rattle.ent_meetings.specs.PartyMeeting.{IsClear}
 use Rattle.ent_meetings.specs.Group.{first_unmet}
 use Rattle.ent_meetings.specs.Meeting.{HasOneOf, IsClosedWith, IsWithin}
 use Rattle.ent_meetings.specs.Next.{IsUpTo}

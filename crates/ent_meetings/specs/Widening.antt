@@ -1,7 +1,7 @@
 -- Sets that are widened by others of those who wait.
 use Rattle.std.specs.Prelude.{ℕ, ◌≡◌, true, All, Any, Contains, IfSome, List, Some, ◌⊎◌}
-use Rattle.ent_parties.specs.Meeting.{ways}
-use Rattle.ent_parties.specs.declared.party.Party.{Party}
+use Rattle.ent_meetings.specs.PartyMeeting.{ways}
+use Rattle.ent_meetings.specs.declared.party.Party.{Party}
 use Rattle.ent_meetings.specs.Group.{demands_of, may_come, offers_of}
 use Rattle.ent_meetings.specs.Meeting.{IsWithin}
 use Rattle.ent_meetings.specs.Waiting.{Waiting, Waits, demands, named, party_at}

@@ -4,7 +4,7 @@ ghost use Rattle.ent_meetings.specs.Keys.{have_key};
 ghost use Rattle.ent_meetings.specs.Postings.{HasNone, IsSame, Posts, Unposts};
 
 use crate::postings::{Postings, post, unpost};
-use ent_parties::{Party, Pattern};
+use crate::{Party, Pattern};
 use std::alloc::AllocError;
 
 /// Posts a ticket that isn't posted yet under the keys of patterns. Where memory runs out, it isn't posted.

@@ -1,6 +1,6 @@
 //! Whether those of an index need nobody else.
 ghost use Rattle.std.specs.Prelude.{◌≡◌, IfOk, false, true};
-ghost use Rattle.ent_parties.specs.Meeting.{IsClosed};
+ghost use Rattle.ent_meetings.specs.PartyMeeting.{IsClosed};
 ghost use Rattle.ent_meetings.specs.Waiting.{named};
 
 use crate::group::first_unmet;

@@ -2,11 +2,11 @@
 ghost use Rattle.std.specs.Prelude.{◌≡◌, ◌≤◌, ◌+◌, ◌==◌, ◌++◌, ◌∷◌, [], not, min, nat_lt};
 ghost use Rattle.std.specs.List.{count_by, find, list_any};
 ghost use Rattle.std.specs.Option.{option_copied};
-ghost use Rattle.ent_parties.specs.Meeting.{is_met, offers, ways};
-ghost use Rattle.ent_parties.specs.Pattern.{may_meet};
+ghost use Rattle.ent_meetings.specs.PartyMeeting.{is_met, offers, ways};
+ghost use Rattle.ent_meetings.specs.Pattern.{may_meet};
 ghost use Rattle.ent_meetings.specs.Group.{first_unmet, is_crowded, is_served_once, may_come, seen, serves};
 
-use ent_parties::{Party, Pattern};
+use crate::{Party, Pattern};
 
 /// Whether one of the parties may offer what is demanded.
 pub(crate) fn is_met(parties: &[&Party], demand: &Pattern) -> bool

@@ -3,7 +3,7 @@ ghost use Rattle.std.specs.Prelude.{All, ◌≡◌, ◌≤◌, ◌<◌, ◌^◌,
 ghost use Rattle.std.specs.BTreeMap.{insert_entry, is_at};
 ghost use Rattle.std.specs.Map.{keys_of, remove_entry};
 ghost use Rattle.std.specs.Map.Iter.{ShowsInOrder, deref_pair};
-ghost use Rattle.ent_parties.specs.declared.party.Party.{Party};
+ghost use Rattle.ent_meetings.specs.declared.party.Party.{Party};
 ghost use Rattle.std.specs.List.Sorted.{IsStrictlySortedBy};
 ghost use Rattle.std.specs.Option.{option_copied};
 ghost use Rattle.std.specs.Ordering.{nat_cmp};
@@ -17,7 +17,7 @@ use crate::board::{post_party, unpost_party};
 use crate::next::Next;
 use crate::postings::{Postings, leap};
 use crate::side::{Side, fits};
-use ent_parties::{Party, Pattern};
+use crate::{Party, Pattern};
 use std::alloc::{AllocError, AllocFailed, Global};
 use std::collections::btree_map::Iter;
 use std::collections::{BTreeMap, BTreeSet};

@@ -4,7 +4,7 @@ ghost use Rattle.std.specs.Hash.FoldHasher as folding;
 ghost use Rattle.std.specs.Option.{option_copied};
 ghost use Rattle.ent_meetings.specs.Keys.{hashed_term, key, key_at, unknown_at};
 
-use ent_parties::Pattern;
+use crate::Pattern;
 use ent_value::{Name, Value};
 use std::hash::{FoldHasher, Hasher};
 

@@ -4,9 +4,9 @@ ghost use Rattle.ent_meetings.specs.Lack.{IsLack, LacksSome};
 ghost use Rattle.ent_meetings.specs.Meeting.{IsLonely};
 ghost use Rattle.ent_meetings.specs.Waiting.{party_at};
 
+use crate::Party;
 use crate::index::Index;
 use crate::next::Next;
-use ent_parties::Party;
 
 /// What a party demands that nobody may offer.
 #[derive(Clone, Copy, Debug, PartialEq, Eq)]

@@ -3,9 +3,9 @@ ghost use Rattle.std.specs.Prelude.{◌≡◌, ◌≤◌, ◌<◌, ◌||◌, ℕ
 ghost use Rattle.ent_meetings.specs.Keys.{has_key, have_key};
 ghost use Rattle.ent_meetings.specs.Postings.{Agrees, Posts, PostsSome, Unposts, agrees_at};
 
+use crate::Pattern;
 use crate::entry::{Entry, first_under};
 use crate::key::{key_at, known_at, unknown_at};
-use ent_parties::Pattern;
 use std::alloc::AllocError;
 use std::collections::BTreeSet;
 

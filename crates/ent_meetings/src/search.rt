@@ -1,18 +1,18 @@
 //! The search for the meetings of a root.
 ghost use Rattle.std.specs.Prelude.{◌≡◌, ◌<◌, ◌≤◌, [], None, Some, false, true, length, map, option_map, IfOk, OnErr, OnOk};
-ghost use Rattle.ent_parties.specs.declared.pattern.Pattern.{Pattern};
+ghost use Rattle.ent_meetings.specs.declared.pattern.Pattern.{Pattern};
 ghost use Rattle.ent_meetings.specs.Group.{first_unmet, is_crowded};
 ghost use Rattle.ent_meetings.specs.SearchSteps.{IsPast, IsRest, IsStep, IsUnmoved, Moves};
 ghost use Rattle.ent_meetings.specs.Search.{IsFound, IsStand, found_of, root_of};
 ghost use Rattle.ent_meetings.specs.Waiting.{Waiting, Waits, named};
 
+use crate::Pattern;
 use crate::found::{Bound, Found};
 use crate::group::{first_unmet, is_crowded};
 use crate::index::Index;
 use crate::next::Next;
 use crate::tickets::{by_arrival, is_among};
 use ent_group::MOST_MEMBERS;
-use ent_parties::Pattern;
 use std::alloc::{AllocError, Global};
 
 /// So many meetings of one root are handed out at most.

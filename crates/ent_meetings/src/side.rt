@@ -3,7 +3,7 @@ ghost use Rattle.std.specs.Prelude.{◌≡◌};
 ghost use Rattle.ent_meetings.specs.Sides.{fits};
 ghost use Rattle.ent_meetings.specs.Waiting.{demands};
 
-use ent_parties::{Party, Pattern};
+use crate::{Party, Pattern};
 
 /// Who is sought.
 #[derive(Clone, Copy, Debug, PartialEq, Eq)]

@@ -12,8 +12,8 @@ use crate::group::may_come;
 use crate::index::Index;
 use crate::next::Next;
 use crate::tickets::by_arrival;
+use crate::{Party, Pattern};
 use ent_group::MOST_MEMBERS;
-use ent_parties::{Party, Pattern};
 use std::alloc::{AllocError, Global};
 
 /// A set of those who wait that grows.

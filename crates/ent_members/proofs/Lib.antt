@@ -4,3 +4,13 @@ pub mod Closed
 pub mod UsesOf
 pub mod InRun
 pub mod Conflicts
+pub mod AtPlace
+pub mod Apart
+pub mod Behind
+pub mod TransactionByNumber
+pub mod Changes
+pub mod Ended
+pub mod Gone
+pub mod Lists
+pub mod Lookups
+pub mod Shown

@@ -4,3 +4,12 @@ pub mod Changes
 pub mod Answered
 pub mod Conflict
 pub mod InRun
+pub mod Asked
+pub mod Form
+pub mod Next
+pub mod Turn
+pub mod ByNumber
+pub mod Cause
+pub mod Leaving
+pub mod TransactionOrder
+pub mod TransactionTable

@@ -5,26 +5,59 @@
 //! wait for a run, the uses that a statement asks for, what a member gets of a joint answer, and the list of those who
 //! leave. A caller may rely on it that each call does to a member exactly what the protocol's functions say, and that a
 //! call that finds no memory leaves it as it was.
+//!
+//! What comes next in submitted scripts: what a member begins, and which locks its statement needs.
+//!
+//! A [`SubmittedScript`] is a script with its statements resolved; the number of a transaction finds its script.
+//! [`next_of`] is what the protocol says comes next, closed under what the member bound. [`next_form`] takes no memory,
+//! and answers the statement before it is closed, which needs the same locks.
+//!
+//! Who waits for a run, and who is finished.
+//!
+//! A [`TransactionTable`] is told of each script that is submitted. It keeps those who wait for a run, in order of
+//! their arrival, and the fates of those who are finished. A caller may rely on it that each call does to both lists
+//! exactly what the protocol's functions say, and that `admit` alone takes memory to change them: its type keeps room
+//! for whatever becomes of the scripts that were submitted.
 #![tactic(auto)]
 
+mod by_number;
+mod cause;
 mod conflict;
 mod entrant;
+mod fates;
+mod first_asked;
+mod form;
 mod hold;
+mod leaving;
+mod live;
 mod member;
 mod member_answer;
+mod next;
+mod numbered;
+mod order;
 mod progress;
 mod run_attempts;
+mod submitted;
 mod table_use;
+mod transaction_table;
+mod turn;
 mod uses;
 
+pub use cause::Cause;
 pub use conflict::Conflict;
 pub use entrant::Entrant;
+pub use form::next_form;
 pub use hold::with_uses;
 pub use member::{Member, label_in};
 pub use member_answer::MemberAnswer;
+pub use next::{Next, next_of};
+pub use numbered::script_of;
 pub use progress::Progress;
 pub use run_attempts::{RunAttempt, RunAttempts};
+pub use submitted::SubmittedScript;
 pub use table_use::Use;
+pub use transaction_table::TransactionTable;
+pub use turn::{Turn, turn_of};
 pub use uses::{
     MOST_USES, Uses, entangled_uses, exclusive_table, statement_uses, uses_are_kept_by_closing,
 };

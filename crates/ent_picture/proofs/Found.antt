@@ -2,7 +2,7 @@
 use Rattle.std.proofs.Common.{◌≡◌, ℕ, List, [], ◌++◌, ap, ◌∙◌}
 use Rattle.std.specs.Prelude.{filter}
 use Rattle.std.specs.List.{flat_map}
-use Rattle.ent_trace_reader.specs.declared.exchange.Exchange.{Exchange}
+use Rattle.ent_picture.specs.declared.exchange.Exchange.{Exchange}
 use Rattle.ent_picture.specs.declared.joints.JointAnswer.{JointAnswer}
 use Rattle.ent_picture.specs.Members.{companies_of, if_met, is_picked, picked_and_met, started}
 

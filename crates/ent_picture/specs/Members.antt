@@ -1,13 +1,13 @@
 -- The members of the runs of a trace, and who meets whom.
 use Rattle.std.specs.Prelude.{◌==◌, ◌++◌, ℕ, Bool, List, [], ◌∷◌, map, filter, if◌then◌else◌}
 use Rattle.std.specs.List.{flat_map, list_any}
-use Rattle.ent_trace_reader.specs.declared.exchange.Commit.{Commit}
-use Rattle.ent_trace_reader.specs.declared.exchange.Event.{Event}
-use Rattle.ent_trace_reader.specs.declared.exchange.Event.TheVariants.{Begin}
-use Rattle.ent_trace_reader.specs.declared.exchange.Exchange.{Exchange}
-use Rattle.ent_trace_reader.specs.declared.exchange.Reply.{Reply}
-use Rattle.ent_trace_reader.specs.declared.exchange.Reply.TheVariants.{Blocked, Broken, Committed, Failed}
-use Rattle.ent_trace_reader.specs.declared.exchange.Reply.TheVariants.{HeldBack, RolledBack, Started}
+use Rattle.ent_picture.specs.declared.exchange.Commit.{Commit}
+use Rattle.ent_picture.specs.declared.exchange.Event.{Event}
+use Rattle.ent_picture.specs.declared.exchange.Event.TheVariants.{Begin}
+use Rattle.ent_picture.specs.declared.exchange.Exchange.{Exchange}
+use Rattle.ent_picture.specs.declared.exchange.Reply.{Reply}
+use Rattle.ent_picture.specs.declared.exchange.Reply.TheVariants.{Blocked, Broken, Committed, Failed}
+use Rattle.ent_picture.specs.declared.exchange.Reply.TheVariants.{HeldBack, RolledBack, Started}
 use Rattle.ent_picture.specs.declared.joints.JointAnswer.{JointAnswer}
 use Rattle.ent_picture.specs.declared.picture.Lane.{Lane}
 

@@ -3,8 +3,8 @@
 //! A trace doesn't say it. Members of a run are begun in turn, and a posted one isn't begun before it is answered: so
 //! the members of a joint answer are those that were posted before it and are begun again after it, before another
 //! joint answer is made.
+use crate::{Event, Exchange, Reply};
 use ent_group::Tx;
-use ent_trace_reader::{Event, Exchange, Reply};
 use std::alloc::{AllocError, Global};
 use std::collections::BTreeMap;
 

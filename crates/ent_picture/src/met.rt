@@ -6,8 +6,8 @@ ghost use Rattle.ent_picture.specs.Members.{begun_with, companies_of, if_met, is
 ghost use Rattle.ent_picture.specs.Members.{members_of_start, picked_and_met, started};
 
 use crate::joints::JointAnswer;
+use crate::{Commit, Event, Exchange, Reply};
 use ent_group::Tx;
-use ent_trace_reader::{Commit, Event, Exchange, Reply};
 use std::alloc::{AllocError, Global};
 
 /// The members of the runs of a trace, each once, by number.

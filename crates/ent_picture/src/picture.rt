@@ -1,7 +1,7 @@
 //! What a picture shows, as plain values.
+use crate::Demand;
 use ent_group::Tx;
 use ent_semantics::Failure;
-use ent_trace_reader::Demand;
 
 /// What became of a transaction, as far as the trace goes.
 #[derive(Clone, Copy, Debug, PartialEq, Eq)]

@@ -8,8 +8,8 @@ use crate::joints::JointAnswer;
 use crate::met::members_of;
 use crate::picture::{Bar, Fate, Lane, Life, Link, LinkKind, Mark, MarkKind, Picture, Run, Shade};
 use crate::stand::{Stand, State};
+use crate::{Commit, Event, Exchange, Reply};
 use ent_group::Tx;
-use ent_trace_reader::{Commit, Event, Exchange, Reply};
 use std::alloc::{AllocError, Global};
 use std::collections::BTreeMap;
 

@@ -1,7 +1,7 @@
 //! Where a lane stands while a trace is gone over.
+use crate::Demand;
 use crate::picture::{Bar, Life, Shade, What};
 use ent_group::Tx;
-use ent_trace_reader::Demand;
 
 /// What a transaction does.
 #[derive(Clone, Copy, Debug, PartialEq, Eq)]

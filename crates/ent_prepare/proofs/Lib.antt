@@ -1,1 +1,3 @@
+pub mod Joined
+pub mod First
 pub mod Kept

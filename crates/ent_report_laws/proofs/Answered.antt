@@ -7,11 +7,11 @@ use Rattle.ent_semantics.specs.declared.answer.Answer.{Answer}
 use Rattle.ent_semantics.specs.declared.book.Fate.{Fate}
 use Rattle.ent_history.specs.declared.history.Told.{Told}
 use Rattle.ent_history.specs.Told.{has_committed as is_said_to_have}
-use Rattle.ent_history_form.specs.Answers.{with_answer}
-use Rattle.ent_history_form.specs.Draft.{answer_due, on_last, unanswered}
+use Rattle.ent_history.specs.Answers.{with_answer}
+use Rattle.ent_history.specs.Draft.{answer_due, on_last, unanswered}
 use Rattle.ent_lists.specs.Elements.{In}
-use Rattle.ent_rules.specs.Account.{Account, accounts_from, has_committed}
-use Rattle.ent_rules.proofs.Bridge.{committed_same}
+use Rattle.ent_history.specs.Account.{Account, accounts_from, has_committed}
+use Rattle.ent_history.proofs.Bridge.{committed_same}
 use Rattle.ent_report_laws.proofs.Begun.{told_of}
 use Rattle.ent_report_laws.proofs.Lists.{longer}
 

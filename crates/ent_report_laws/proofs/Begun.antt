@@ -21,10 +21,10 @@ use Rattle.ent_history.specs.declared.history.ToldMember.{ToldMember}
 use Rattle.ent_history.specs.Text.{opened_text, opening_text, tx_text, told_text, transactions_text}
 use Rattle.ent_history.specs.Text.{joint_text}
 use Rattle.ent_history.specs.Text.{joints_text, told_member_text, shown_text, history_text}
-use Rattle.ent_history_form.specs.Answers.{answer_line_text}
-use Rattle.ent_history_form.specs.Draft.{NothingBelowScripts, NothingBelowTransactions, blank}
-use Rattle.ent_history_form.specs.Joints.{place_text}
-use Rattle.ent_history_form.specs.Tables.{table_line_text}
+use Rattle.ent_history.specs.Answers.{answer_line_text}
+use Rattle.ent_history.specs.Draft.{NothingBelowScripts, NothingBelowTransactions, blank}
+use Rattle.ent_history.specs.Joints.{place_text}
+use Rattle.ent_history.specs.Tables.{table_line_text}
 use Rattle.ent_report_laws.proofs.Lists.{assoc3, assoc5, assoc6, flat_behind, behind}
 
 -- the sections in their order

@@ -9,13 +9,13 @@ use Rattle.ent_history.specs.declared.history.History.{History}
 use Rattle.ent_history.specs.declared.history.Told.{Told}
 use Rattle.ent_history.specs.Lines.{answer_lines, joint_lines, opening_lines, script_lines, shown_lines, told_lines}
 use Rattle.ent_history.specs.Text.{history_text, joints_text, opening_text, shown_text, transactions_text}
-use Rattle.ent_history_form.specs.Stands.{Tells}
+use Rattle.ent_history.specs.Stands.{Tells}
 use Rattle.ent_lists.specs.Elements.{got_in}
-use Rattle.ent_rules.specs.Findings.{findings}
-use Rattle.ent_rules.specs.Verdict.{answer_line_of, first_finding, line_of}
-use Rattle.ent_rules.specs.declared.finding.Finding.{Finding}
-use Rattle.ent_rules.specs.declared.finding.Thing.{Thing}
-use Rattle.ent_rules.specs.declared.finding.Thing.TheVariants as things
+use Rattle.ent_history.specs.Findings.{findings}
+use Rattle.ent_history.specs.Verdict.{answer_line_of, first_finding, line_of}
+use Rattle.ent_history.specs.declared.finding.Finding.{Finding}
+use Rattle.ent_history.specs.declared.finding.Thing.{Thing}
+use Rattle.ent_history.specs.declared.finding.Thing.TheVariants as things
 use Rattle.ent_report_laws.proofs.Lengths.{joints_fit, opening_fits, part_fits, scripts_fit, tables_fit}
 use Rattle.ent_report_laws.proofs.Lengths.{transactions_fit}
 use Rattle.ent_report_laws.proofs.Sound.{told_sound}

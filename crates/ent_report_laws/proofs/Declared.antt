@@ -31,7 +31,7 @@ use Rattle.ent_form.specs.declared.catalogue.TableSchema.{TableSchema}
 use Rattle.ent_form.specs.declared.fault.FormFault.{FormFault}
 use Rattle.ent_form.specs.declared.fault.FormFault.TheVariants.{Arity, NoTable}
 use Rattle.ent_form.specs.declared.script.Plain.{Plain}
-use Rattle.ent_rules.specs.Formed.{is_declared}
+use Rattle.ent_history.specs.Formed.{is_declared}
 use Rattle.ent_lists.specs.Elements.{In, contains_in, clash, filter_empty, not_so}
 
 bound_first : {A B F : Type 0} (r : Result A F) (f : A → Result B F) (y : B) → (r >>= f) ≡ Ok y

@@ -17,7 +17,7 @@ use Rattle.ent_form.specs.OpeningFault.{opening_row_fault, refused_where, repeat
 use Rattle.ent_form.specs.declared.catalogue.TableSchema.{TableSchema}
 use Rattle.ent_form.specs.declared.fault.FormFault.{FormFault}
 use Rattle.ent_form.specs.declared.fault.FormFault.TheVariants.{Arity, NoTable, Repeated, WrongKind}
-use Rattle.ent_history_form.specs.Opening.{IsDeclaration}
+use Rattle.ent_history.specs.Opening.{IsDeclaration}
 use Rattle.ent_lists.specs.Elements.{In, Pairs, any_some, clash, in_either, index_pairs, not_so, number_itself, of_all}
 use Rattle.ent_lists.specs.Elements.{pairs_mapped}
 use Rattle.ent_value.specs.Kinds.{kind_itself, same_kind}

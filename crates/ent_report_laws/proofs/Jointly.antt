@@ -8,9 +8,9 @@ use Rattle.ent_semantics.specs.declared.book.Member.{Member}
 use Rattle.ent_history.specs.declared.history.ToldJoint.{ToldJoint}
 use Rattle.ent_history.specs.declared.history.ToldMember.{ToldMember}
 use Rattle.ent_history.specs.Told.{joint_answer_of}
-use Rattle.ent_history_form.specs.Draft.{Due, Heading, Free, OpeningRows, AnswerRows, Members, TableRows, Ended}
-use Rattle.ent_history_form.specs.Draft.{members_due, on_last, rows_due}
-use Rattle.ent_history_form.specs.Joints.{PlacesRise, with_member}
+use Rattle.ent_history.specs.Draft.{Due, Heading, Free, OpeningRows, AnswerRows, Members, TableRows, Ended}
+use Rattle.ent_history.specs.Draft.{members_due, on_last, rows_due}
+use Rattle.ent_history.specs.Joints.{PlacesRise, with_member}
 use Rattle.ent_lists.specs.Elements.{In, Pairs, all_by, all_joined, of_all, of_map, pairs_index, pairs_mapped}
 use Rattle.ent_lists.specs.Elements.{pairs_unmapped}
 use Rattle.ent_report_laws.proofs.Begun.{place_of}

@@ -5,15 +5,15 @@ use Rattle.ent_tree.specs.declared.limits.TheConstants.{MOST_SCRIPTS, MOST_STATE
 use Rattle.ent_form.specs.Catalogue.{schemas_of}
 use Rattle.ent_form.specs.ScriptFaults.{script_faults}
 use Rattle.ent_history.specs.declared.history.History.{History}
-use Rattle.ent_history_form.specs.Answers.{TxStands, AnswerStands, AnswerRowStands, with_answer_row, with_row}
-use Rattle.ent_history_form.specs.Draft.{Draft, Due, Heading as Headed, Free, OpeningRows, AnswerRows, Members}
-use Rattle.ent_history_form.specs.Draft.{TableRows, Ended, TransactionsAreTold, blank, members_due, rows_due}
-use Rattle.ent_history_form.specs.Joints.{JointStands, MemberStands, member_told}
-use Rattle.ent_history_form.specs.Opening.{HeadingStands, OpeningStands, OpeningRowStands}
-use Rattle.ent_history_form.specs.Scripts.{ScriptStands}
-use Rattle.ent_history_form.specs.Stands.{Stands, Heading, Opening, OpeningRow, Script, Tx, Answer, AnswerRow, Joint}
-use Rattle.ent_history_form.specs.Stands.{Member, Table, TableRow, End}
-use Rattle.ent_history_form.specs.Tables.{TableStands, TableRowStands, EndStands}
+use Rattle.ent_history.specs.Answers.{TxStands, AnswerStands, AnswerRowStands, with_answer_row, with_row}
+use Rattle.ent_history.specs.Draft.{Draft, Due, Heading as Headed, Free, OpeningRows, AnswerRows, Members}
+use Rattle.ent_history.specs.Draft.{TableRows, Ended, TransactionsAreTold, blank, members_due, rows_due}
+use Rattle.ent_history.specs.Joints.{JointStands, MemberStands, member_told}
+use Rattle.ent_history.specs.Opening.{HeadingStands, OpeningStands, OpeningRowStands}
+use Rattle.ent_history.specs.Scripts.{ScriptStands}
+use Rattle.ent_history.specs.Stands.{Stands, Heading, Opening, OpeningRow, Script, Tx, Answer, AnswerRow, Joint}
+use Rattle.ent_history.specs.Stands.{Member, Table, TableRow, End}
+use Rattle.ent_history.specs.Tables.{TableStands, TableRowStands, EndStands}
 use Rattle.ent_lists.specs.Elements.{all_joined}
 use Rattle.ent_report_laws.proofs.Answered.{AreAnswered, none_answered, tx_answered, answer_answered, kept_answered}
 use Rattle.ent_report_laws.proofs.Jointly.{AreJoint, opening_joint, answers_joint, tables_joint, new_joint}

@@ -25,3 +25,12 @@ pub mod OfJoints
 pub mod OfTables
 pub mod OfTransactions
 pub mod Declared
+pub mod Columns
+pub mod Meant
+pub mod Faults
+pub mod Legal
+pub mod OpeningDeclared
+pub mod Rows
+pub mod OpeningFaultless
+pub mod Counted
+pub mod Tellable

@@ -5,7 +5,7 @@ use Rattle.std.proofs.Common.{inl, inr, flat_map}
 use Rattle.std.proofs.lemmas.List.{append-nil, append_assoc, length-append}
 use Rattle.std.proofs.lemmas.List.Concat.{flat_map-append}
 use Rattle.ent_lists.specs.Elements.{In, Pairs, in_either, pairs_across}
-use Rattle.ent_history_form.specs.Draft.{on_last, last_of}
+use Rattle.ent_history.specs.Draft.{on_last, last_of}
 
 -- ---- the last element
 

@@ -8,11 +8,11 @@ use Rattle.ent_semantics.specs.Serial.{numbered}
 use Rattle.ent_history.specs.declared.history.History.{History}
 use Rattle.ent_history.specs.declared.history.ToldJoint.{ToldJoint}
 use Rattle.ent_history.specs.declared.history.ToldMember.{ToldMember}
-use Rattle.ent_history_form.specs.Draft.{Draft, Ended, blank, on_last}
-use Rattle.ent_history_form.specs.Joints.{BindsRight, member_told, script_binds, with_member}
-use Rattle.ent_history_form.specs.Parts.{IsValue}
-use Rattle.ent_history_form.specs.Stands.{Stands, Heading, Opening, OpeningRow, Script, Tx, Answer, AnswerRow, Joint}
-use Rattle.ent_history_form.specs.Stands.{Member, Table, TableRow, End, AllStand, Tells}
+use Rattle.ent_history.specs.Draft.{Draft, Ended, blank, on_last}
+use Rattle.ent_history.specs.Joints.{BindsRight, member_told, script_binds, with_member}
+use Rattle.ent_history.specs.Parts.{IsValue}
+use Rattle.ent_history.specs.Stands.{Stands, Heading, Opening, OpeningRow, Script, Tx, Answer, AnswerRow, Joint}
+use Rattle.ent_history.specs.Stands.{Member, Table, TableRow, End, AllStand, Tells}
 use Rattle.ent_lists.specs.Elements.{all_by, all_joined}
 use Rattle.ent_report_laws.specs.Tellable.{IsJointTold, IsMemberTold}
 use Rattle.ent_report_laws.proofs.Begun.{place_of}

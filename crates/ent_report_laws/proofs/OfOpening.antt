@@ -12,13 +12,13 @@ use Rattle.ent_tree.specs.declared.declaration.OpeningRow.{OpeningRow}
 use Rattle.ent_semantics.specs.Names.{names_turned}
 use Rattle.ent_history.specs.declared.history.History.{History}
 use Rattle.ent_history.specs.Told.{opening_row}
-use Rattle.ent_history_form.specs.Draft.{Draft, Due, Heading as Headed, Free, OpeningRows, AnswerRows, Members}
-use Rattle.ent_history_form.specs.Draft.{TableRows, Ended, blank, last_of, members_due, rows_due}
-use Rattle.ent_history_form.specs.Opening.{NamesAscend}
-use Rattle.ent_history_form.specs.Parts.{Ascends, IsRow}
-use Rattle.ent_history_form.specs.Stands.{Stands, Heading, Opening as Opens, OpeningRow as OpensRow, Script, Tx}
-use Rattle.ent_history_form.specs.Stands.{Answer}
-use Rattle.ent_history_form.specs.Stands.{AnswerRow, Joint, Member, Table, TableRow, End, AllStand, Tells}
+use Rattle.ent_history.specs.Draft.{Draft, Due, Heading as Headed, Free, OpeningRows, AnswerRows, Members}
+use Rattle.ent_history.specs.Draft.{TableRows, Ended, blank, last_of, members_due, rows_due}
+use Rattle.ent_history.specs.Opening.{NamesAscend}
+use Rattle.ent_history.specs.Parts.{Ascends, IsRow}
+use Rattle.ent_history.specs.Stands.{Stands, Heading, Opening as Opens, OpeningRow as OpensRow, Script, Tx}
+use Rattle.ent_history.specs.Stands.{Answer}
+use Rattle.ent_history.specs.Stands.{AnswerRow, Joint, Member, Table, TableRow, End, AllStand, Tells}
 use Rattle.ent_value.specs.Order.{rows_total}
 use Rattle.ent_lists.specs.Elements.{In, Pairs, all_by, all_first, all_joined, all_second, of_all, pairs_across}
 use Rattle.ent_lists.specs.Elements.{pairs_behind, pairs_index, to_all}

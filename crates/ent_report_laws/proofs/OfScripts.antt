@@ -9,10 +9,10 @@ use Rattle.ent_form.specs.Catalogue.{schemas_of}
 use Rattle.ent_form.specs.ScriptFaults.{script_faults}
 use Rattle.ent_sql_laws.specs.Fits.{ScriptFits}
 use Rattle.ent_history.specs.declared.history.History.{History}
-use Rattle.ent_history_form.specs.Draft.{Draft, Ended, blank}
-use Rattle.ent_history_form.specs.Scripts.{IsScript}
-use Rattle.ent_history_form.specs.Stands.{Stands, Heading, Opening, OpeningRow, Script, Tx, Answer, AnswerRow, Joint}
-use Rattle.ent_history_form.specs.Stands.{Member, Table, TableRow, End, AllStand, Tells}
+use Rattle.ent_history.specs.Draft.{Draft, Ended, blank}
+use Rattle.ent_history.specs.Scripts.{IsScript}
+use Rattle.ent_history.specs.Stands.{Stands, Heading, Opening, OpeningRow, Script, Tx, Answer, AnswerRow, Joint}
+use Rattle.ent_history.specs.Stands.{Member, Table, TableRow, End, AllStand, Tells}
 use Rattle.ent_lists.specs.Elements.{all_by, all_joined}
 
 -- what is asked of a script over these tables

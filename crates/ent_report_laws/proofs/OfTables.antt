@@ -10,12 +10,12 @@ use Rattle.ent_semantics.specs.Database.{Name}
 use Rattle.ent_semantics.specs.Serial.{numbered}
 use Rattle.ent_history.specs.declared.history.History.{History}
 use Rattle.ent_history.specs.declared.history.Shown.{Shown}
-use Rattle.ent_history_form.specs.Draft.{Draft, Due, Heading as Headed, Free, OpeningRows, AnswerRows, Members}
-use Rattle.ent_history_form.specs.Draft.{TableRows, Ended, blank, members_due, on_last, rows_due}
-use Rattle.ent_history_form.specs.Parts.{IsRow}
-use Rattle.ent_history_form.specs.Stands.{Stands, Heading, Opening, OpeningRow, Script, Tx, Answer, AnswerRow, Joint}
-use Rattle.ent_history_form.specs.Stands.{Member, Table, TableRow, End, AllStand, Tells}
-use Rattle.ent_history_form.specs.Tables.{with_table_row}
+use Rattle.ent_history.specs.Draft.{Draft, Due, Heading as Headed, Free, OpeningRows, AnswerRows, Members}
+use Rattle.ent_history.specs.Draft.{TableRows, Ended, blank, members_due, on_last, rows_due}
+use Rattle.ent_history.specs.Parts.{IsRow}
+use Rattle.ent_history.specs.Stands.{Stands, Heading, Opening, OpeningRow, Script, Tx, Answer, AnswerRow, Joint}
+use Rattle.ent_history.specs.Stands.{Member, Table, TableRow, End, AllStand, Tells}
+use Rattle.ent_history.specs.Tables.{with_table_row}
 use Rattle.ent_lists.specs.Elements.{all_joined, pairs_index}
 use Rattle.ent_report_laws.specs.Tellable.{AreTablesOf}
 use Rattle.ent_report_laws.proofs.Kept.{IsSound}

@@ -14,15 +14,15 @@ use Rattle.ent_semantics.specs.declared.book.Fate.{Fate}
 use Rattle.ent_history.specs.declared.history.History.{History}
 use Rattle.ent_history.specs.declared.history.Told.{Told}
 use Rattle.ent_history.specs.Told.{has_committed}
-use Rattle.ent_history_form.specs.Answers.{HasSoMany, IsAnswer, IsFate, IsOfSort, rows_of, with_answer}
-use Rattle.ent_history_form.specs.Answers.{with_answer_row}
-use Rattle.ent_history_form.specs.Answers.{with_row}
-use Rattle.ent_history_form.specs.Draft.{Draft, Due, Heading as Headed, Free, OpeningRows, AnswerRows, Members}
-use Rattle.ent_history_form.specs.Draft.{TableRows, Ended, answer_due, blank, last_of, members_due, on_last, rows_due}
-use Rattle.ent_history_form.specs.Draft.{unanswered}
-use Rattle.ent_history_form.specs.Parts.{Ascends, IsNumber, IsRow}
-use Rattle.ent_history_form.specs.Stands.{Stands, Heading, Opening, OpeningRow, Script, Tx, Answer, AnswerRow, Joint}
-use Rattle.ent_history_form.specs.Stands.{Member, Table, TableRow, End, AllStand, Tells}
+use Rattle.ent_history.specs.Answers.{HasSoMany, IsAnswer, IsFate, IsOfSort, rows_of, with_answer}
+use Rattle.ent_history.specs.Answers.{with_answer_row}
+use Rattle.ent_history.specs.Answers.{with_row}
+use Rattle.ent_history.specs.Draft.{Draft, Due, Heading as Headed, Free, OpeningRows, AnswerRows, Members}
+use Rattle.ent_history.specs.Draft.{TableRows, Ended, answer_due, blank, last_of, members_due, on_last, rows_due}
+use Rattle.ent_history.specs.Draft.{unanswered}
+use Rattle.ent_history.specs.Parts.{Ascends, IsNumber, IsRow}
+use Rattle.ent_history.specs.Stands.{Stands, Heading, Opening, OpeningRow, Script, Tx, Answer, AnswerRow, Joint}
+use Rattle.ent_history.specs.Stands.{Member, Table, TableRow, End, AllStand, Tells}
 use Rattle.ent_lists.specs.Elements.{Pairs, all_joined, pairs_behind, pairs_index}
 use Rattle.ent_report_laws.specs.Tellable.{AreAnswersTo, AreTransactionsOf, IsAnswerTold, IsTransactionTold}
 use Rattle.ent_report_laws.proofs.Answered.{got_none}

@@ -14,8 +14,8 @@ use Rattle.ent_tree.specs.declared.declaration.Opening.{Opening}
 use Rattle.ent_tree.specs.declared.declaration.OpeningRow.{OpeningRow}
 use Rattle.ent_semantics.specs.Names.{name_itself}
 use Rattle.ent_history.specs.Told.{opening_row}
-use Rattle.ent_history_form.specs.Draft.{last_of}
-use Rattle.ent_history_form.specs.Opening.{IsDeclaration, NamesAscend}
+use Rattle.ent_history.specs.Draft.{last_of}
+use Rattle.ent_history.specs.Opening.{IsDeclaration, NamesAscend}
 use Rattle.ent_lists.specs.Elements.{In, Pairs, of_all, all_by, all_joined, in_first, in_second, filter_empty}
 use Rattle.ent_lists.specs.Elements.{filter_joined, map_joined, pairs_behind}
 use Rattle.ent_semantics.specs.Database.{Name, row_of, same_name, rows_named}

@@ -1,8 +1,8 @@
 -- Ways from one report that stands so far to a longer one, and the text on the way.
 use Rattle.std.proofs.Common.{◌≡◌, ℕ, List, [], ◌∷◌, ◌++◌, refl, sym, ap, subst}
 use Rattle.std.proofs.lemmas.List.{append_assoc}
-use Rattle.ent_history_form.specs.Draft.{Draft}
-use Rattle.ent_history_form.specs.Stands.{Stands, AllStand, whole}
+use Rattle.ent_history.specs.Draft.{Draft}
+use Rattle.ent_history.specs.Stands.{Stands, AllStand, whole}
 
 -- pieces of this text lead there
 abbrev pub Leads : Draft → List ℕ → Draft → Type 0

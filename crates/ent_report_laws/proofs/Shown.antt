@@ -13,11 +13,11 @@ use Rattle.ent_tree.specs.declared.declaration.Create.{Create}
 use Rattle.ent_semantics.specs.Database.{Name, same_name}
 use Rattle.ent_semantics.specs.Names.{name_itself}
 use Rattle.ent_history.specs.declared.history.Shown.{Shown}
-use Rattle.ent_history_form.specs.Draft.{last_of, on_last}
-use Rattle.ent_history_form.specs.Parts.{Ascends}
-use Rattle.ent_history_form.specs.Tables.{with_table_row}
+use Rattle.ent_history.specs.Draft.{last_of, on_last}
+use Rattle.ent_history.specs.Parts.{Ascends}
+use Rattle.ent_history.specs.Tables.{with_table_row}
 use Rattle.ent_lists.specs.Elements.{In, Pairs, all_first, all_joined, all_second, clash, of_all, pairs_behind, to_all}
-use Rattle.ent_rules.specs.Formed.{is_declared, is_shown}
+use Rattle.ent_history.specs.Formed.{is_declared, is_shown}
 use Rattle.ent_report_laws.proofs.Lists.{all_before, changed, ends}
 use Rattle.ent_report_laws.proofs.Opened.{Before, other_name}
 

@@ -18,11 +18,11 @@ use Rattle.ent_form.specs.declared.fault.FormFault.{FormFault}
 use Rattle.ent_form.specs.declared.script.Plain.{Plain}
 use Rattle.ent_history.specs.declared.history.History.{History}
 use Rattle.ent_history.specs.Told.{joint_answer_of}
-use Rattle.ent_history_form.specs.Draft.{Draft, Ended, blank}
-use Rattle.ent_history_form.specs.Stands.{AllStand, Tells}
+use Rattle.ent_history.specs.Draft.{Draft, Ended, blank}
+use Rattle.ent_history.specs.Stands.{AllStand, Tells}
 use Rattle.ent_lists.specs.Elements.{contains_in, of_all, pairs_index}
-use Rattle.ent_rules.specs.Account.{accounts}
-use Rattle.ent_rules.specs.Formed.{IsFormed, is_declared}
+use Rattle.ent_history.specs.Account.{accounts}
+use Rattle.ent_history.specs.Formed.{IsFormed, is_declared}
 use Rattle.ent_report_laws.proofs.Answered.{all_answered}
 use Rattle.ent_report_laws.proofs.Faultless.{opening_faultless}
 use Rattle.ent_report_laws.proofs.Jointly.{have_members, members_rise}

@@ -18,17 +18,17 @@ use Rattle.ent_history.specs.declared.history.History.{History}
 use Rattle.ent_history.specs.declared.history.Told.{Told}
 use Rattle.ent_history.specs.declared.history.ToldMember.{ToldMember}
 use Rattle.ent_history.specs.Text.{history_text}
-use Rattle.ent_history_form.specs.Answers.{TxStands, AnswerStands, AnswerRowStands, IsAnswer, HasSoMany}
-use Rattle.ent_history_form.specs.Answers.{answers_so_far}
-use Rattle.ent_history_form.specs.Answers.{answer_line_text, with_answer, with_answer_row}
-use Rattle.ent_history_form.specs.Answers.{with_row as with_answered_row}
-use Rattle.ent_history_form.specs.Draft.{Draft, Due, Heading, Free, OpeningRows, AnswerRows, Members, TableRows, Ended}
-use Rattle.ent_history_form.specs.Draft.{NothingBelowTransactions, answer_due, blank, last_of}
-use Rattle.ent_history_form.specs.Draft.{members_due, on_last, rows_due}
-use Rattle.ent_history_form.specs.Joints.{JointStands, MemberStands, member_told, with_member}
-use Rattle.ent_history_form.specs.Opening.{HeadingStands, OpeningStands, OpeningRowStands}
-use Rattle.ent_history_form.specs.Scripts.{ScriptStands}
-use Rattle.ent_history_form.specs.Tables.{TableStands, TableRowStands, EndStands, table_line_text, with_table_row}
+use Rattle.ent_history.specs.Answers.{TxStands, AnswerStands, AnswerRowStands, IsAnswer, HasSoMany}
+use Rattle.ent_history.specs.Answers.{answers_so_far}
+use Rattle.ent_history.specs.Answers.{answer_line_text, with_answer, with_answer_row}
+use Rattle.ent_history.specs.Answers.{with_row as with_answered_row}
+use Rattle.ent_history.specs.Draft.{Draft, Due, Heading, Free, OpeningRows, AnswerRows, Members, TableRows, Ended}
+use Rattle.ent_history.specs.Draft.{NothingBelowTransactions, answer_due, blank, last_of}
+use Rattle.ent_history.specs.Draft.{members_due, on_last, rows_due}
+use Rattle.ent_history.specs.Joints.{JointStands, MemberStands, member_told, with_member}
+use Rattle.ent_history.specs.Opening.{HeadingStands, OpeningStands, OpeningRowStands}
+use Rattle.ent_history.specs.Scripts.{ScriptStands}
+use Rattle.ent_history.specs.Tables.{TableStands, TableRowStands, EndStands, table_line_text, with_table_row}
 use Rattle.ent_lists.specs.Elements.{In, Pairs, pairs_across}
 use Rattle.ent_semantics.specs.Database.{Name, rows_named}
 use Rattle.ent_history.specs.Text.{opened_text, opening_text, told_member_text, transactions_text, tx_text}

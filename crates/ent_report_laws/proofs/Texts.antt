@@ -3,9 +3,9 @@ use Rattle.std.proofs.Common.{◌≡◌, ℕ, List, [], ◌∷◌, ◌++◌, ref
 use Rattle.std.proofs.lemmas.List.{append-nil, append_assoc}
 use Rattle.ent_history.specs.declared.history.History.{History}
 use Rattle.ent_history.specs.Text.{history_text}
-use Rattle.ent_history_form.specs.Draft.{Draft, Ended, blank}
-use Rattle.ent_history_form.specs.Stands.{Stands, Heading, Opening, OpeningRow, Script, Tx, Answer, AnswerRow, Joint}
-use Rattle.ent_history_form.specs.Stands.{Member, Table, TableRow, End, AllStand, whole, Tells}
+use Rattle.ent_history.specs.Draft.{Draft, Ended, blank}
+use Rattle.ent_history.specs.Stands.{Stands, Heading, Opening, OpeningRow, Script, Tx, Answer, AnswerRow, Joint}
+use Rattle.ent_history.specs.Stands.{Member, Table, TableRow, End, AllStand, whole, Tells}
 use Rattle.ent_report_laws.proofs.Kept.{IsSound, sound_kept, blank_sound}
 use Rattle.ent_report_laws.proofs.Opened.{IsOpened}
 use Rattle.ent_report_laws.proofs.Steps.{IsTextOf, heading_text, opening_text_more, opening_row_text_more}

@@ -20,22 +20,22 @@ use Rattle.ent_history.specs.declared.history.ToldJoint.{ToldJoint}
 use Rattle.ent_history.specs.Lines.{joint_lines}
 use Rattle.ent_history.specs.Told.{joint_answer_of}
 use Rattle.ent_lists.specs.Elements.{all_joined}
-use Rattle.ent_rules.specs.Account.{Account, accounts, commit_count, commit_number, in_commit_order}
-use Rattle.ent_rules.specs.Findings.{findings}
-use Rattle.ent_rules.specs.Joint.{left_out, left_out_findings, members_findings}
-use Rattle.ent_rules.specs.Journal.{journal_from, number_finding, unless}
-use Rattle.ent_rules.specs.Placed.{Placed, members_from, placed, placed_from}
-use Rattle.ent_rules.specs.Post.{post_findings}
-use Rattle.ent_rules.specs.Replay.{account_operations, account_run, operations_findings, found_after, found_from}
-use Rattle.ent_rules.specs.Replay.{ground_finding}
-use Rattle.ent_rules.specs.Replay.{is_answered, later, replay_findings, ungrounded}
-use Rattle.ent_rules.specs.Table.{end_findings, tables_findings}
-use Rattle.ent_rules.specs.Verdict.{first_of}
-use Rattle.ent_rules.specs.declared.finding.Finding.{Finding}
-use Rattle.ent_rules.specs.declared.finding.Rule.{Rule}
-use Rattle.ent_rules.specs.declared.finding.Rule.TheVariants as rules
-use Rattle.ent_rules.specs.declared.finding.Thing.{Thing}
-use Rattle.ent_rules.specs.declared.finding.Thing.TheVariants as things
+use Rattle.ent_history.specs.Account.{Account, accounts, commit_count, commit_number, in_commit_order}
+use Rattle.ent_history.specs.Findings.{findings}
+use Rattle.ent_history.specs.Joint.{left_out, left_out_findings, members_findings}
+use Rattle.ent_history.specs.Journal.{journal_from, number_finding, unless}
+use Rattle.ent_history.specs.Placed.{Placed, members_from, placed, placed_from}
+use Rattle.ent_history.specs.Post.{post_findings}
+use Rattle.ent_history.specs.Replay.{account_operations, account_run, operations_findings, found_after, found_from}
+use Rattle.ent_history.specs.Replay.{ground_finding}
+use Rattle.ent_history.specs.Replay.{is_answered, later, replay_findings, ungrounded}
+use Rattle.ent_history.specs.Table.{end_findings, tables_findings}
+use Rattle.ent_history.specs.Verdict.{first_of}
+use Rattle.ent_history.specs.declared.finding.Finding.{Finding}
+use Rattle.ent_history.specs.declared.finding.Rule.{Rule}
+use Rattle.ent_history.specs.declared.finding.Rule.TheVariants as rules
+use Rattle.ent_history.specs.declared.finding.Thing.{Thing}
+use Rattle.ent_history.specs.declared.finding.Thing.TheVariants as things
 
 -- where it is a member, it is none behind so many
 abbrev pub IsAmong : ℕ → Thing → Type 0

@@ -11,12 +11,12 @@ use Rattle.ent_history.specs.declared.history.History.{History}
 use Rattle.ent_history.specs.declared.history.Shown.{Shown}
 use Rattle.ent_history.specs.declared.history.Told.{Told}
 use Rattle.ent_history.specs.Text.{history_text, joints_text, opening_text, shown_text, transactions_text}
-use Rattle.ent_history_form.specs.Draft.{Draft, Ended, answer_due, blank}
-use Rattle.ent_history_form.specs.Opening.{HeadingStands}
-use Rattle.ent_history_form.specs.Scripts.{IsScript}
-use Rattle.ent_history_form.specs.Stands.{Tells}
-use Rattle.ent_history_form.specs.Stands as stands
-use Rattle.ent_history_form.specs.Tables.{EndStands}
+use Rattle.ent_history.specs.Draft.{Draft, Ended, answer_due, blank}
+use Rattle.ent_history.specs.Opening.{HeadingStands}
+use Rattle.ent_history.specs.Scripts.{IsScript}
+use Rattle.ent_history.specs.Stands.{Tells}
+use Rattle.ent_history.specs.Stands as stands
+use Rattle.ent_history.specs.Tables.{EndStands}
 use Rattle.ent_tree.specs.declared.declaration.Create.{Create}
 use Rattle.ent_lists.specs.Elements.{index_pairs}
 use Rattle.ent_report_laws.specs.Tellable.{AreTablesOf, AreTransactionsOf, CanBeTold}

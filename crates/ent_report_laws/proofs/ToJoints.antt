@@ -9,9 +9,9 @@ use Rattle.ent_history.specs.declared.history.History.{History}
 use Rattle.ent_history.specs.declared.history.ToldJoint.{ToldJoint}
 use Rattle.ent_history.specs.declared.history.ToldMember.{ToldMember}
 use Rattle.ent_history.specs.Text.{joint_text, joints_text, told_member_text}
-use Rattle.ent_history_form.specs.Draft.{Draft, Members, TransactionsAreTold, members_due, on_last}
-use Rattle.ent_history_form.specs.Joints.{BindsRight, JointStands, MemberStands, member_binds, with_member}
-use Rattle.ent_history_form.specs.Stands as stands
+use Rattle.ent_history.specs.Draft.{Draft, Members, TransactionsAreTold, members_due, on_last}
+use Rattle.ent_history.specs.Joints.{BindsRight, JointStands, MemberStands, member_binds, with_member}
+use Rattle.ent_history.specs.Stands as stands
 use Rattle.ent_report_laws.specs.Tellable.{IsJointTold, IsMemberTold}
 use Rattle.ent_report_laws.proofs.Begun.{place_of, same_places, whole_joint}
 use Rattle.ent_report_laws.proofs.Lists.{changed, longer}

@@ -15,10 +15,10 @@ use Rattle.ent_book.specs.Report.{row_line, rows_text}
 use Rattle.ent_book.specs.Report2.{opening_line}
 use Rattle.ent_history.specs.declared.history.History.{History}
 use Rattle.ent_history.specs.Told.{opening_row}
-use Rattle.ent_history_form.specs.Draft.{Draft, Free, OpeningRows, NothingBelowScripts, last_of, rows_due}
-use Rattle.ent_history_form.specs.Opening.{IsDeclaration, NamesAscend, OpeningStands, OpeningRowStands}
-use Rattle.ent_history_form.specs.Parts.{Ascends, IsRow}
-use Rattle.ent_history_form.specs.Stands as stands
+use Rattle.ent_history.specs.Draft.{Draft, Free, OpeningRows, NothingBelowScripts, last_of, rows_due}
+use Rattle.ent_history.specs.Opening.{IsDeclaration, NamesAscend, OpeningStands, OpeningRowStands}
+use Rattle.ent_history.specs.Parts.{Ascends, IsRow}
+use Rattle.ent_history.specs.Stands as stands
 use Rattle.ent_lists.specs.Elements.{In, Pairs, all_joined, in_second, index_pairs, pairs_across}
 use Rattle.ent_history.specs.Text.{opened_text}
 use Rattle.ent_report_laws.specs.Tellable.{AreRowsOf}

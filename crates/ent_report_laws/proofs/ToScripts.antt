@@ -7,9 +7,9 @@ use Rattle.ent_form.specs.Catalogue.{schemas_of}
 use Rattle.ent_form.specs.ScriptFaults.{script_faults}
 use Rattle.ent_book.specs.Report2.{numbered_script_text, scripts_text}
 use Rattle.ent_history.specs.declared.history.History.{History}
-use Rattle.ent_history_form.specs.Draft.{Free, NothingBelowScripts}
-use Rattle.ent_history_form.specs.Scripts.{IsScript, ScriptStands}
-use Rattle.ent_history_form.specs.Stands as stands
+use Rattle.ent_history.specs.Draft.{Free, NothingBelowScripts}
+use Rattle.ent_history.specs.Scripts.{IsScript, ScriptStands}
+use Rattle.ent_history.specs.Stands as stands
 use Rattle.ent_report_laws.proofs.Lists.{longer}
 use Rattle.ent_report_laws.proofs.Reaching.{Leads, first_piece, stay, to_draft}
 

@@ -10,9 +10,9 @@ use Rattle.ent_book.specs.Report.{row_line, rows_text}
 use Rattle.ent_history.specs.declared.history.History.{History}
 use Rattle.ent_history.specs.declared.history.Shown.{Shown}
 use Rattle.ent_history.specs.Text.{shown_text}
-use Rattle.ent_history_form.specs.Draft.{Draft, TableRows, TransactionsAreTold, last_of, on_last, rows_due}
-use Rattle.ent_history_form.specs.Stands as stands
-use Rattle.ent_history_form.specs.Tables.{TableRowStands, TableStands, table_line_text, with_table_row}
+use Rattle.ent_history.specs.Draft.{Draft, TableRows, TransactionsAreTold, last_of, on_last, rows_due}
+use Rattle.ent_history.specs.Stands as stands
+use Rattle.ent_history.specs.Tables.{TableRowStands, TableStands, table_line_text, with_table_row}
 use Rattle.ent_lists.specs.Elements.{Pairs, index_pairs}
 use Rattle.ent_report_laws.specs.Tellable.{AreRowsOf, AreTablesOf}
 use Rattle.ent_report_laws.proofs.Lists.{changed, length_changed, longer}

@@ -16,13 +16,13 @@ use Rattle.ent_history.specs.declared.history.History.{History}
 use Rattle.ent_history.specs.declared.history.Told.{Told}
 use Rattle.ent_history.specs.Text.{told_text, transactions_text, tx_text}
 use Rattle.ent_history.specs.Told.{has_committed}
-use Rattle.ent_history_form.specs.Answers.{AnswerRowStands, AnswerStands, HasSoMany, IsAnswer, IsOfSort, TxStands}
-use Rattle.ent_history_form.specs.Answers.{answer_line_text, answers_so_far, with_answer, with_answer_row, with_row}
-use Rattle.ent_history_form.specs.Draft.{AnswerRows, Draft, Free, NothingBelowTransactions, answer_due, last_of}
-use Rattle.ent_history_form.specs.Draft.{on_last}
-use Rattle.ent_history_form.specs.Draft.{rows_due, unanswered}
-use Rattle.ent_history_form.specs.Parts.{IsRow}
-use Rattle.ent_history_form.specs.Stands as stands
+use Rattle.ent_history.specs.Answers.{AnswerRowStands, AnswerStands, HasSoMany, IsAnswer, IsOfSort, TxStands}
+use Rattle.ent_history.specs.Answers.{answer_line_text, answers_so_far, with_answer, with_answer_row, with_row}
+use Rattle.ent_history.specs.Draft.{AnswerRows, Draft, Free, NothingBelowTransactions, answer_due, last_of}
+use Rattle.ent_history.specs.Draft.{on_last}
+use Rattle.ent_history.specs.Draft.{rows_due, unanswered}
+use Rattle.ent_history.specs.Parts.{IsRow}
+use Rattle.ent_history.specs.Stands as stands
 use Rattle.ent_lists.specs.Elements.{Pairs, index_pairs}
 use Rattle.ent_report_laws.specs.Tellable.{AreAnswersTo, AreTransactionsOf, IsAnswerTold, IsTransactionTold}
 use Rattle.ent_report_laws.proofs.Begun.{placed_answer, rows_head, rows_placed, told_of}

@@ -1,1 +1,3 @@
 pub mod Tellable
+pub mod Alike
+pub mod Read

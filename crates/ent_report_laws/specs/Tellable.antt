@@ -22,11 +22,11 @@ use Rattle.ent_history.specs.declared.history.Told.{Told}
 use Rattle.ent_history.specs.declared.history.ToldJoint.{ToldJoint}
 use Rattle.ent_history.specs.declared.history.ToldMember.{ToldMember}
 use Rattle.ent_history.specs.Told.{has_committed, opening_row}
-use Rattle.ent_history_form.specs.Answers.{IsFact, IsFate, IsOfSort}
-use Rattle.ent_history_form.specs.Joints.{BindsRight, PlacesRise, member_binds}
-use Rattle.ent_history_form.specs.Opening.{IsDeclaration}
-use Rattle.ent_history_form.specs.Parts.{IsNumber, IsRow, IsValue}
-use Rattle.ent_history_form.specs.Scripts.{IsScript}
+use Rattle.ent_history.specs.Answers.{IsFact, IsFate, IsOfSort}
+use Rattle.ent_history.specs.Joints.{BindsRight, PlacesRise, member_binds}
+use Rattle.ent_history.specs.Opening.{IsDeclaration}
+use Rattle.ent_history.specs.Parts.{IsNumber, IsRow, IsValue}
+use Rattle.ent_history.specs.Scripts.{IsScript}
 
 -- each row comes before those behind it
 abbrev pub RowsRise : List (List Value) → Type 0

@@ -4,7 +4,7 @@ ghost use Rattle.ent_form.specs.Catalogue.{schemas_of};
 ghost use Rattle.ent_form.specs.Form.{script_in};
 ghost use Rattle.ent_form.specs.OpeningFault.{opening_fault};
 ghost use Rattle.ent_form.specs.declared.script.Plain.{Plain};
-ghost use Rattle.ent_rules.specs.Formed.{is_declared};
+ghost use Rattle.ent_history.specs.Formed.{is_declared};
 ghost use Rattle.ent_semantics.specs.Database.{Name, opening_database};
 ghost use Rattle.ent_semantics.specs.Uses.{changes};
 ghost use Rattle.ent_lists.specs.Sets as set;

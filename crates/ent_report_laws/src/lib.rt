@@ -2,10 +2,18 @@
 //!
 //! Scripts that resolve change declared tables only, and opening rows stand in declared ones. The functions here have
 //! no body: their contracts are laws of the definitions of the form.
+//!
+//! That the order of an opening makes no difference: in which its tables are declared, and in which its rows stand.
+//!
+//! A report of version 2 shows the tables of an opening by name, and the rows of each ascending, each once. The
+//! functions here have no body: their contracts are laws of what such an opening means, and any other that has the same
+//! table and the same rows under each name; and of which openings a report can show.
 #![tactic(auto)]
 
 mod declared_tables;
 mod law;
+mod opening_law;
+mod read;
 
 pub use declared_tables::resolved_scripts_keep_to_declared_tables;
 pub use law::{
@@ -14,3 +22,9 @@ pub use law::{
     told_openings_can_be_told, told_scripts_can_be_told, told_tables_can_be_told,
     told_texts_are_texts_of_histories,
 };
+pub use opening_law::{
+    books_over_told_openings_are_legal, openings_alike_keep_books_legal,
+    scripts_have_the_same_faults, statements_mean_the_same, told_openings_are_alike,
+    told_openings_are_faultless,
+};
+pub use read::read_openings_can_be_told;

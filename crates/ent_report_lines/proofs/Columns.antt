@@ -17,12 +17,12 @@ use Rattle.ent_tree.specs.declared.declaration.Column.{Column}
 use Rattle.ent_semantics.specs.Database.{Name, same_name}
 use Rattle.ent_semantics.specs.Names.{equal_names, name_itself}
 use Rattle.ent_book.specs.Report2.{kind_text, column_text, more_columns_text, columns_text}
-use Rattle.ent_history_form.specs.Parts.{IsName}
-use Rattle.ent_line.specs.declared.fault.LineFault.{LineFault}
-use Rattle.ent_line.specs.Pieces.{Read, behind}
-use Rattle.ent_line.proofs.Numbers.{read_of, is_first, is_rest}
-use Rattle.ent_line.proofs.Values.{bind_ok}
-use Rattle.ent_line.proofs.Rows.{behind_found, behind_again}
+use Rattle.ent_history.specs.Parts.{IsName}
+use Rattle.ent_text.specs.declared.line_fault.LineFault.{LineFault}
+use Rattle.ent_text.specs.Pieces.{Read, behind}
+use Rattle.ent_text.proofs.Numbers.{read_of, is_first, is_rest}
+use Rattle.ent_text.proofs.Values.{bind_ok}
+use Rattle.ent_text.proofs.Rows.{behind_found, behind_again}
 use Rattle.ent_report_lines.proofs.Steps.{bind_with}
 use Rattle.ent_report_lines.specs.Names.{name_at}
 use Rattle.ent_report_lines.specs.Openings.{kind_at, column_of, column_at, next_column_at, is_among, are_distinct}

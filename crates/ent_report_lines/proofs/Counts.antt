@@ -9,14 +9,14 @@ use Rattle.ent_value.specs.Print.{value_text}
 use Rattle.ent_value.specs.Refusal.{◌>>=◌}
 use Rattle.ent_value.specs.declared.value.Value.{Value}
 use Rattle.ent_semantics.specs.Database.{Name}
-use Rattle.ent_history_form.specs.Parts.{IsNumber}
-use Rattle.ent_line.specs.declared.fault.LineFault.{LineFault}
-use Rattle.ent_line.specs.declared.fault.LineFault.TheVariants.{Misfit}
-use Rattle.ent_line.specs.Pieces.{behind, number_at, value_at}
+use Rattle.ent_history.specs.Parts.{IsNumber}
+use Rattle.ent_text.specs.declared.line_fault.LineFault.{LineFault}
+use Rattle.ent_text.specs.declared.line_fault.LineFault.TheVariants.{Misfit}
+use Rattle.ent_text.specs.Pieces.{behind, number_at, value_at}
 use Rattle.ent_text.specs.Lexing.{Stops}
-use Rattle.ent_line.specs.Written.{IsOver, IsValue}
-use Rattle.ent_line.proofs.Numbers.{chosen}
-use Rattle.ent_line.proofs.Values.{bind_ok}
+use Rattle.ent_text.specs.Written.{IsOver, IsValue}
+use Rattle.ent_text.proofs.Numbers.{chosen}
+use Rattle.ent_text.proofs.Values.{bind_ok}
 use Rattle.ent_report_lines.specs.Counts.{counted_at, table_at, placed_at, set_at, table_line, placed_line, set_line}
 use Rattle.ent_report_lines.proofs.Steps.{Parts, bind_with, ok, same_ok, no_bytes}
 

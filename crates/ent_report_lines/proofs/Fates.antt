@@ -13,13 +13,13 @@ use Rattle.ent_semantics.specs.declared.answer.Failure.TheVariants as failures
 use Rattle.ent_semantics.specs.declared.book.Fate.{Fate}
 use Rattle.ent_semantics.specs.declared.book.Fate.TheVariants as fates
 use Rattle.ent_book.specs.Report.{after_text, fate_text}
-use Rattle.ent_history_form.specs.Parts.{IsNumber}
-use Rattle.ent_line.specs.declared.fault.LineFault.{LineFault}
-use Rattle.ent_line.specs.declared.fault.LineFault.TheVariants.{Misfit}
-use Rattle.ent_line.specs.Pieces.{behind, number_at}
-use Rattle.ent_line.proofs.Numbers.{chosen}
-use Rattle.ent_line.proofs.Values.{bind_ok}
-use Rattle.ent_history_form.specs.Answers.{AreRuns, IsFate}
+use Rattle.ent_history.specs.Parts.{IsNumber}
+use Rattle.ent_text.specs.declared.line_fault.LineFault.{LineFault}
+use Rattle.ent_text.specs.declared.line_fault.LineFault.TheVariants.{Misfit}
+use Rattle.ent_text.specs.Pieces.{behind, number_at}
+use Rattle.ent_text.proofs.Numbers.{chosen}
+use Rattle.ent_text.proofs.Values.{bind_ok}
+use Rattle.ent_history.specs.Answers.{AreRuns, IsFate}
 use Rattle.ent_report_lines.specs.Fates.{runs_at, committed_at, gave_up_at, rolled_back_at, failure_at, failed_at}
 use Rattle.ent_report_lines.specs.Fates.{fate_at, transaction_at, transaction_text}
 use Rattle.ent_report_lines.proofs.Steps.{Parts, bind_with, ok, same_ok, no_bytes}

@@ -12,13 +12,13 @@ use Rattle.ent_value.specs.declared.value.Value.{Value}
 use Rattle.ent_semantics.specs.Database.{Name}
 use Rattle.ent_semantics.specs.declared.answer.Fact.{Fact}
 use Rattle.ent_book.specs.Report.{fact_text, facts_text}
-use Rattle.ent_history_form.specs.Answers.{IsFact}
-use Rattle.ent_history_form.specs.Parts.{IsNumber}
-use Rattle.ent_line.specs.declared.fault.LineFault.{LineFault}
-use Rattle.ent_line.specs.Pieces.{behind, number_at, row_at, wanted}
-use Rattle.ent_line.proofs.Numbers.{chosen, read_of, is_first, is_rest, number_found, number_again}
-use Rattle.ent_line.proofs.Values.{bind_ok}
-use Rattle.ent_line.proofs.Rows.{behind_found, behind_again, row_found, row_again}
+use Rattle.ent_history.specs.Answers.{IsFact}
+use Rattle.ent_history.specs.Parts.{IsNumber}
+use Rattle.ent_text.specs.declared.line_fault.LineFault.{LineFault}
+use Rattle.ent_text.specs.Pieces.{behind, number_at, row_at, wanted}
+use Rattle.ent_text.proofs.Numbers.{chosen, read_of, is_first, is_rest, number_found, number_again}
+use Rattle.ent_text.proofs.Values.{bind_ok}
+use Rattle.ent_text.proofs.Rows.{behind_found, behind_again, row_found, row_again}
 use Rattle.ent_report_lines.proofs.Steps.{bind_with, same_ok, no_bytes}
 use Rattle.ent_report_lines.specs.Heads.{fact_of, fact_at, facts_at, heads_at, heads_line}
 use Rattle.ent_report_lines.specs.Listing.{listed_at}

@@ -9,14 +9,14 @@ use Rattle.std.proofs.lemmas.Bool.{and_parts, ltb-true, lt-ltb}
 use Rattle.std.proofs.lemmas.List.{append-nil}
 use Rattle.ent_lists.specs.Elements.{both_and}
 use Rattle.ent_value.specs.Refusal.{◌>>=◌}
-use Rattle.ent_history_form.specs.Joints.{PlacesRise, place_text}
-use Rattle.ent_history_form.specs.Parts.{IsNumber}
-use Rattle.ent_line.specs.declared.fault.LineFault.{LineFault}
-use Rattle.ent_line.specs.Pieces.{behind, number_at, wanted}
+use Rattle.ent_history.specs.Joints.{PlacesRise, place_text}
+use Rattle.ent_history.specs.Parts.{IsNumber}
+use Rattle.ent_text.specs.declared.line_fault.LineFault.{LineFault}
+use Rattle.ent_text.specs.Pieces.{behind, number_at, wanted}
 use Rattle.ent_text.specs.Lexing.{Stops}
-use Rattle.ent_line.proofs.Numbers.{chosen, read_of, is_first, is_rest, number_found, number_again}
-use Rattle.ent_line.proofs.Values.{bind_ok}
-use Rattle.ent_line.proofs.Rows.{behind_found, behind_again}
+use Rattle.ent_text.proofs.Numbers.{chosen, read_of, is_first, is_rest, number_found, number_again}
+use Rattle.ent_text.proofs.Values.{bind_ok}
+use Rattle.ent_text.proofs.Rows.{behind_found, behind_again}
 use Rattle.ent_report_lines.proofs.Steps.{bind_with, same_ok, no_bytes}
 use Rattle.ent_report_lines.specs.Joints.{place_at, places_at, rise, joint_at, joint_text}
 use Rattle.ent_report_lines.specs.Listing.{listed_at}

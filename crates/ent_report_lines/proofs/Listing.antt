@@ -8,10 +8,10 @@ use Rattle.std.proofs.lemmas.List.{append-nil}
 use Rattle.ent_value.specs.Refusal.{◌>>=◌, Refuses}
 use Rattle.ent_value.specs.declared.refusal.Refusal.{Refusal}
 use Rattle.ent_value.specs.declared.refusal.Refusal.TheVariants.{Memory, Fault}
-use Rattle.ent_line.specs.declared.fault.LineFault.{LineFault}
-use Rattle.ent_line.specs.Pieces.{Read}
-use Rattle.ent_line.proofs.Numbers.{read_of, is_first, is_rest}
-use Rattle.ent_line.proofs.Values.{bind_ok}
+use Rattle.ent_text.specs.declared.line_fault.LineFault.{LineFault}
+use Rattle.ent_text.specs.Pieces.{Read}
+use Rattle.ent_text.proofs.Numbers.{read_of, is_first, is_rest}
+use Rattle.ent_text.proofs.Values.{bind_ok}
 use Rattle.ent_report_lines.specs.Listing.{listed_at, with_one}
 
 abbrev pub with_front : {A : Type 0} → List A → Read (List A) → Read (List A)

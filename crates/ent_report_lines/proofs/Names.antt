@@ -28,9 +28,9 @@ use Rattle.ent_text.proofs.Firsts.{class_of_letter, word_is_read}
 use Rattle.ent_text.proofs.Fronts.{after_is, parts, taken_is}
 use Rattle.ent_text.proofs.Words.{found_is_keyword, keyword_is_found}
 use Rattle.ent_semantics.specs.Database.{Name}
-use Rattle.ent_history_form.specs.Parts.{IsName}
-use Rattle.ent_line.specs.Pieces.{wanted}
-use Rattle.ent_line.proofs.Numbers.{chosen, is_first, is_rest}
+use Rattle.ent_history.specs.Parts.{IsName}
+use Rattle.ent_text.specs.Pieces.{wanted}
+use Rattle.ent_text.proofs.Numbers.{chosen, is_first, is_rest}
 use Rattle.ent_report_lines.specs.Names.{is_keyword, is_name, name_at}
 
 -- ---- which words are names

@@ -8,13 +8,13 @@ use Rattle.ent_value.specs.Refusal.{◌>>=◌}
 use Rattle.ent_tree.specs.declared.declaration.Column.{Column}
 use Rattle.ent_tree.specs.declared.declaration.Create.{Create}
 use Rattle.ent_book.specs.Report2.{columns_text}
-use Rattle.ent_history_form.specs.Opening.{IsDeclaration}
-use Rattle.ent_history_form.specs.Parts.{IsNumber}
-use Rattle.ent_line.specs.declared.fault.LineFault.{LineFault}
-use Rattle.ent_line.specs.Pieces.{behind, number_at, wanted}
-use Rattle.ent_line.proofs.Numbers.{chosen, number_found, number_again}
-use Rattle.ent_line.proofs.Values.{bind_ok}
-use Rattle.ent_line.proofs.Rows.{behind_found, behind_again}
+use Rattle.ent_history.specs.Opening.{IsDeclaration}
+use Rattle.ent_history.specs.Parts.{IsNumber}
+use Rattle.ent_text.specs.declared.line_fault.LineFault.{LineFault}
+use Rattle.ent_text.specs.Pieces.{behind, number_at, wanted}
+use Rattle.ent_text.proofs.Numbers.{chosen, number_found, number_again}
+use Rattle.ent_text.proofs.Values.{bind_ok}
+use Rattle.ent_text.proofs.Rows.{behind_found, behind_again}
 use Rattle.ent_report_lines.proofs.Steps.{bind_with, same_ok, no_bytes}
 use Rattle.ent_report_lines.specs.Names.{name_at}
 use Rattle.ent_report_lines.specs.Openings.{are_distinct, columns_at, create_of, opening_at, opening_text}

@@ -3,11 +3,11 @@ use Rattle.std.proofs.Common.{◌≡◌, ℕ, List, ◌++◌, Ok, ap, ◌∙◌,
 use Rattle.std.specs.Prelude.{codes}
 use Rattle.std.specs.Fmt.{decimal}
 use Rattle.std.specs.Char.{is_ascii_digit}
-use Rattle.ent_history_form.specs.Parts.{IsNumber}
-use Rattle.ent_line.specs.Pieces.{behind}
+use Rattle.ent_history.specs.Parts.{IsNumber}
+use Rattle.ent_text.specs.Pieces.{behind}
 use Rattle.ent_text.specs.Lexing.{Stops}
-use Rattle.ent_line.proofs.Values.{bind_ok}
-use Rattle.ent_line.proofs.Rows.{behind_found, behind_again}
+use Rattle.ent_text.proofs.Values.{bind_ok}
+use Rattle.ent_text.proofs.Rows.{behind_found, behind_again}
 use Rattle.ent_report_lines.specs.Counts.{placed_at, placed_line}
 use Rattle.ent_report_lines.proofs.Steps.{bind_with}
 use Rattle.ent_report_lines.specs.Scripts.{script_at, script_text}

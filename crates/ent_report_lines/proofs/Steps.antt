@@ -5,8 +5,8 @@ use Rattle.std.specs.Char.{is_ascii_digit}
 use Rattle.std.specs.Fmt.{decimal}
 use Rattle.std.proofs.lemmas.Bool.{eqb-true}
 use Rattle.ent_value.specs.Refusal.{◌>>=◌}
-use Rattle.ent_line.specs.declared.fault.LineFault.{LineFault}
-use Rattle.ent_line.specs.Pieces.{behind, number_to}
+use Rattle.ent_text.specs.declared.line_fault.LineFault.{LineFault}
+use Rattle.ent_text.specs.Pieces.{behind, number_to}
 use Rattle.ent_text.specs.Lexing.{Stops}
 
 -- what is known of the parts of a line

@@ -5,9 +5,9 @@ use Rattle.ent_value.specs.Refusal.{◌>>=◌}
 use Rattle.ent_value.specs.declared.value.Value.{Value}
 use Rattle.ent_semantics.specs.Database.{Name}
 use Rattle.ent_book.specs.Report2.{bindings_text}
-use Rattle.ent_line.specs.declared.fault.LineFault.{LineFault}
-use Rattle.ent_line.specs.declared.fault.LineFault.TheVariants.{Misfit}
-use Rattle.ent_line.specs.Pieces.{Read, behind, number_at, value_at}
+use Rattle.ent_text.specs.declared.line_fault.LineFault.{LineFault}
+use Rattle.ent_text.specs.declared.line_fault.LineFault.TheVariants.{Misfit}
+use Rattle.ent_text.specs.Pieces.{Read, behind, number_at, value_at}
 
 -- the value of this variable
 unfoldable pub binding_at : Name → List ℕ → Read Value

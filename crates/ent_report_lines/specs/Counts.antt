@@ -5,9 +5,9 @@ use Rattle.ent_value.specs.Print.{value_text}
 use Rattle.ent_value.specs.Refusal.{◌>>=◌}
 use Rattle.ent_value.specs.declared.value.Value.{Value}
 use Rattle.ent_semantics.specs.Database.{Name}
-use Rattle.ent_line.specs.declared.fault.LineFault.{LineFault}
-use Rattle.ent_line.specs.declared.fault.LineFault.TheVariants.{Misfit}
-use Rattle.ent_line.specs.Pieces.{behind, number_at, value_at}
+use Rattle.ent_text.specs.declared.line_fault.LineFault.{LineFault}
+use Rattle.ent_text.specs.declared.line_fault.LineFault.TheVariants.{Misfit}
+use Rattle.ent_text.specs.Pieces.{behind, number_at, value_at}
 
 -- a number behind a word, up to the end
 unfoldable pub counted_at : List ℕ → List ℕ → Result ℕ LineFault

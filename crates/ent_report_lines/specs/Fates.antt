@@ -8,9 +8,9 @@ use Rattle.ent_semantics.specs.declared.answer.Failure.TheVariants as failures
 use Rattle.ent_semantics.specs.declared.book.Fate.{Fate}
 use Rattle.ent_semantics.specs.declared.book.Fate.TheVariants as fates
 use Rattle.ent_book.specs.Report.{fate_text}
-use Rattle.ent_line.specs.declared.fault.LineFault.{LineFault}
-use Rattle.ent_line.specs.declared.fault.LineFault.TheVariants.{Misfit}
-use Rattle.ent_line.specs.Pieces.{behind, number_at}
+use Rattle.ent_text.specs.declared.line_fault.LineFault.{LineFault}
+use Rattle.ent_text.specs.declared.line_fault.LineFault.TheVariants.{Misfit}
+use Rattle.ent_text.specs.Pieces.{behind, number_at}
 
 -- a number at the end, 1 to 1,000
 unfoldable pub runs_at : List ℕ → Result ℕ LineFault

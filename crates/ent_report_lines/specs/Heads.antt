@@ -6,8 +6,8 @@ use Rattle.ent_value.specs.declared.value.Value.{Value}
 use Rattle.ent_semantics.specs.Database.{Name}
 use Rattle.ent_semantics.specs.declared.answer.Fact.{Fact}
 use Rattle.ent_book.specs.Report.{facts_text}
-use Rattle.ent_line.specs.declared.fault.LineFault.{LineFault}
-use Rattle.ent_line.specs.Pieces.{Read, behind, number_at, row_at, wanted}
+use Rattle.ent_text.specs.declared.line_fault.LineFault.{LineFault}
+use Rattle.ent_text.specs.Pieces.{Read, behind, number_at, row_at, wanted}
 use Rattle.ent_report_lines.specs.Listing.{listed_at}
 use Rattle.ent_report_lines.specs.Names.{name_at}
 

@@ -4,9 +4,9 @@ use Rattle.std.specs.Prelude.{codes}
 use Rattle.std.specs.List.{flat_map}
 use Rattle.std.specs.Fmt.{decimal}
 use Rattle.ent_value.specs.Refusal.{◌>>=◌}
-use Rattle.ent_history_form.specs.Joints.{place_text}
-use Rattle.ent_line.specs.declared.fault.LineFault.{LineFault}
-use Rattle.ent_line.specs.Pieces.{Read, behind, number_at, wanted}
+use Rattle.ent_history.specs.Joints.{place_text}
+use Rattle.ent_text.specs.declared.line_fault.LineFault.{LineFault}
+use Rattle.ent_text.specs.Pieces.{Read, behind, number_at, wanted}
 use Rattle.ent_report_lines.specs.Listing.{listed_at}
 
 -- a statement's transaction and place, behind a space

@@ -7,3 +7,7 @@ pub mod Openings
 pub mod Scripts
 pub mod Heads
 pub mod Joints
+pub mod Begins
+pub mod Filling
+pub mod Only
+pub mod Read

@@ -1,7 +1,7 @@
 -- How things that stand one behind the other are read.
 use Rattle.std.specs.Prelude.{◌==◌, ℕ, zero, suc, List, [], ◌∷◌, Ok, slice_index, if◌then◌else◌}
 use Rattle.ent_value.specs.Refusal.{◌>>=◌}
-use Rattle.ent_line.specs.Pieces.{Read}
+use Rattle.ent_text.specs.Pieces.{Read}
 
 abbrev pub with_one : {A : Type 0} → A → Read (List A) → Read (List A)
 with_one one read = read >>= λ more. Ok (one ∷ more.0, more.1)

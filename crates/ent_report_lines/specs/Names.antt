@@ -7,7 +7,7 @@ use Rattle.ent_text.specs.Lexing.{after, keyword_of}
 use Rattle.ent_text.specs.declared.token.TokenKind.{TokenKind}
 use Rattle.ent_text.specs.declared.token.TokenKind.TheVariants as kinds
 use Rattle.ent_semantics.specs.Database.{Name}
-use Rattle.ent_line.specs.Pieces.{Read, wanted}
+use Rattle.ent_text.specs.Pieces.{Read, wanted}
 
 abbrev pub is_keyword : TokenKind → Bool
 is_keyword (kinds.Word keyword) = true

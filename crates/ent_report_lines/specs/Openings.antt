@@ -11,8 +11,8 @@ use Rattle.ent_tree.specs.declared.declaration.Column.{Column}
 use Rattle.ent_tree.specs.declared.declaration.Create.{Create}
 use Rattle.ent_semantics.specs.Database.{Name, same_name}
 use Rattle.ent_book.specs.Report2.{columns_text}
-use Rattle.ent_line.specs.declared.fault.LineFault.{LineFault}
-use Rattle.ent_line.specs.Pieces.{Read, behind, number_at, wanted}
+use Rattle.ent_text.specs.declared.line_fault.LineFault.{LineFault}
+use Rattle.ent_text.specs.Pieces.{Read, behind, number_at, wanted}
 use Rattle.ent_report_lines.specs.Listing.{listed_at, with_one}
 use Rattle.ent_report_lines.specs.Names.{name_at}
 

@@ -2,8 +2,8 @@
 use Rattle.std.specs.Prelude.{ℕ, List, ◌++◌, Result, codes}
 use Rattle.std.specs.Fmt.{decimal}
 use Rattle.ent_value.specs.Refusal.{◌>>=◌}
-use Rattle.ent_line.specs.declared.fault.LineFault.{LineFault}
-use Rattle.ent_line.specs.Pieces.{behind}
+use Rattle.ent_text.specs.declared.line_fault.LineFault.{LineFault}
+use Rattle.ent_text.specs.Pieces.{behind}
 use Rattle.ent_report_lines.specs.Counts.{placed_at}
 
 unfoldable pub script_at : List ℕ → Result (ℕ × ℕ) LineFault

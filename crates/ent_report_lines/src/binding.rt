@@ -3,7 +3,7 @@ ghost use Rattle.std.specs.Prelude.{◌≡◌, map};
 ghost use Rattle.ent_value.specs.Refusal.{Gives};
 ghost use Rattle.ent_report_lines.specs.Bindings.{binding_at, bindings_at, member_at};
 
-use ent_line::{LineFault, behind, number, value};
+use ent_text::{LineFault, behind, number, value};
 use ent_value::{Name, Refusal, Sequence, Value};
 use std::alloc::Global;
 

@@ -5,8 +5,8 @@ ghost use Rattle.ent_report_lines.specs.Openings.{are_distinct, column_at, colum
 ghost use Rattle.ent_report_lines.specs.Openings.{next_column_at, opening_at};
 
 use crate::word::{first_byte, name};
-use ent_line::{LineFault, behind, number};
 use ent_semantics::is_column_among;
+use ent_text::{LineFault, behind, number};
 use ent_tree::{Column, Create, Identifier, MOST_PARTS};
 use ent_value::{Kind, Limited, Refusal};
 use std::alloc::Global;

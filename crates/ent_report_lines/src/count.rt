@@ -3,7 +3,7 @@ ghost use Rattle.std.specs.Prelude.{◌≡◌};
 ghost use Rattle.ent_value.specs.Refusal.{Gives};
 ghost use Rattle.ent_report_lines.specs.Counts.{counted_at, placed_at, set_at, table_at};
 
-use ent_line::{LineFault, behind, number, value};
+use ent_text::{LineFault, behind, number, value};
 use ent_value::{Name, Refusal, Value};
 use std::alloc::Global;
 

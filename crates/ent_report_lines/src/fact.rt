@@ -4,8 +4,8 @@ ghost use Rattle.ent_value.specs.Refusal.{Gives};
 ghost use Rattle.ent_report_lines.specs.Heads.{fact_at, facts_at, heads_at};
 
 use crate::word::{first_byte, name};
-use ent_line::{LineFault, behind, number, row};
 use ent_semantics::Fact;
+use ent_text::{LineFault, behind, number, row};
 use ent_value::{Refusal, Sequence};
 use std::alloc::Global;
 

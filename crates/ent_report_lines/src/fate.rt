@@ -4,8 +4,8 @@ ghost use Rattle.ent_value.specs.Refusal.{Gives};
 ghost use Rattle.ent_report_lines.specs.Fates.{committed_at, failed_at, failure_at, fate_at, gave_up_at};
 ghost use Rattle.ent_report_lines.specs.Fates.{rolled_back_at, runs_at, transaction_at};
 
-use ent_line::{LineFault, behind, number};
 use ent_semantics::{Failure, Fate};
+use ent_text::{LineFault, behind, number};
 use ent_tree::MOST_RUNS;
 use ent_value::Refusal;
 

@@ -6,15 +6,15 @@ ghost use Rattle.std.specs.Fmt.{decimal};
 ghost use Rattle.std.specs.List.{AllByRecursion};
 ghost use Rattle.ent_value.specs.declared.value.Value.{Value};
 ghost use Rattle.ent_semantics.specs.Database.{Name};
-ghost use Rattle.ent_history_form.specs.Answers.{IsFate};
-ghost use Rattle.ent_history_form.specs.Parts.{IsNumber};
+ghost use Rattle.ent_history.specs.Answers.{IsFate};
+ghost use Rattle.ent_history.specs.Parts.{IsNumber};
 ghost use Rattle.ent_text.specs.Lexing.{Stops};
-ghost use Rattle.ent_line.specs.Written.{IsValue};
+ghost use Rattle.ent_text.specs.Written.{IsValue};
 ghost use Rattle.ent_report_lines.specs.Counts.{table_at, placed_at, set_at, table_line, placed_line, set_line};
 ghost use Rattle.ent_report_lines.specs.Bindings.{member_at, member_line};
 ghost use Rattle.ent_report_lines.specs.Fates.{transaction_at, transaction_text};
 
-use ent_line::{numbers_are_read_as_written, values_are_read_as_written, words_stand_in_front};
+use ent_text::{numbers_are_read_as_written, values_are_read_as_written, words_stand_in_front};
 
 /// The line of a transaction is read just where it is written.
 pub fn transactions_are_read_as_written()

@@ -4,7 +4,7 @@ ghost use Rattle.ent_value.specs.Refusal.{Gives};
 ghost use Rattle.ent_report_lines.specs.Joints.{joint_at, place_at, places_at, rise};
 
 use crate::word::first_byte;
-use ent_line::{LineFault, behind, number};
+use ent_text::{LineFault, behind, number};
 use ent_value::{Refusal, Sequence};
 use std::alloc::Global;
 

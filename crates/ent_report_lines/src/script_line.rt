@@ -4,7 +4,7 @@ ghost use Rattle.ent_value.specs.Refusal.{Gives};
 ghost use Rattle.ent_report_lines.specs.Scripts.{script_at};
 
 use crate::count::placed;
-use ent_line::{LineFault, behind};
+use ent_text::{LineFault, behind};
 use ent_value::Refusal;
 
 /// The line above a script: the script's number, and how many lines follow.

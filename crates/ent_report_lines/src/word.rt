@@ -7,8 +7,7 @@ ghost use Rattle.ent_text.specs.Lexing.{keyword_of};
 ghost use Rattle.ent_text.specs.View.{kind_seen};
 ghost use Rattle.ent_report_lines.specs.Names.{is_keyword, name_at};
 
-use ent_line::LineFault;
-use ent_text::{TokenView, Tokens, word_len};
+use ent_text::{LineFault, TokenView, Tokens, word_len};
 use ent_value::{Name, Refusal, is_word};
 use std::alloc::Global;
 use std::str;

@@ -31,19 +31,19 @@ use Rattle.ent_book.specs.Report2.{bindings_text, column_text, columns_text, kin
 use Rattle.ent_report_lines.specs.Fates.{transaction_text}
 use Rattle.ent_report_lines.specs.Joints.{joint_text}
 use Rattle.ent_report_lines.specs.Openings.{opening_text}
-use Rattle.ent_history_form.specs.Parts.{IsName, IsRow, IsValue}
-use Rattle.ent_history_form.specs.Draft.{Draft}
-use Rattle.ent_history_form.specs.Opening.{HeadingStands, IsDeclaration, OpeningRowStands, OpeningStands}
-use Rattle.ent_history_form.specs.Answers.{AnswerRowStands, AnswerStands, IsAnswer, IsFact, TxStands, answer_line_text}
-use Rattle.ent_history_form.specs.Answers.{answers_so_far}
-use Rattle.ent_history_form.specs.Joints.{Binds, BindsRight, JointStands, MemberStands, member_binds, place_text}
-use Rattle.ent_history_form.specs.Tables.{EndStands, TableRowStands, TableStands}
-use Rattle.ent_history_form.specs.Scripts.{ScriptStands}
-use Rattle.ent_history_form.specs.Stands.{Stands}
-use Rattle.ent_history_form.specs.Stands as stands
-use Rattle.ent_script_reader.proofs.InLine.{IsInLine, in_line_append, kind_in_line, word_in_line}
-use Rattle.ent_report_draft.specs.Members.{BindsWords, MemberHasWords}
-use Rattle.ent_report_draft.proofs.InLines.{number_in_line}
+use Rattle.ent_history.specs.Parts.{IsName, IsRow, IsValue}
+use Rattle.ent_history.specs.Draft.{Draft}
+use Rattle.ent_history.specs.Opening.{HeadingStands, IsDeclaration, OpeningRowStands, OpeningStands}
+use Rattle.ent_history.specs.Answers.{AnswerRowStands, AnswerStands, IsAnswer, IsFact, TxStands, answer_line_text}
+use Rattle.ent_history.specs.Answers.{answers_so_far}
+use Rattle.ent_history.specs.Joints.{Binds, BindsRight, JointStands, MemberStands, member_binds, place_text}
+use Rattle.ent_history.specs.Tables.{EndStands, TableRowStands, TableStands}
+use Rattle.ent_history.specs.Scripts.{ScriptStands}
+use Rattle.ent_history.specs.Stands.{Stands}
+use Rattle.ent_history.specs.Stands as stands
+use Rattle.ent_report_lines.proofs.InLine.{IsInLine, in_line_append, kind_in_line, word_in_line}
+use Rattle.ent_report_reader.specs.Members.{BindsWords, MemberHasWords}
+use Rattle.ent_report_reader.proofs.InLines.{number_in_line}
 
 -- ---- parts of a line
 

@@ -7,22 +7,22 @@ use Rattle.ent_book.specs.Report.{line}
 use Rattle.ent_book.specs.Report2.{line_count, numbered_script_text}
 use Rattle.ent_report_lines.specs.Scripts as sections
 use Rattle.ent_history.specs.declared.history.History.{History}
-use Rattle.ent_history_form.specs.Draft.{Draft}
-use Rattle.ent_history_form.specs.Scripts.{IsScript, ScriptBreaksOff, ScriptIsNext, ScriptStands}
-use Rattle.ent_history_form.specs.Stands as stands
-use Rattle.ent_script_reader.specs.Begins.{BeginsScript, HasWholeLines, script_line}
-use Rattle.ent_script_reader.proofs.InLine.{IsInLine}
-use Rattle.ent_script_reader.proofs.Lines.{count_append, end_is_line, begin_text, line_text, script_is}
-use Rattle.ent_script_reader.proofs.Begun.{script_count}
-use Rattle.ent_script_reader.proofs.Cut.{peel}
-use Rattle.ent_script_reader.proofs.BreaksOff.{is_numbered, most, no_more, same_count, same_line}
-use Rattle.ent_report_draft.specs.Judging.{Cannot, Judges}
-use Rattle.ent_report_draft.specs.Reading.{Reads}
-use Rattle.ent_report_draft.specs.Scripts.{IsScriptLine}
+use Rattle.ent_history.specs.Draft.{Draft}
+use Rattle.ent_history.specs.Scripts.{IsScript, ScriptBreaksOff, ScriptIsNext, ScriptStands}
+use Rattle.ent_history.specs.Stands as stands
+use Rattle.ent_report_lines.specs.Begins.{BeginsScript, HasWholeLines, script_line}
+use Rattle.ent_report_lines.proofs.InLine.{IsInLine}
+use Rattle.ent_report_lines.proofs.Lines.{count_append, end_is_line, begin_text, line_text, script_is}
+use Rattle.ent_report_lines.proofs.Begun.{script_count}
+use Rattle.ent_report_lines.proofs.Cut.{peel}
+use Rattle.ent_report_lines.proofs.BreaksOff.{is_numbered, most, no_more, same_count, same_line}
+use Rattle.ent_report_reader.specs.Judging.{Cannot, Judges}
+use Rattle.ent_report_reader.specs.Reading.{Reads}
+use Rattle.ent_report_reader.specs.Scripts.{IsScriptLine}
 use Rattle.ent_value.specs.declared.refusal.Refusal.{Refusal}
 use Rattle.ent_value.specs.declared.refusal.Refusal.TheVariants.{Fault}
-use Rattle.ent_line.specs.declared.fault.LineFault.{LineFault}
-use Rattle.ent_report_draft.proofs.InLines.{script_line_in_line}
+use Rattle.ent_text.specs.declared.line_fault.LineFault.{LineFault}
+use Rattle.ent_report_reader.proofs.InLines.{script_line_in_line}
 use Rattle.ent_report_reader.specs.Lines.{AreFrontLines, IsFirstLine}
 use Rattle.ent_report_reader.specs.Steps.{NoScript, TakesPiece}
 use Rattle.ent_report_reader.proofs.Fronts.{same_front}

@@ -4,11 +4,11 @@ use Rattle.std.proofs.Common.{arith, append_assoc}
 use Rattle.std.proofs.lemmas.List.{append-nil}
 use Rattle.ent_book.specs.Report2.{line_count}
 use Rattle.ent_history.specs.declared.history.History.{History}
-use Rattle.ent_history_form.specs.Draft.{Draft, Ended, blank}
-use Rattle.ent_history_form.specs.Scripts.{ScriptBreaksOff}
-use Rattle.ent_history_form.specs.Stands.{AllStand, Stands, Tells, whole}
-use Rattle.ent_history_form.specs.Fault.{HasFormFault, IsNoEnd, NothingStands}
-use Rattle.ent_script_reader.proofs.Lines.{count_append}
+use Rattle.ent_history.specs.Draft.{Draft, Ended, blank}
+use Rattle.ent_history.specs.Scripts.{ScriptBreaksOff}
+use Rattle.ent_history.specs.Stands.{AllStand, Stands, Tells, whole}
+use Rattle.ent_history.specs.Fault.{HasFormFault, IsNoEnd, NothingStands}
+use Rattle.ent_report_lines.proofs.Lines.{count_append}
 use Rattle.ent_report_reader.specs.Reports.{StandsUpTo, StopsAt}
 use Rattle.ent_report_reader.specs.Steps.{TakesPiece}
 

@@ -4,9 +4,9 @@ use Rattle.std.proofs.Common.{inr}
 use Rattle.std.specs.Prelude.{IfOk, IsTrue, ◌↔◌}
 use Rattle.std.specs.Str.{IsUtf8}
 use Rattle.ent_history.specs.declared.history.History.{History}
-use Rattle.ent_history_form.specs.Draft.{Draft, Ended}
-use Rattle.ent_history_form.specs.Stands.{Tells}
-use Rattle.ent_history_form.specs.Fault.{HasFormFault, IsNoEnd}
+use Rattle.ent_history.specs.Draft.{Draft, Ended}
+use Rattle.ent_history.specs.Stands.{Tells}
+use Rattle.ent_history.specs.Fault.{HasFormFault, IsNoEnd}
 use Rattle.ent_report_reader.specs.Reports.{IsReportRead, IsTextRead}
 
 -- the end doesn't stand

@@ -1,3 +1,12 @@
+pub mod Judging
+pub mod View
+pub mod Reading
+pub mod Due
+pub mod Opened
+pub mod Scripts
+pub mod Bindings
+pub mod Members
+pub mod Taking
 pub mod Lines
 pub mod Steps
 pub mod Reports

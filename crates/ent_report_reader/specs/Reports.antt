@@ -2,9 +2,9 @@
 use Rattle.std.specs.Prelude.{◌≡◌, ℕ, List, ◌++◌, Result, Ok, Err}
 use Rattle.std.specs.Str.{IsUtf8}
 use Rattle.ent_history.specs.declared.history.History.{History}
-use Rattle.ent_history_form.specs.Draft.{Draft, blank}
-use Rattle.ent_history_form.specs.Stands.{AllStand, Tells, whole}
-use Rattle.ent_history_form.specs.Fault.{HasFormFault, IsNoReport, NothingStands}
+use Rattle.ent_history.specs.Draft.{Draft, blank}
+use Rattle.ent_history.specs.Stands.{AllStand, Tells, whole}
+use Rattle.ent_history.specs.Fault.{HasFormFault, IsNoReport, NothingStands}
 
 -- all pieces of the text stand up to this rest
 pub record StandsUpTo (text : List ℕ) (draft : Draft) (rest : List ℕ) : Type 0 where

@@ -1,9 +1,9 @@
 -- The first piece of a text, which a draft takes in.
 use Rattle.std.specs.Prelude.{◌≡◌, ◌<◌, ℕ, List, ◌++◌, length, Option, Some, None}
-use Rattle.ent_history_form.specs.Draft.{Draft}
-use Rattle.ent_history_form.specs.Stands.{Stands}
-use Rattle.ent_history_form.specs.Scripts.{ScriptStands}
-use Rattle.ent_history_form.specs.Fault.{NothingStands}
+use Rattle.ent_history.specs.Draft.{Draft}
+use Rattle.ent_history.specs.Stands.{Stands}
+use Rattle.ent_history.specs.Scripts.{ScriptStands}
+use Rattle.ent_history.specs.Fault.{NothingStands}
 
 -- a piece stands in front, and this is behind it
 pub record TakesPiece (old new : Draft) (text behind : List ℕ) : Type 0 where

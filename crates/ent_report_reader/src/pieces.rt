@@ -4,13 +4,13 @@ ghost use Rattle.std.specs.List.{list_all};
 ghost use Rattle.std.specs.Option.{option_copied};
 ghost use Rattle.ent_text.specs.Spelling.{is_in_line};
 ghost use Rattle.ent_book.specs.Report.{line};
-ghost use Rattle.ent_history_form.specs.Scripts.{ScriptBreaksOff};
+ghost use Rattle.ent_history.specs.Scripts.{ScriptBreaksOff};
 ghost use Rattle.ent_report_reader.specs.Steps.{Steps, StepsScript};
 
+use crate::Draft;
 use crate::lines::{first_line, front_lines};
 use ent_book::line_count;
-use ent_report_draft::Draft;
-use ent_script_reader::scripts_break_off_in_their_lines;
+use ent_report_lines::scripts_break_off_in_their_lines;
 use ent_value::Refusal;
 use std::alloc::{AllocError, Global};
 

@@ -3,10 +3,10 @@ ghost use Rattle.std.specs.Prelude.{IfOk, ◌↔◌, ◌≡◌, ◌+◌};
 ghost use Rattle.ent_book.specs.Report2.{line_count};
 ghost use Rattle.ent_report_reader.specs.Reports.{IsReportRead, IsTextRead, StopsAt};
 
+use crate::Draft;
 use crate::pieces::{breaks_off, take_piece};
 use ent_book::line_count;
 use ent_history::History;
-use ent_report_draft::Draft;
 use std::alloc::{AllocError, Global};
 use std::str;
 

@@ -4,7 +4,7 @@ use Rattle.ent_meetings.specs.Lack.{IsLack}
 use Rattle.ent_meetings.specs.Meeting.{IsLonely}
 use Rattle.ent_meetings.specs.Waiting.{Waiting, party_at}
 use Rattle.ent_meetings.specs.declared.lack.Lack.TheVariants.{Unoffered}
-use Rattle.ent_parties.specs.declared.party.Party.{Party}
+use Rattle.ent_meetings.specs.declared.party.Party.{Party}
 use Rattle.ent_admission.specs.Admission.{Admission, IsIndexed, is_in_batch}
 use Rattle.ent_waiting.specs.Ended.{ended_of}
 use Rattle.ent_waiting.specs.WaitingList.{WaitingList, is_stationed, waiter_of}

@@ -8,8 +8,7 @@ use crate::prospects::is_among;
 use crate::room::Room;
 use crate::tables::add_changed;
 use ent_group::MOST_MEMBERS;
-use ent_meetings::{Bound, Found, Index, MOST_CHOICES, MOST_LOOKS, Search, widen};
-use ent_parties::Party;
+use ent_meetings::{Bound, Found, Index, MOST_CHOICES, MOST_LOOKS, Party, Search, widen};
 use ent_waiting::{Rank, Station, Ticket};
 use std::alloc::{AllocError, Global};
 

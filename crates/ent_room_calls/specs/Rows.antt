@@ -1,7 +1,7 @@
 -- Rows of tables that are collected value by value.
 use Rattle.std.specs.Prelude.{◌≡◌, ◌⊎◌, ◌++◌, ◌∷◌, ℕ, List, [], length}
 use Rattle.ent_value.specs.declared.value.Value.{Value as OneValue}
-use Rattle.ent_given.specs.declared.row.GivenRow.{GivenRow}
+use Rattle.ent_prepare.specs.declared.row.GivenRow.{GivenRow}
 use Rattle.ent_tree.specs.declared.limits.TheConstants.{MOST_PARTS}
 use Rattle.ent_room_calls.specs.declared.fault.RoomFault.{RoomFault}
 use Rattle.ent_room_calls.specs.declared.fault.RoomFault.TheVariants.{Memory, TooManyValues}

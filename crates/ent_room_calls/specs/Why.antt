@@ -2,8 +2,8 @@
 use Rattle.std.specs.Prelude.{List, [], ◌∷◌, ◌++◌, ℕ, codes, Option, Some, None, slice_get}
 use Rattle.ent_value.specs.Print.{value_text}
 use Rattle.ent_value.specs.declared.value.Value.{Value}
-use Rattle.ent_parties.specs.Party.{party_of}
-use Rattle.ent_parties.specs.declared.pattern.Pattern.{Pattern}
+use Rattle.ent_meetings.specs.Party.{party_of}
+use Rattle.ent_meetings.specs.declared.pattern.Pattern.{Pattern}
 use Rattle.ent_room.specs.declared.state.State.{State}
 use Rattle.ent_room.specs.declared.state.State.TheVariants as states
 use Rattle.ent_waiting.specs.declared.waiter.Waiter.{Waiter}

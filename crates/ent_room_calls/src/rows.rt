@@ -1,7 +1,7 @@
 //! Rows of tables, collected value by value.
 ghost use Rattle.std.specs.Prelude.{◌≡◌, ◌⊎◌, ◌++◌, ◌∷◌, [], true, IfErr, IfOk, OnErr, OnOk, length};
 ghost use Rattle.ent_bound.specs.Bindable.{IsBindableText};
-ghost use Rattle.ent_given.specs.Givable.{IsGivable};
+ghost use Rattle.ent_prepare.specs.Givable.{IsGivable};
 ghost use Rattle.ent_tree.specs.declared.limits.TheConstants.{MOST_PARTS};
 ghost use Rattle.ent_value.specs.Name.{is_word};
 ghost use Rattle.ent_value.specs.declared.value.Value.TheVariants.{Text};
@@ -10,7 +10,7 @@ ghost use Rattle.ent_room_calls.specs.Values.{IsNoText, IsNotAdded};
 ghost use Rattle.ent_room_calls.specs.declared.fault.RoomFault.TheVariants.{Memory, TooManyValues};
 
 use crate::fault::RoomFault;
-use ent_given::{GivenRow, GivenValue};
+use ent_prepare::{GivenRow, GivenValue};
 use ent_tree::MOST_PARTS;
 use ent_value::{Limited, Name, Refusal, is_word};
 use std::alloc::Global;
@@ -24,7 +24,7 @@ pub struct GivenRows {
 
 impl Model for GivenRows {
     ghost use Rattle.std.specs.Prelude.{List, length, ◌<◌};
-    ghost use Rattle.ent_given.specs.declared.row.GivenRow.{GivenRow as Row};
+    ghost use Rattle.ent_prepare.specs.declared.row.GivenRow.{GivenRow as Row};
 
     ghost Value = { List Row };
 

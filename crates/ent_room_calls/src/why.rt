@@ -1,7 +1,7 @@
 //! How a ticket stands, in a line, with the demand of who is lonely.
 ghost use Rattle.std.specs.Prelude.{◌≡◌, ◌++◌, ◌∷◌, [], IfErr, IfOk, OnOk, slice_get};
 ghost use Rattle.std.specs.Option.{option_copied};
-ghost use Rattle.ent_parties.specs.Party.{party_of};
+ghost use Rattle.ent_meetings.specs.Party.{party_of};
 ghost use Rattle.ent_room.specs.State.{StandsAs};
 ghost use Rattle.ent_room.specs.declared.state.State.{State as StateSeen};
 ghost use Rattle.ent_room_calls.specs.State.{state_text};
@@ -12,7 +12,7 @@ ghost use Rattle.ent_waiting.specs.WaitingList.{waiter_of};
 
 use crate::fault::RoomFault;
 use crate::state::state_text;
-use ent_parties::{Party, Pattern};
+use ent_meetings::{Party, Pattern};
 use ent_room::{Room, State};
 use ent_tree::Script;
 use ent_value::{Name, Value, print_value};

@@ -2,7 +2,7 @@
 use crate::call::integer;
 use crate::coming::name_of;
 use anyhow::{Result, bail, ensure};
-use ent_given::{GivenRow, GivenValue};
+use ent_prepare::{GivenRow, GivenValue};
 use ent_tree::MOST_PARTS;
 use ent_value::Limited;
 use std::alloc::Global;

@@ -5,7 +5,7 @@ use crate::call::{Open, read_open};
 use crate::rows::take_row;
 use crate::stage::Stage;
 use anyhow::{Context, Result, bail};
-use ent_given::GivenRow;
+use ent_prepare::GivenRow;
 use ent_room::{NotOpened, Room};
 use ent_value::Refusal;
 use ent_waiting::Ticket;

@@ -32,3 +32,8 @@ pub mod GroupRuns
 pub mod Good
 pub mod GroupAnswers
 pub mod Conflicts
+pub mod Replied
+pub mod Journal
+pub mod Counted
+pub mod PutBack
+pub mod Settled

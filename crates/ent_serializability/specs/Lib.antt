@@ -7,3 +7,4 @@ pub mod GroupRuns
 pub mod GoodAnswers
 pub mod GroupAnswers
 pub mod Conflicts
+pub mod Commits

@@ -6,14 +6,14 @@ use Rattle.ent_text.specs.Lexing.{tokens_of}
 use Rattle.ent_text.specs.Left.{tokens_left, fault_among, IsFaultlessBefore}
 use Rattle.ent_text.proofs.Found.{found_are_tokens}
 use Rattle.ent_text.proofs.FirstFault.{all_left, fault_left, faultless_front}
-use Rattle.ent_grammar.proofs.Faultless.{read_without_fault, begun_without_fault}
+use Rattle.ent_text.proofs.Faultless.{read_without_fault, begun_without_fault}
 use Rattle.ent_sql.specs.Fault.{fault_of, place_of}
-use Rattle.ent_grammar.specs.declared.fault.GrammarFault.{GrammarFault}
-use Rattle.ent_grammar.specs.declared.fault.GrammarFault.TheVariants as grammar
-use Rattle.ent_grammar.specs.Foresight.{IsPredictive}
-use Rattle.ent_grammar.specs.Grammar.{Grammar, reads_all}
-use Rattle.ent_grammar.proofs.Stopped.{read_is_spelled, spelled_is_read, unexpected_cant_follow, too_many_is_too_much}
-use Rattle.ent_grammar.proofs.Place.{cant_follow_is_unexpected, too_much_is_too_many}
+use Rattle.ent_text.specs.declared.grammar_fault.GrammarFault.{GrammarFault}
+use Rattle.ent_text.specs.declared.grammar_fault.GrammarFault.TheVariants as grammar
+use Rattle.ent_text.specs.Foresight.{IsPredictive}
+use Rattle.ent_text.specs.Grammar.{Grammar, reads_all}
+use Rattle.ent_text.proofs.Stopped.{read_is_spelled, spelled_is_read, unexpected_cant_follow, too_many_is_too_much}
+use Rattle.ent_text.proofs.Place.{cant_follow_is_unexpected, too_much_is_too_many}
 use Rattle.ent_tree.specs.declared.script.Input.{Input}
 use Rattle.ent_sql.specs.declared.fault.SqlFault.{SqlFault}
 use Rattle.ent_sql.specs.declared.fault.SqlFault.TheVariants.{Text, Unexpected, TooMany}

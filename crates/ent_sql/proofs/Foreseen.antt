@@ -6,11 +6,11 @@ use Rattle.ent_tree.specs.declared.operand.Operand.{Operand}
 use Rattle.ent_tree.specs.declared.select.Items.{Items}
 use Rattle.ent_tree.specs.declared.entangled.EntangledItem.{EntangledItem}
 use Rattle.ent_tree.specs.declared.entangled.Tuple.{Tuple}
-use Rattle.ent_grammar.specs.Class.{Class, word, sign, name, apart}
+use Rattle.ent_text.specs.Class.{Class, word, sign, name, apart}
 use Rattle.ent_tree.specs.declared.limits.TheConstants.{MOST_PARTS}
-use Rattle.ent_grammar.specs.declared.divider.Divider.TheVariants.{Comma}
-use Rattle.ent_grammar.specs.Grammar.{Grammar, pick, listed, firsts, nullable}
-use Rattle.ent_grammar.specs.Foresight.{IsPredictive, if_some}
+use Rattle.ent_text.specs.declared.divider.Divider.TheVariants.{Comma}
+use Rattle.ent_text.specs.Grammar.{Grammar, pick, listed, firsts, nullable}
+use Rattle.ent_text.specs.Foresight.{IsPredictive, if_some}
 use Rattle.ent_sql.specs.Operands.{identifier, host_variable, negative, unsigned, positive, quoted, literal, value}
 use Rattle.ent_sql.specs.Operands.{column_reference, operand, term, comparison, compared, expression_behind, expression}
 use Rattle.ent_sql.specs.Tables.{kind, column, create, row, opening_row, insert}

@@ -4,13 +4,13 @@ use Rattle.std.proofs.Common.{ap, ◌∙◌, append_assoc, arith, length}
 use Rattle.std.proofs.lemmas.List.{append-nil}
 use Rattle.ent_text.specs.declared.token.Token.{Token}
 use Rattle.ent_text.specs.declared.token.TokenKind.{TokenKind}
-use Rattle.ent_grammar.specs.declared.fault.GrammarFault.{GrammarFault}
-use Rattle.ent_grammar.specs.declared.fault.GrammarFault.TheVariants.{Unexpected, TooMany}
+use Rattle.ent_text.specs.declared.grammar_fault.GrammarFault.{GrammarFault}
+use Rattle.ent_text.specs.declared.grammar_fault.GrammarFault.TheVariants.{Unexpected, TooMany}
 use Rattle.ent_value.specs.declared.refusal.Refusal.{Refusal}
 use Rattle.ent_value.specs.declared.refusal.Refusal.TheVariants as errors
 use Rattle.ent_value.specs.Refusal.{◌>>=◌, Refuses}
-use Rattle.ent_grammar.specs.Read.{Read, place_of, begins}
-use Rattle.ent_grammar.specs.List.{joined, more_at, many_at}
+use Rattle.ent_text.specs.Read.{Read, place_of, begins}
+use Rattle.ent_text.specs.List.{joined, more_at, many_at}
 
 -- what was read before, and what is still read
 abbrev pub with_front : {A : Type 0} → List A → Read (List A) → Read (List A)

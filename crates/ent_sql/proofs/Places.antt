@@ -6,11 +6,11 @@ use Rattle.ent_text.specs.declared.token.TokenKind.{TokenKind}
 use Rattle.ent_text.specs.declared.token.TokenKind.TheVariants as kinds
 use Rattle.ent_text.specs.declared.symbol.Symbol.TheVariants as signs
 use Rattle.ent_tree.specs.Places.{value_place, term_place}
-use Rattle.ent_grammar.specs.Read.{place_of}
-use Rattle.ent_grammar.specs.Class.{Class, word, sign, name, variable, number, positive, one, text, Given, given, if_so}
-use Rattle.ent_grammar.specs.Phrase.{Phrase, ◌⨾◌, nothing, Single}
-use Rattle.ent_grammar.proofs.Classes.{by_either}
-use Rattle.ent_grammar.specs.Spelling.{spells, chained}
+use Rattle.ent_text.specs.Read.{place_of}
+use Rattle.ent_text.specs.Class.{Class, word, sign, name, variable, number, positive, one, text, Given, given, if_so}
+use Rattle.ent_text.specs.Phrase.{Phrase, ◌⨾◌, nothing, Single}
+use Rattle.ent_text.proofs.Classes.{by_either}
+use Rattle.ent_text.specs.GrammarSpelling.{spells, chained}
 use Rattle.ent_tree.specs.declared.operand.Identifier.{Identifier}
 use Rattle.ent_tree.specs.declared.operand.Literal.{Literal}
 use Rattle.ent_tree.specs.declared.operand.ValueSpecification.{ValueSpecification}

@@ -17,9 +17,9 @@ use Rattle.ent_tree.specs.declared.entangled.Condition.TheVariants as conditions
 use Rattle.ent_tree.specs.declared.entangled.Entangled.{Entangled}
 use Rattle.ent_tree.specs.declared.script.Statement.{Statement}
 use Rattle.ent_tree.specs.declared.script.Statement.TheVariants as statements
-use Rattle.ent_grammar.specs.Class.{one}
-use Rattle.ent_grammar.specs.declared.divider.Divider.TheVariants.{Comma, And}
-use Rattle.ent_grammar.specs.Grammar.{Grammar, give, token, pick, listed, more}
+use Rattle.ent_text.specs.Class.{one}
+use Rattle.ent_text.specs.declared.divider.Divider.TheVariants.{Comma, And}
+use Rattle.ent_text.specs.Grammar.{Grammar, give, token, pick, listed, more}
 use Rattle.ent_sql.specs.Notation.{◌>>=◌, keyword, symbol}
 use Rattle.ent_sql.specs.Operands.{identifier, host_variable, operand, term, comparison}
 use Rattle.ent_sql.specs.Selects.{select, select_behind}

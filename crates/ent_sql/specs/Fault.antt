@@ -1,7 +1,7 @@
 -- The number and the place of a fault.
 use Rattle.std.specs.Prelude.{ℕ}
-use Rattle.ent_grammar.specs.declared.fault.GrammarFault.{GrammarFault}
-use Rattle.ent_grammar.specs.declared.fault.GrammarFault.TheVariants as grammar
+use Rattle.ent_text.specs.declared.grammar_fault.GrammarFault.{GrammarFault}
+use Rattle.ent_text.specs.declared.grammar_fault.GrammarFault.TheVariants as grammar
 use Rattle.ent_text.specs.Fault.{code_of as text_code_of, place_of as text_place_of}
 use Rattle.ent_sql.specs.declared.fault.SqlFault.{SqlFault}
 use Rattle.ent_sql.specs.declared.fault.SqlFault.TheVariants.{Text, Unexpected, TooMany}

@@ -2,7 +2,7 @@
 use Rattle.std.specs.Prelude.{◌≡◌, ℕ, List, length, Ok}
 use Rattle.ent_text.specs.declared.token.Token.{Token}
 use Rattle.ent_text.specs.Lexing.{tokens_of}
-use Rattle.ent_grammar.specs.FirstFault as first
+use Rattle.ent_text.specs.FirstFault as first
 use Rattle.ent_sql.specs.Scripts.{input}
 
 -- The text's tokens up to a place begin an input, and none goes on with the token that stands there.

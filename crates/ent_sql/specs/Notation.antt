@@ -2,8 +2,8 @@
 use Rattle.std.specs.Prelude.{ℕ}
 use Rattle.ent_text.specs.declared.keyword.Keyword.{Keyword}
 use Rattle.ent_text.specs.declared.symbol.Symbol.{Symbol}
-use Rattle.ent_grammar.specs.Class.{word, sign}
-use Rattle.ent_grammar.specs.Grammar.{Grammar, token, chain}
+use Rattle.ent_text.specs.Class.{word, sign}
+use Rattle.ent_text.specs.Grammar.{Grammar, token, chain}
 
 infixl 10 ◌>>=◌
 abbrev pub ◌>>=◌ : {A B : Type 0} → Grammar A → (A → Grammar B) → Grammar B

@@ -17,8 +17,8 @@ use Rattle.ent_tree.specs.declared.operand.Comparison.TheVariants as comparisons
 use Rattle.ent_tree.specs.declared.operand.Test.{Test}
 use Rattle.ent_tree.specs.declared.entangled.Term.{Term}
 use Rattle.ent_tree.specs.declared.entangled.Term.TheVariants as terms
-use Rattle.ent_grammar.specs.Class.{name, variable, number, text}
-use Rattle.ent_grammar.specs.Grammar.{Grammar, give, token, pick}
+use Rattle.ent_text.specs.Class.{name, variable, number, text}
+use Rattle.ent_text.specs.Grammar.{Grammar, give, token, pick}
 use Rattle.ent_sql.specs.Notation.{◌>>=◌, symbol}
 
 -- name

@@ -3,8 +3,8 @@ use Rattle.std.specs.Prelude.{ℕ, List, length, Result, Ok, Err}
 use Rattle.ent_text.specs.declared.token.Token.{Token}
 use Rattle.ent_text.specs.declared.fault.TextFault.{TextFault}
 use Rattle.ent_text.specs.Lexing.{tokens_of}
-use Rattle.ent_grammar.specs.declared.fault.GrammarFault.{GrammarFault}
-use Rattle.ent_grammar.specs.Grammar.{Grammar, reads_all}
+use Rattle.ent_text.specs.declared.grammar_fault.GrammarFault.{GrammarFault}
+use Rattle.ent_text.specs.Grammar.{Grammar, reads_all}
 use Rattle.ent_tree.specs.declared.script.Input.{Input}
 use Rattle.ent_tree.specs.declared.script.Script.{Script}
 use Rattle.ent_sql.specs.declared.fault.SqlFault.{SqlFault}

@@ -3,7 +3,7 @@ use Rattle.std.specs.Prelude.{◌≡◌, ℕ, List, true, Ok}
 use Rattle.ent_text.specs.declared.token.Token.{Token}
 use Rattle.ent_text.specs.Lexing.{tokens_of}
 use Rattle.ent_tree.specs.declared.script.Input.{Input}
-use Rattle.ent_grammar.specs.Spelling.{spells}
+use Rattle.ent_text.specs.GrammarSpelling.{spells}
 use Rattle.ent_sql.specs.Scripts.{input}
 
 -- the text's tokens spell the input, and keep the limits

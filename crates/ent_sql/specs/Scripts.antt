@@ -8,7 +8,7 @@ use Rattle.ent_tree.specs.declared.script.End.{End}
 use Rattle.ent_tree.specs.declared.script.End.TheVariants as ends
 use Rattle.ent_tree.specs.declared.script.Script.{Script}
 use Rattle.ent_tree.specs.declared.script.Input.{Input}
-use Rattle.ent_grammar.specs.Grammar.{Grammar, give, up_to, pick, many}
+use Rattle.ent_text.specs.Grammar.{Grammar, give, up_to, pick, many}
 use Rattle.ent_sql.specs.Notation.{◌>>=◌, keyword, symbol}
 use Rattle.ent_sql.specs.Tables.{create, opening_row}
 use Rattle.ent_sql.specs.Statements.{ended_statement}

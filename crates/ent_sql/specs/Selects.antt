@@ -9,8 +9,8 @@ use Rattle.ent_tree.specs.declared.select.Source.{Source}
 use Rattle.ent_tree.specs.declared.select.Items.{Items}
 use Rattle.ent_tree.specs.declared.select.Items.TheVariants.{All, Listed}
 use Rattle.ent_tree.specs.declared.select.Select.{Select}
-use Rattle.ent_grammar.specs.declared.divider.Divider.TheVariants.{Comma, And}
-use Rattle.ent_grammar.specs.Grammar.{Grammar, give, pick, listed}
+use Rattle.ent_text.specs.declared.divider.Divider.TheVariants.{Comma, And}
+use Rattle.ent_text.specs.Grammar.{Grammar, give, pick, listed}
 use Rattle.ent_sql.specs.Notation.{◌>>=◌, keyword, symbol}
 use Rattle.ent_sql.specs.Operands.{identifier, operand, compared}
 

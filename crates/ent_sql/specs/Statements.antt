@@ -8,8 +8,8 @@ use Rattle.ent_tree.specs.declared.statement.Update.{Update}
 use Rattle.ent_tree.specs.declared.statement.Set.{Set}
 use Rattle.ent_tree.specs.declared.script.Statement.{Statement}
 use Rattle.ent_tree.specs.declared.script.Statement.TheVariants as statements
-use Rattle.ent_grammar.specs.declared.divider.Divider.TheVariants.{Comma}
-use Rattle.ent_grammar.specs.Grammar.{Grammar, give, pick, listed}
+use Rattle.ent_text.specs.declared.divider.Divider.TheVariants.{Comma}
+use Rattle.ent_text.specs.Grammar.{Grammar, give, pick, listed}
 use Rattle.ent_sql.specs.Notation.{◌>>=◌, keyword, symbol}
 use Rattle.ent_sql.specs.Operands.{identifier, host_variable, value, operand, expression}
 use Rattle.ent_sql.specs.Tables.{insert}

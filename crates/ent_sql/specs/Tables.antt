@@ -10,8 +10,8 @@ use Rattle.ent_tree.specs.declared.declaration.Column.{Column}
 use Rattle.ent_tree.specs.declared.declaration.Create.{Create}
 use Rattle.ent_tree.specs.declared.declaration.OpeningRow.{OpeningRow}
 use Rattle.ent_tree.specs.declared.statement.Insert.{Insert}
-use Rattle.ent_grammar.specs.declared.divider.Divider.TheVariants.{Comma}
-use Rattle.ent_grammar.specs.Grammar.{Grammar, give, pick, listed}
+use Rattle.ent_text.specs.declared.divider.Divider.TheVariants.{Comma}
+use Rattle.ent_text.specs.Grammar.{Grammar, give, pick, listed}
 use Rattle.ent_sql.specs.Notation.{◌>>=◌, keyword, symbol}
 use Rattle.ent_sql.specs.Operands.{identifier, literal, value}
 

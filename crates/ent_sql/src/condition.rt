@@ -1,9 +1,9 @@
 //! Conditions of entangled statements.
 ghost use Rattle.std.specs.Prelude.{◌≡◌};
 ghost use Rattle.ent_value.specs.Refusal.{Gives};
-ghost use Rattle.ent_grammar.specs.Read.{begins};
-ghost use Rattle.ent_grammar.specs.Class.{among, one};
-ghost use Rattle.ent_grammar.specs.Grammar.{token, firsts, reads};
+ghost use Rattle.ent_text.specs.Read.{begins};
+ghost use Rattle.ent_text.specs.Class.{among, one};
+ghost use Rattle.ent_text.specs.Grammar.{token, firsts, reads};
 ghost use Rattle.ent_sql.specs.Operands.{comparison};
 ghost use Rattle.ent_sql.specs.Entangling.{relation, membership, bracketed};
 ghost use Rattle.ent_sql.specs.Entangling.{comparison_behind, tuple_behind, condition_behind, condition};
@@ -14,10 +14,10 @@ use crate::list::{Item, appended, listed};
 use crate::operand::name_at;
 use crate::select::select_at;
 use crate::test::comparison_at;
-use ent_grammar::{
-    Divider, GrammarFault, begins_with_sign, begins_with_word, sign_at, unexpected, word_at,
+use ent_text::{
+    Divider, GrammarFault, Keyword, Symbol, TokenView, Tokens, begins_with_sign, begins_with_word,
+    sign_at, unexpected, word_at,
 };
-use ent_text::{Keyword, Symbol, TokenView, Tokens};
 use ent_tree::{Condition, Identifier, MOST_PARTS, Term, Test, Tuple};
 use ent_value::{Limited, Refusal};
 use std::alloc::Global;

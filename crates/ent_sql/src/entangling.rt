@@ -3,7 +3,7 @@ ghost use Rattle.std.specs.Prelude.{◌≡◌, ◌<◌, Ok, IfOk, IfErr, length,
 ghost use Rattle.ent_value.specs.declared.refusal.Refusal.TheVariants.{Memory};
 ghost use Rattle.ent_tree.specs.declared.limits.TheConstants.{MOST_PARTS};
 ghost use Rattle.ent_value.specs.Refusal.{Gives};
-ghost use Rattle.ent_grammar.specs.Grammar.{reads};
+ghost use Rattle.ent_text.specs.Grammar.{reads};
 ghost use Rattle.ent_sql.specs.Entangling.{is_term, are_terms, term_of, unbound, items_of, binding};
 ghost use Rattle.ent_sql.specs.Entangling.{entangled_item, entangled_items};
 ghost use Rattle.ent_sql.specs.Entangling.{entangled_behind, ordinary, entangled, query};
@@ -13,8 +13,10 @@ use crate::front::begins_with_operand;
 use crate::list::{Item, appended, listed};
 use crate::operand::{name_at, variable_at};
 use crate::select::select_behind;
-use ent_grammar::{Divider, GrammarFault, begins_with_sign, begins_with_word, sign_at, word_at};
-use ent_text::{Keyword, Symbol, Tokens};
+use ent_text::{
+    Divider, GrammarFault, Keyword, Symbol, Tokens, begins_with_sign, begins_with_word, sign_at,
+    word_at,
+};
 use ent_tree::{Entangled, EntangledItem, Identifier, Items, MOST_PARTS, Operand, Statement, Term};
 use ent_value::{Limited, Refusal};
 use std::alloc::Global;

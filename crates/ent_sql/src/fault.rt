@@ -2,8 +2,7 @@
 ghost use Rattle.std.specs.Prelude.{◌≡◌};
 ghost use Rattle.ent_sql.specs.Fault.{code_of, place_of, fault_of};
 
-use ent_grammar::GrammarFault;
-use ent_text::TextFault;
+use ent_text::{GrammarFault, TextFault};
 use thiserror::Error;
 
 /// The first fault of an input: all faults of its tokens come before those of its grammar. Each place is a byte

@@ -1,8 +1,8 @@
 //! What stands at the front.
 ghost use Rattle.std.specs.Prelude.{◌≡◌};
-ghost use Rattle.ent_grammar.specs.Read.{begins};
-ghost use Rattle.ent_grammar.specs.Class.{among};
-ghost use Rattle.ent_grammar.specs.Grammar.{firsts};
+ghost use Rattle.ent_text.specs.Read.{begins};
+ghost use Rattle.ent_text.specs.Class.{among};
+ghost use Rattle.ent_text.specs.Grammar.{firsts};
 ghost use Rattle.ent_sql.specs.Front.{begins_with_name, begins_with_variable};
 ghost use Rattle.ent_sql.specs.Operands.{literal, value, operand};
 

@@ -3,7 +3,7 @@ ghost use Rattle.std.specs.Prelude.{◌≡◌, ◌↔◌, ℕ, List, Ok, Err};
 ghost use Rattle.ent_value.specs.Refusal.{Gives};
 ghost use Rattle.ent_text.specs.Lexing.{tokens_of};
 ghost use Rattle.ent_text.specs.declared.fault.TextFault.{TextFault};
-ghost use Rattle.ent_grammar.specs.Grammar.{reads_all};
+ghost use Rattle.ent_text.specs.Grammar.{reads_all};
 ghost use Rattle.ent_tree.specs.declared.script.Input.{Input};
 ghost use Rattle.ent_sql.specs.declared.fault.SqlFault.{SqlFault};
 ghost use Rattle.ent_sql.specs.Scripts.{input};
@@ -13,8 +13,7 @@ ghost use Rattle.ent_sql.specs.FirstFault.{CantFollow, IsTooMuch};
 
 use crate::fault::{SqlFault, fault_of};
 use crate::list::many;
-use ent_grammar::{GrammarFault, unexpected};
-use ent_text::{Tokens, fault_from};
+use ent_text::{GrammarFault, Tokens, fault_from, unexpected};
 use ent_tree::{Input, Opening};
 use ent_value::Refusal;
 use std::alloc::Global;

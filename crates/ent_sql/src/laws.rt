@@ -1,8 +1,8 @@
 //! Where things stand: a function without a body, whose contract says it of every text.
 ghost use Rattle.std.specs.Prelude.{◌≡◌, ℕ, List, true};
 ghost use Rattle.ent_text.specs.declared.token.Token.{Token};
-ghost use Rattle.ent_grammar.specs.Read.{place_of};
-ghost use Rattle.ent_grammar.specs.Spelling.{spells};
+ghost use Rattle.ent_text.specs.Read.{place_of};
+ghost use Rattle.ent_text.specs.GrammarSpelling.{spells};
 ghost use Rattle.ent_tree.specs.declared.operand.Literal.{Literal};
 ghost use Rattle.ent_tree.specs.declared.operand.Operand.{Operand};
 ghost use Rattle.ent_tree.specs.declared.operand.Expression.{Expression};

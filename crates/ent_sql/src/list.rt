@@ -1,12 +1,11 @@
 //! Lists of things, up to a limit.
 ghost use Rattle.std.specs.Prelude.{◌≡◌, ◌<◌, ◌-◌, ◌++◌, length};
 ghost use Rattle.ent_value.specs.Refusal.{Gives};
-ghost use Rattle.ent_grammar.specs.Read.{begins};
-ghost use Rattle.ent_grammar.specs.Class.{among};
-ghost use Rattle.ent_grammar.specs.Grammar.{Grammar, give, chain, more, firsts, reads, listed, many};
+ghost use Rattle.ent_text.specs.Read.{begins};
+ghost use Rattle.ent_text.specs.Class.{among};
+ghost use Rattle.ent_text.specs.Grammar.{Grammar, give, chain, more, firsts, reads, listed, many};
 
-use ent_grammar::{Divider, GrammarFault, begins_with_divider, too_many, unexpected};
-use ent_text::Tokens;
+use ent_text::{Divider, GrammarFault, Tokens, begins_with_divider, too_many, unexpected};
 use ent_value::{Limited, Refusal};
 use std::alloc::Global;
 

@@ -1,7 +1,7 @@
 //! Values and operands.
 ghost use Rattle.std.specs.Prelude.{◌≡◌};
 ghost use Rattle.ent_value.specs.Refusal.{Gives};
-ghost use Rattle.ent_grammar.specs.Grammar.{reads};
+ghost use Rattle.ent_text.specs.Grammar.{reads};
 ghost use Rattle.ent_sql.specs.Operands.{identifier, host_variable, negative, unsigned, column_reference};
 
 use crate::front::{
@@ -9,8 +9,9 @@ use crate::front::{
     begins_with_variable,
 };
 use crate::list::Item;
-use ent_grammar::{GrammarFault, begins_with_sign, sign_at, unexpected};
-use ent_text::{Symbol, TokenView, Tokens, text_of};
+use ent_text::{
+    GrammarFault, Symbol, TokenView, Tokens, begins_with_sign, sign_at, text_of, unexpected,
+};
 use ent_tree::{Boxed, ColumnReference, Identifier, Literal, Operand, Term, ValueSpecification};
 use ent_value::{Name, Refusal, Text, Value};
 use std::alloc::Global;

@@ -1,13 +1,15 @@
 //! Scripts.
 ghost use Rattle.std.specs.Prelude.{◌≡◌};
 ghost use Rattle.ent_value.specs.Refusal.{Gives};
-ghost use Rattle.ent_grammar.specs.Grammar.{reads, up_to};
+ghost use Rattle.ent_text.specs.Grammar.{reads, up_to};
 ghost use Rattle.ent_tree.specs.declared.limits.TheConstants.{MOST_RUNS};
 ghost use Rattle.ent_sql.specs.Scripts.{within, ending, script};
 
 use crate::list::{Item, many};
-use ent_grammar::{GrammarFault, begins_with_word, sign_at, too_many, unexpected, word_at};
-use ent_text::{Keyword, Symbol, TokenView, Tokens};
+use ent_text::{
+    GrammarFault, Keyword, Symbol, TokenView, Tokens, begins_with_word, sign_at, too_many,
+    unexpected, word_at,
+};
 use ent_tree::{DEFAULT_RUNS, End, MOST_RUNS, Runs, Script};
 use ent_value::Refusal;
 use std::alloc::Global;

@@ -1,14 +1,16 @@
 //! SELECT over tables.
 ghost use Rattle.std.specs.Prelude.{◌≡◌};
 ghost use Rattle.ent_value.specs.Refusal.{Gives};
-ghost use Rattle.ent_grammar.specs.Grammar.{reads};
+ghost use Rattle.ent_text.specs.Grammar.{reads};
 ghost use Rattle.ent_sql.specs.Selects.{source, tests, select_behind, items, select};
 
 use crate::front::begins_with_name;
 use crate::list::{Item, listed};
 use crate::operand::name_at;
-use ent_grammar::{Divider, GrammarFault, begins_with_sign, begins_with_word, sign_at, word_at};
-use ent_text::{Keyword, Symbol, Tokens};
+use ent_text::{
+    Divider, GrammarFault, Keyword, Symbol, Tokens, begins_with_sign, begins_with_word, sign_at,
+    word_at,
+};
 use ent_tree::{Boxed, Items, MOST_PARTS, Operand, Select, Source, Test};
 use ent_value::{Limited, Refusal};
 use std::alloc::Global;

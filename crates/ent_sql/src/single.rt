@@ -1,14 +1,13 @@
 //! One script alone.
 ghost use Rattle.std.specs.Prelude.{◌≡◌};
 ghost use Rattle.ent_value.specs.Refusal.{Gives};
-ghost use Rattle.ent_grammar.specs.Grammar.{reads_all};
+ghost use Rattle.ent_text.specs.Grammar.{reads_all};
 ghost use Rattle.ent_sql.specs.Scripts.{script};
 ghost use Rattle.ent_sql.specs.Reading.{script_reading};
 
 use crate::fault::{SqlFault, fault_of};
 use crate::script::script_at;
-use ent_grammar::{GrammarFault, unexpected};
-use ent_text::{Tokens, fault_from};
+use ent_text::{GrammarFault, Tokens, fault_from, unexpected};
 use ent_tree::Script;
 use ent_value::Refusal;
 use std::alloc::Global;

@@ -1,7 +1,7 @@
 //! Statements.
 ghost use Rattle.std.specs.Prelude.{◌≡◌};
 ghost use Rattle.ent_value.specs.Refusal.{Gives};
-ghost use Rattle.ent_grammar.specs.Grammar.{reads};
+ghost use Rattle.ent_text.specs.Grammar.{reads};
 ghost use Rattle.ent_sql.specs.Statements.{delete, assignment, update, set, statement, ended_statement};
 
 use crate::entangling::query_at;
@@ -11,8 +11,9 @@ use crate::operand::{name_at, variable_at};
 use crate::select::tests_at;
 use crate::table::insert_at;
 use crate::test::expression_at;
-use ent_grammar::{Divider, GrammarFault, begins_with_word, sign_at, word_at};
-use ent_text::{Keyword, Symbol, Tokens};
+use ent_text::{
+    Divider, GrammarFault, Keyword, Symbol, Tokens, begins_with_word, sign_at, word_at,
+};
 use ent_tree::{Assignment, Delete, Operand, Set, Statement, Update, ValueSpecification};
 use ent_value::Refusal;
 use std::alloc::Global;

@@ -1,14 +1,15 @@
 //! Declarations of tables, and rows that are put in.
 ghost use Rattle.std.specs.Prelude.{◌≡◌};
 ghost use Rattle.ent_value.specs.Refusal.{Gives};
-ghost use Rattle.ent_grammar.specs.Grammar.{reads};
+ghost use Rattle.ent_text.specs.Grammar.{reads};
 ghost use Rattle.ent_sql.specs.Tables.{kind, column, create, row, opening_row, insert};
 
 use crate::front::begins_with_name;
 use crate::list::{Item, listed};
 use crate::operand::name_at;
-use ent_grammar::{Divider, GrammarFault, begins_with_word, sign_at, word_at};
-use ent_text::{Keyword, Symbol, Tokens};
+use ent_text::{
+    Divider, GrammarFault, Keyword, Symbol, Tokens, begins_with_word, sign_at, word_at,
+};
 use ent_tree::{
     Column, Create, Identifier, Insert, Literal, MOST_PARTS, OpeningRow, ValueSpecification,
 };

@@ -1,13 +1,12 @@
 //! Comparisons, tests and expressions.
 ghost use Rattle.std.specs.Prelude.{◌≡◌};
 ghost use Rattle.ent_value.specs.Refusal.{Gives};
-ghost use Rattle.ent_grammar.specs.Grammar.{reads};
+ghost use Rattle.ent_text.specs.Grammar.{reads};
 ghost use Rattle.ent_sql.specs.Operands.{comparison, compared, expression_behind, expression};
 
 use crate::front::begins_with_operand;
 use crate::list::Item;
-use ent_grammar::{GrammarFault, begins_with_sign, sign_at};
-use ent_text::{Symbol, Tokens};
+use ent_text::{GrammarFault, Symbol, Tokens, begins_with_sign, sign_at};
 use ent_tree::{Boxed, Comparison, Expression, Operand, Test};
 use ent_value::Refusal;
 use std::alloc::Global;

@@ -6,9 +6,9 @@ use Rattle.ent_text.specs.declared.token.TokenKind.{TokenKind}
 use Rattle.std.proofs.Common.{Bool, arith}
 use Rattle.std.proofs.lemmas.Bool.{le-leb}
 use Rattle.ent_text.specs.declared.token.TokenKind.TheVariants as kinds
-use Rattle.ent_grammar.specs.Class.{Class, Given, given, positive, if_so}
-use Rattle.ent_grammar.specs.Grammar.{Grammar, give, token, up_to, chain, pick, many}
-use Rattle.ent_grammar.specs.Spelling.{spells}
+use Rattle.ent_text.specs.Class.{Class, Given, given, positive, if_so}
+use Rattle.ent_text.specs.Grammar.{Grammar, give, token, up_to, chain, pick, many}
+use Rattle.ent_text.specs.GrammarSpelling.{spells}
 use Rattle.ent_sql_laws.specs.Again.{Rereads}
 
 abbrev pub kind : Token → TokenKind

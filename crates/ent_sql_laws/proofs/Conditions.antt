@@ -15,8 +15,8 @@ use Rattle.ent_tree.specs.declared.entangled.Condition.TheVariants as conditions
 use Rattle.ent_tree.specs.declared.entangled.Entangled.{Entangled}
 use Rattle.ent_tree.specs.Places.{unplaced_identifier, unplaced_specification, unplaced_term, unplaced_tuple}
 use Rattle.ent_tree.specs.Places.{unplaced_condition, unplaced_item, unplaced_entangled, unplaced_insert}
-use Rattle.ent_grammar.specs.declared.divider.Divider.TheVariants.{Comma, And}
-use Rattle.ent_grammar.specs.Class.{word, sign, one}
+use Rattle.ent_text.specs.declared.divider.Divider.TheVariants.{Comma, And}
+use Rattle.ent_text.specs.Class.{word, sign, one}
 use Rattle.ent_sql.specs.Operands as operands
 use Rattle.ent_sql.specs.Tables as tables
 use Rattle.ent_sql.specs.Entangling as grammar

@@ -13,9 +13,9 @@ use Rattle.ent_tree.specs.declared.declaration.Opening.{Opening}
 use Rattle.ent_tree.specs.declared.script.Script.{Script}
 use Rattle.ent_tree.specs.declared.script.Input.{Input}
 use Rattle.ent_tree.specs.Places.{unplaced_script}
-use Rattle.ent_grammar.specs.Phrase.{Phrase, ◌⨾◌, all}
-use Rattle.ent_grammar.specs.Grammar.{Grammar, give, chain, many}
-use Rattle.ent_grammar.specs.Spelling.{spells}
+use Rattle.ent_text.specs.Phrase.{Phrase, ◌⨾◌, all}
+use Rattle.ent_text.specs.Grammar.{Grammar, give, chain, many}
+use Rattle.ent_text.specs.GrammarSpelling.{spells}
 use Rattle.ent_sql.specs.Scripts as grammar
 use Rattle.ent_print.specs.Lexeme.{Lexeme, lexeme_text, line_end, space, wants_behind, text_behind, text_of}
 use Rattle.ent_print.specs.Printing.{script_text}

@@ -4,11 +4,11 @@ use Rattle.std.proofs.Common.{sym, arith, Some, inl, inr, suc, zero, refl}
 use Rattle.std.specs.List.{All}
 use Rattle.ent_text.specs.declared.token.Token.{Token}
 use Rattle.ent_text.specs.declared.token.TokenKind.{TokenKind}
-use Rattle.ent_grammar.specs.declared.divider.Divider.{Divider}
-use Rattle.ent_grammar.specs.Class.{Class, positive, Given, given, class_of}
-use Rattle.ent_grammar.specs.Phrase.{Phrase, all, Single}
-use Rattle.ent_grammar.specs.Grammar.{Grammar, give, token, up_to, chain, pick, many, more, listed}
-use Rattle.ent_grammar.specs.Spelling.{spells, chained}
+use Rattle.ent_text.specs.declared.divider.Divider.{Divider}
+use Rattle.ent_text.specs.Class.{Class, positive, Given, given, class_of}
+use Rattle.ent_text.specs.Phrase.{Phrase, all, Single}
+use Rattle.ent_text.specs.Grammar.{Grammar, give, token, up_to, chain, pick, many, more, listed}
+use Rattle.ent_text.specs.GrammarSpelling.{spells, chained}
 use Rattle.ent_print.specs.Reading.{CanStand}
 use Rattle.ent_sql_laws.specs.Fits.{Each, HasParts}
 

@@ -13,7 +13,7 @@ use Rattle.ent_tree.specs.declared.entangled.EntangledItem.{EntangledItem}
 use Rattle.ent_tree.specs.declared.entangled.Tuple.{Tuple}
 use Rattle.ent_tree.specs.declared.entangled.Condition.{Condition}
 use Rattle.ent_tree.specs.declared.entangled.Entangled.{Entangled}
-use Rattle.ent_grammar.specs.declared.divider.Divider.TheVariants.{Comma, And}
+use Rattle.ent_text.specs.declared.divider.Divider.TheVariants.{Comma, And}
 use Rattle.ent_sql.specs.Entangling as grammar
 use Rattle.ent_sql.specs.Entangling.{term_of, unbound, items_of}
 use Rattle.ent_print.specs.Lexeme.{Lexeme, Token}

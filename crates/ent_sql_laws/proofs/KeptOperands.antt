@@ -14,8 +14,8 @@ use Rattle.ent_text.specs.Symbol.{symbol_text}
 use Rattle.ent_text.specs.Numeral.{negative_of}
 use Rattle.ent_text.specs.Spelling.{Spells}
 use Rattle.ent_value.specs.declared.value.Value.TheVariants as values
-use Rattle.ent_grammar.specs.Class.{name, variable, number, text, given}
-use Rattle.ent_grammar.specs.Grammar.{Grammar}
+use Rattle.ent_text.specs.Class.{name, variable, number, text, given}
+use Rattle.ent_text.specs.Grammar.{Grammar}
 use Rattle.ent_sql.specs.Operands as grammar
 use Rattle.ent_print.specs.Lexeme.{Lexeme}
 use Rattle.ent_print.specs.Reading.{CanStand, CanBeRead}

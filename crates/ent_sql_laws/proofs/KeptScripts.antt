@@ -16,8 +16,8 @@ use Rattle.ent_tree.specs.declared.script.Statement.{Statement}
 use Rattle.ent_tree.specs.declared.script.Script.{Script}
 use Rattle.ent_tree.specs.declared.script.Input.{Input}
 use Rattle.ent_tree.specs.declared.select.Items.TheVariants.{All, Listed}
-use Rattle.ent_grammar.specs.declared.divider.Divider.TheVariants.{Comma}
-use Rattle.ent_grammar.specs.Class.{positive, given, if_so}
+use Rattle.ent_text.specs.declared.divider.Divider.TheVariants.{Comma}
+use Rattle.ent_text.specs.Class.{positive, given, if_so}
 use Rattle.ent_text.specs.Lexing.{tokens_of}
 use Rattle.ent_sql.specs.Reading.{reading}
 use Rattle.ent_sql.specs.Says.{Says}

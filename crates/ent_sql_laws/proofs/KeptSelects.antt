@@ -8,7 +8,7 @@ use Rattle.ent_tree.specs.declared.operand.Operand.{Operand}
 use Rattle.ent_tree.specs.declared.operand.Test.{Test}
 use Rattle.ent_tree.specs.declared.select.Items.{Items}
 use Rattle.ent_tree.specs.declared.select.Select.{Select}
-use Rattle.ent_grammar.specs.declared.divider.Divider.TheVariants.{Comma, And}
+use Rattle.ent_text.specs.declared.divider.Divider.TheVariants.{Comma, And}
 use Rattle.ent_sql.specs.Operands as operands
 use Rattle.ent_sql.specs.Tables as tables
 use Rattle.ent_sql.specs.Selects as grammar

@@ -20,3 +20,6 @@ pub mod KeptSelects
 pub mod KeptEntangling
 pub mod KeptScripts
 pub mod Following
+mod Kept
+mod Meant
+mod Readable

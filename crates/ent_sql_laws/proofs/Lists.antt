@@ -13,12 +13,12 @@ use Rattle.ent_tree.specs.declared.operand.Expression.{Expression}
 use Rattle.ent_tree.specs.declared.operand.Expression.TheVariants.{Single, Sum, Difference}
 use Rattle.ent_tree.specs.declared.operand.Test.{Test}
 use Rattle.ent_tree.specs.Places.{unplaced_expression, unplaced_test}
-use Rattle.ent_grammar.specs.declared.divider.Divider.{Divider}
-use Rattle.ent_grammar.specs.declared.divider.Divider.TheVariants.{Comma, And}
-use Rattle.ent_grammar.specs.Class.{sign, class_of, Given, given}
-use Rattle.ent_grammar.specs.Phrase.{all}
-use Rattle.ent_grammar.specs.Grammar.{Grammar, token, chain, more, many, listed}
-use Rattle.ent_grammar.specs.Spelling.{spells}
+use Rattle.ent_text.specs.declared.divider.Divider.{Divider}
+use Rattle.ent_text.specs.declared.divider.Divider.TheVariants.{Comma, And}
+use Rattle.ent_text.specs.Class.{sign, class_of, Given, given}
+use Rattle.ent_text.specs.Phrase.{all}
+use Rattle.ent_text.specs.Grammar.{Grammar, token, chain, more, many, listed}
+use Rattle.ent_text.specs.GrammarSpelling.{spells}
 use Rattle.ent_sql.specs.Operands as grammar
 use Rattle.ent_print.specs.Lexeme.{Lexeme, Token}
 use Rattle.ent_print.specs.Reading.{lexeme_kinds, kinds_of}

@@ -23,7 +23,7 @@ use Rattle.ent_tree.specs.declared.entangled.Term.{Term}
 use Rattle.ent_tree.specs.declared.entangled.Term.TheVariants as terms
 use Rattle.ent_tree.specs.Places.{unplaced_identifier, unplaced_literal, unplaced_specification, unplaced_column}
 use Rattle.ent_tree.specs.Places.{unplaced_operand, unplaced_term}
-use Rattle.ent_grammar.specs.Class.{sign, name, variable, number, text}
+use Rattle.ent_text.specs.Class.{sign, name, variable, number, text}
 use Rattle.ent_sql.specs.Operands as grammar
 use Rattle.ent_print.specs.Reading.{kinds_of}
 use Rattle.ent_print.specs.Spelling.{value_spelling, specification_spelling, column_spelling, operand_spelling}

@@ -17,10 +17,10 @@ use Rattle.ent_tree.specs.declared.entangled.Condition.{Condition}
 use Rattle.ent_tree.specs.declared.entangled.Entangled.{Entangled}
 use Rattle.ent_tree.specs.declared.script.Statement.{Statement}
 use Rattle.ent_tree.specs.declared.script.Statement.TheVariants as statements
-use Rattle.ent_grammar.specs.declared.divider.Divider.TheVariants.{Comma, And}
-use Rattle.ent_grammar.specs.Class.{one}
-use Rattle.ent_grammar.specs.Phrase.{Phrase, ◌⨾◌, nothing, all}
-use Rattle.ent_grammar.specs.Spelling.{chained}
+use Rattle.ent_text.specs.declared.divider.Divider.TheVariants.{Comma, And}
+use Rattle.ent_text.specs.Class.{one}
+use Rattle.ent_text.specs.Phrase.{Phrase, ◌⨾◌, nothing, all}
+use Rattle.ent_text.specs.GrammarSpelling.{chained}
 use Rattle.ent_sql.specs.Entangling as grammar
 use Rattle.ent_sql.specs.Entangling.{are_terms, items_of}
 use Rattle.ent_sql_laws.specs.Phrases.{Standing}

@@ -23,9 +23,9 @@ use Rattle.ent_tree.specs.declared.script.End.TheVariants as ends
 use Rattle.ent_tree.specs.declared.script.Script.{Script}
 use Rattle.ent_tree.specs.Places.{unplaced_identifier, unplaced_operand, unplaced_items, unplaced_select}
 use Rattle.ent_tree.specs.Places.{unplaced_item, unplaced_entangled, unplaced_statement, unplaced_script}
-use Rattle.ent_grammar.specs.declared.divider.Divider.TheVariants.{Comma}
-use Rattle.ent_grammar.specs.Class.{word, sign}
-use Rattle.ent_grammar.specs.Grammar.{pick}
+use Rattle.ent_text.specs.declared.divider.Divider.TheVariants.{Comma}
+use Rattle.ent_text.specs.Class.{word, sign}
+use Rattle.ent_text.specs.Grammar.{pick}
 use Rattle.ent_sql.specs.Operands as operands
 use Rattle.ent_sql.specs.Entangling as grammar
 use Rattle.ent_sql.specs.Statements as statement_grammar

@@ -15,8 +15,8 @@ use Rattle.ent_tree.specs.declared.select.Items.TheVariants.{All, Listed}
 use Rattle.ent_tree.specs.declared.select.Select.{Select}
 use Rattle.ent_tree.specs.Places.{unplaced_operand, unplaced_test, unplaced_tests, unplaced_source}
 use Rattle.ent_tree.specs.Places.{unplaced_items, unplaced_select}
-use Rattle.ent_grammar.specs.declared.divider.Divider.TheVariants.{Comma, And}
-use Rattle.ent_grammar.specs.Class.{word, sign}
+use Rattle.ent_text.specs.declared.divider.Divider.TheVariants.{Comma, And}
+use Rattle.ent_text.specs.Class.{word, sign}
 use Rattle.ent_sql.specs.Operands as operands
 use Rattle.ent_sql.specs.Selects as grammar
 use Rattle.ent_print.specs.Reading.{kinds_of}

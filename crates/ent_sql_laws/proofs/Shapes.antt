@@ -11,13 +11,13 @@ use Rattle.ent_text.specs.declared.token.TokenKind.{TokenKind}
 use Rattle.ent_text.specs.declared.token.TokenKind.TheVariants as kinds
 use Rattle.ent_text.specs.declared.keyword.Keyword.{Keyword}
 use Rattle.ent_text.specs.declared.symbol.Symbol.{Symbol}
-use Rattle.ent_grammar.specs.declared.divider.Divider.{Divider}
-use Rattle.ent_grammar.specs.declared.divider.Divider.TheVariants.{Comma, And}
-use Rattle.ent_grammar.specs.Class.{Class, word, sign, name, variable, number, positive, one, text, Given, given, if_so}
-use Rattle.ent_grammar.specs.Class.{same_word, same_sign, class_of}
-use Rattle.ent_grammar.specs.Phrase.{Phrase, ◌⨾◌, nothing, Single, all}
-use Rattle.ent_grammar.specs.Grammar.{Grammar, give, token, up_to, chain, pick, many, more, listed}
-use Rattle.ent_grammar.specs.Spelling.{spells, chained}
+use Rattle.ent_text.specs.declared.divider.Divider.{Divider}
+use Rattle.ent_text.specs.declared.divider.Divider.TheVariants.{Comma, And}
+use Rattle.ent_text.specs.Class.{Class, word, sign, name, variable, number, positive, one, text, Given, given, if_so}
+use Rattle.ent_text.specs.Class.{same_word, same_sign, class_of}
+use Rattle.ent_text.specs.Phrase.{Phrase, ◌⨾◌, nothing, Single, all}
+use Rattle.ent_text.specs.Grammar.{Grammar, give, token, up_to, chain, pick, many, more, listed}
+use Rattle.ent_text.specs.GrammarSpelling.{spells, chained}
 use Rattle.ent_sql_laws.specs.Phrases.{Standing, divides, IsSpelledAs}
 use Rattle.ent_sql_laws.specs.Phrases as phrases
 

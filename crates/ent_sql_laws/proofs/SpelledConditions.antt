@@ -13,9 +13,9 @@ use Rattle.ent_tree.specs.declared.entangled.Tuple.{Tuple}
 use Rattle.ent_tree.specs.declared.entangled.Condition.{Condition}
 use Rattle.ent_tree.specs.declared.entangled.Condition.TheVariants as conditions
 use Rattle.ent_tree.specs.Places.{term_place}
-use Rattle.ent_grammar.specs.declared.divider.Divider.TheVariants.{Comma}
-use Rattle.ent_grammar.specs.Phrase.{Phrase, ◌⨾◌}
-use Rattle.ent_grammar.specs.Spelling.{chained}
+use Rattle.ent_text.specs.declared.divider.Divider.TheVariants.{Comma}
+use Rattle.ent_text.specs.Phrase.{Phrase, ◌⨾◌}
+use Rattle.ent_text.specs.GrammarSpelling.{chained}
 use Rattle.ent_sql.specs.Entangling as grammar
 use Rattle.ent_sql_laws.specs.Phrases.{Standing}
 use Rattle.ent_sql_laws.specs.Phrases as phrases

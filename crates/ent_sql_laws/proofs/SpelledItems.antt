@@ -11,8 +11,8 @@ use Rattle.ent_tree.specs.declared.operand.Operand.TheVariants as operand_forms
 use Rattle.ent_tree.specs.declared.entangled.Term.{Term}
 use Rattle.ent_tree.specs.declared.entangled.Term.TheVariants as terms
 use Rattle.ent_tree.specs.declared.entangled.EntangledItem.{EntangledItem}
-use Rattle.ent_grammar.specs.declared.divider.Divider.TheVariants.{Comma}
-use Rattle.ent_grammar.specs.Phrase.{Phrase, ◌⨾◌, all}
+use Rattle.ent_text.specs.declared.divider.Divider.TheVariants.{Comma}
+use Rattle.ent_text.specs.Phrase.{Phrase, ◌⨾◌, all}
 use Rattle.ent_sql.specs.Entangling.{is_plain, is_term, are_terms, term_of, items_of}
 use Rattle.ent_sql_laws.specs.Phrases as phrases
 use Rattle.ent_sql_laws.specs.Operands as operands

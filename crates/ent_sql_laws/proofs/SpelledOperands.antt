@@ -20,10 +20,10 @@ use Rattle.ent_tree.specs.declared.operand.Comparison.{Comparison}
 use Rattle.ent_tree.specs.declared.operand.Comparison.TheVariants as comparisons
 use Rattle.ent_tree.specs.declared.entangled.Term.{Term}
 use Rattle.ent_tree.specs.declared.entangled.Term.TheVariants as terms
-use Rattle.ent_grammar.specs.Class.{sign, name, variable, number, text}
-use Rattle.ent_grammar.specs.Phrase.{Phrase, ◌⨾◌, nothing}
-use Rattle.ent_grammar.specs.Grammar.{Grammar, give, token, chain}
-use Rattle.ent_grammar.specs.Spelling.{chained}
+use Rattle.ent_text.specs.Class.{sign, name, variable, number, text}
+use Rattle.ent_text.specs.Phrase.{Phrase, ◌⨾◌, nothing}
+use Rattle.ent_text.specs.Grammar.{Grammar, give, token, chain}
+use Rattle.ent_text.specs.GrammarSpelling.{chained}
 use Rattle.ent_sql.specs.Operands as grammar
 use Rattle.ent_sql_laws.specs.Phrases.{Standing}
 use Rattle.ent_sql_laws.specs.Phrases as phrases

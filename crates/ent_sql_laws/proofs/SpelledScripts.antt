@@ -10,7 +10,7 @@ use Rattle.ent_tree.specs.declared.script.Statement.{Statement}
 use Rattle.ent_tree.specs.declared.script.Statement.TheVariants as statements
 use Rattle.ent_tree.specs.declared.script.End.{End}
 use Rattle.ent_tree.specs.declared.script.End.TheVariants as ends
-use Rattle.ent_grammar.specs.Phrase.{Phrase, ◌⨾◌, nothing}
+use Rattle.ent_text.specs.Phrase.{Phrase, ◌⨾◌, nothing}
 use Rattle.ent_sql.specs.Statements as statement_grammar
 use Rattle.ent_sql.specs.Scripts as grammar
 use Rattle.ent_sql_laws.specs.Phrases.{Standing}

@@ -12,9 +12,9 @@ use Rattle.ent_tree.specs.declared.select.Source.{Source}
 use Rattle.ent_tree.specs.declared.select.Items.{Items}
 use Rattle.ent_tree.specs.declared.select.Items.TheVariants.{All, Listed}
 use Rattle.ent_tree.specs.declared.select.Select.{Select}
-use Rattle.ent_grammar.specs.declared.divider.Divider.TheVariants.{Comma, And}
-use Rattle.ent_grammar.specs.Phrase.{Phrase, ◌⨾◌, nothing}
-use Rattle.ent_grammar.specs.Spelling.{chained}
+use Rattle.ent_text.specs.declared.divider.Divider.TheVariants.{Comma, And}
+use Rattle.ent_text.specs.Phrase.{Phrase, ◌⨾◌, nothing}
+use Rattle.ent_text.specs.GrammarSpelling.{chained}
 use Rattle.ent_sql.specs.Selects as grammar
 use Rattle.ent_sql.specs.Statements as changes
 use Rattle.ent_sql_laws.specs.Phrases as phrases

@@ -11,8 +11,8 @@ use Rattle.ent_tree.specs.declared.statement.Update.{Update}
 use Rattle.ent_tree.specs.declared.statement.Set.{Set}
 use Rattle.ent_tree.specs.Places.{unplaced_operand, unplaced_specification, unplaced_delete, unplaced_assignment}
 use Rattle.ent_tree.specs.Places.{unplaced_update, unplaced_set}
-use Rattle.ent_grammar.specs.declared.divider.Divider.TheVariants.{Comma}
-use Rattle.ent_grammar.specs.Class.{word, sign}
+use Rattle.ent_text.specs.declared.divider.Divider.TheVariants.{Comma}
+use Rattle.ent_text.specs.Class.{word, sign}
 use Rattle.ent_sql.specs.Operands as operands
 use Rattle.ent_sql.specs.Statements as grammar
 use Rattle.ent_print.specs.Reading.{kinds_of}

@@ -6,9 +6,9 @@ use Rattle.ent_text.specs.declared.token.Token.{Token}
 use Rattle.ent_value.specs.declared.value.Kind.{Kind}
 use Rattle.ent_value.specs.declared.value.Kind.TheVariants as sorts
 use Rattle.ent_tree.specs.declared.limits.TheConstants.{MOST_PARTS}
-use Rattle.ent_grammar.specs.declared.divider.Divider.TheVariants.{Comma}
-use Rattle.ent_grammar.specs.Phrase.{Phrase}
-use Rattle.ent_grammar.specs.Grammar.{Grammar}
+use Rattle.ent_text.specs.declared.divider.Divider.TheVariants.{Comma}
+use Rattle.ent_text.specs.Phrase.{Phrase}
+use Rattle.ent_text.specs.Grammar.{Grammar}
 use Rattle.ent_sql.specs.Tables as grammar
 use Rattle.ent_sql_laws.specs.Phrases as phrases
 use Rattle.ent_sql_laws.specs.Tables as said

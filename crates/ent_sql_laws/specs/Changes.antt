@@ -6,8 +6,8 @@ use Rattle.ent_tree.specs.declared.statement.Delete.{Delete}
 use Rattle.ent_tree.specs.declared.statement.Assignment.{Assignment}
 use Rattle.ent_tree.specs.declared.statement.Update.{Update}
 use Rattle.ent_tree.specs.declared.statement.Set.{Set}
-use Rattle.ent_grammar.specs.declared.divider.Divider.TheVariants.{Comma}
-use Rattle.ent_grammar.specs.Phrase.{Phrase, ◌⨾◌}
+use Rattle.ent_text.specs.declared.divider.Divider.TheVariants.{Comma}
+use Rattle.ent_text.specs.Phrase.{Phrase, ◌⨾◌}
 use Rattle.ent_sql_laws.specs.Phrases.{word, sign, listed}
 use Rattle.ent_sql_laws.specs.Operands.{identifier, host_variable, value, operand, expression}
 use Rattle.ent_sql_laws.specs.Selects.{tests}

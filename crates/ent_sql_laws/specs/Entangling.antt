@@ -12,8 +12,8 @@ use Rattle.ent_tree.specs.declared.entangled.Condition.{Condition}
 use Rattle.ent_tree.specs.declared.entangled.Condition.TheVariants as conditions
 use Rattle.ent_tree.specs.declared.entangled.Entangled.{Entangled}
 use Rattle.ent_tree.specs.Places.{term_place}
-use Rattle.ent_grammar.specs.declared.divider.Divider.TheVariants.{Comma, And}
-use Rattle.ent_grammar.specs.Phrase.{Phrase, ◌⨾◌, nothing}
+use Rattle.ent_text.specs.declared.divider.Divider.TheVariants.{Comma, And}
+use Rattle.ent_text.specs.Phrase.{Phrase, ◌⨾◌, nothing}
 use Rattle.ent_sql_laws.specs.Phrases.{Standing, single, word, sign, listed}
 use Rattle.ent_sql_laws.specs.Operands.{identifier, host_variable, term, compared}
 use Rattle.ent_sql_laws.specs.Selects.{select}

@@ -10,3 +10,4 @@ pub mod Again
 pub mod Fits
 pub mod Itself
 pub mod Following
+pub mod Meaning

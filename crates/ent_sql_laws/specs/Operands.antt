@@ -19,7 +19,7 @@ use Rattle.ent_tree.specs.declared.operand.Comparison.TheVariants as comparisons
 use Rattle.ent_tree.specs.declared.operand.Test.{Test}
 use Rattle.ent_tree.specs.declared.entangled.Term.{Term}
 use Rattle.ent_tree.specs.declared.entangled.Term.TheVariants as terms
-use Rattle.ent_grammar.specs.Phrase.{Phrase, ◌⨾◌}
+use Rattle.ent_text.specs.Phrase.{Phrase, ◌⨾◌}
 use Rattle.ent_sql_laws.specs.Phrases.{Standing, single, sign}
 
 -- a name stands where its token does

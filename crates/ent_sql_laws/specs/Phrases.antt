@@ -7,11 +7,11 @@ use Rattle.ent_text.specs.declared.symbol.Symbol.TheVariants as signs
 use Rattle.ent_text.specs.declared.token.Token.{Token}
 use Rattle.ent_text.specs.declared.token.TokenKind.{TokenKind}
 use Rattle.ent_text.specs.declared.token.TokenKind.TheVariants as kinds
-use Rattle.ent_grammar.specs.declared.divider.Divider.{Divider}
-use Rattle.ent_grammar.specs.declared.divider.Divider.TheVariants.{Comma, And}
-use Rattle.ent_grammar.specs.Phrase.{Phrase, ◌⨾◌, all}
-use Rattle.ent_grammar.specs.Grammar.{Grammar}
-use Rattle.ent_grammar.specs.Spelling.{spells}
+use Rattle.ent_text.specs.declared.divider.Divider.{Divider}
+use Rattle.ent_text.specs.declared.divider.Divider.TheVariants.{Comma, And}
+use Rattle.ent_text.specs.Phrase.{Phrase, ◌⨾◌, all}
+use Rattle.ent_text.specs.Grammar.{Grammar}
+use Rattle.ent_text.specs.GrammarSpelling.{spells}
 
 -- a single token of this kind, which stands at this place
 pub record Standing (place : ℕ) (kind : TokenKind) (tokens : List Token) : Type 0 where

@@ -11,7 +11,7 @@ use Rattle.ent_tree.specs.declared.script.End.{End}
 use Rattle.ent_tree.specs.declared.script.End.TheVariants as ends
 use Rattle.ent_tree.specs.declared.script.Script.{Script}
 use Rattle.ent_tree.specs.declared.script.Input.{Input}
-use Rattle.ent_grammar.specs.Phrase.{Phrase, ◌⨾◌, nothing}
+use Rattle.ent_text.specs.Phrase.{Phrase, ◌⨾◌, nothing}
 use Rattle.ent_sql_laws.specs.Phrases.{single, word, sign, many}
 use Rattle.ent_sql_laws.specs.Tables.{create, opening_row, insert}
 use Rattle.ent_sql_laws.specs.Selects.{select}

@@ -10,8 +10,8 @@ use Rattle.ent_tree.specs.declared.select.Source.{Source}
 use Rattle.ent_tree.specs.declared.select.Items.{Items}
 use Rattle.ent_tree.specs.declared.select.Items.TheVariants.{All, Listed}
 use Rattle.ent_tree.specs.declared.select.Select.{Select}
-use Rattle.ent_grammar.specs.declared.divider.Divider.TheVariants.{Comma, And}
-use Rattle.ent_grammar.specs.Phrase.{Phrase, ◌⨾◌, nothing}
+use Rattle.ent_text.specs.declared.divider.Divider.TheVariants.{Comma, And}
+use Rattle.ent_text.specs.Phrase.{Phrase, ◌⨾◌, nothing}
 use Rattle.ent_sql_laws.specs.Phrases.{word, sign, listed}
 use Rattle.ent_sql_laws.specs.Operands.{identifier, operand, compared}
 

@@ -11,8 +11,8 @@ use Rattle.ent_tree.specs.declared.declaration.Column.{Column}
 use Rattle.ent_tree.specs.declared.declaration.Create.{Create}
 use Rattle.ent_tree.specs.declared.declaration.OpeningRow.{OpeningRow}
 use Rattle.ent_tree.specs.declared.statement.Insert.{Insert}
-use Rattle.ent_grammar.specs.declared.divider.Divider.TheVariants.{Comma}
-use Rattle.ent_grammar.specs.Phrase.{Phrase, ◌⨾◌}
+use Rattle.ent_text.specs.declared.divider.Divider.TheVariants.{Comma}
+use Rattle.ent_text.specs.Phrase.{Phrase, ◌⨾◌}
 use Rattle.ent_sql_laws.specs.Phrases.{Standing, word, sign, listed}
 use Rattle.ent_sql_laws.specs.Operands.{identifier, literal, value}
 

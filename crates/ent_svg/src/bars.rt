@@ -2,8 +2,7 @@
 use crate::place::{Place, colour};
 use crate::sheet::Sheet;
 use ent_group::Tx;
-use ent_picture::{Bar, Life, Picture, Shade, What};
-use ent_trace_reader::{Demand, Exchange, Reply};
+use ent_picture::{Bar, Demand, Exchange, Life, Picture, Reply, Shade, What};
 
 /// The lanes' times in groups.
 pub(crate) fn put_shades(sheet: &mut Sheet, picture: &Picture, place: Place) {

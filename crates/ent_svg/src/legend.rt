@@ -4,9 +4,8 @@ use crate::links::{Span, put_joint};
 use crate::marks::Spot;
 use crate::place::Place;
 use crate::sheet::Sheet;
-use ent_picture::{LinkKind, MarkKind, What};
+use ent_picture::{Demand, LinkKind, MarkKind, What};
 use ent_semantics::Failure;
-use ent_trace_reader::Demand;
 
 /// How high the legend is, with the room above and below it.
 pub(crate) const HEIGHT: u64 = 172;

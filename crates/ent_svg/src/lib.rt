@@ -14,6 +14,6 @@ mod place;
 mod sheet;
 mod svg;
 
-pub use ent_trace_reader::StrangeLine;
+pub use ent_picture::StrangeLine;
 pub use escape::{escaped, escaped_texts_hold_no_markup};
 pub use svg::draw;

@@ -7,8 +7,9 @@ use crate::marks::put_marks;
 use crate::place::Place;
 use crate::sheet::Sheet;
 use ent_group::Tx;
-use ent_picture::{Picture, all_members, joint_answers, members_met, picture_of};
-use ent_trace_reader::{Exchange, StrangeLine, read_trace};
+use ent_picture::{
+    Exchange, Picture, StrangeLine, all_members, joint_answers, members_met, picture_of, read_trace,
+};
 use ent_value::Refusal;
 use std::alloc::Global;
 

@@ -10,3 +10,15 @@ pub mod Ends
 pub mod Moved
 pub mod View
 pub mod Left
+pub mod Read
+pub mod Class
+pub mod Phrase
+pub mod List
+pub mod Grammar
+pub mod GrammarSpelling
+pub mod Foresight
+pub mod FirstFault
+pub mod Front
+pub mod Pieces
+pub mod Written
+pub mod StreamReading

@@ -3,18 +3,45 @@
 //! A text has one list of tokens or one first fault, with their places in bytes. A caller may rely on it that
 //! [`tokens`] gives exactly these: the longest tokens from the left, in order, each spelled by the bytes between its
 //! places.
+//!
+//! Grammars as data, and what holds of each of them.
+//!
+//! A grammar is a value of `Grammar A`: what it reads gives a value of `A`. `reads_all` says what all of some tokens
+//! say, or their first fault; `spells` which tokens a value has. The laws tie the two for every grammar that one token
+//! decides, which `IsPredictive` says by computing. Readers in code take the functions of this crate for single tokens,
+//! and say in their contracts which grammar they read.
+//!
+//! The parts of a report's lines, read from the left: numbers, values, rows.
+//!
+//! Each call gives a thing and the bytes behind it, or says that nothing of its sort stands in front. A caller may rely
+//! on it that what is read is written just so, and that what is written so is read.
+//!
+//! A stream that is read whole, up to a limit, in any pieces in which it comes.
 #![tactic(auto)]
 
 mod bytes;
 mod comment;
+mod divider;
 mod fault;
+mod front;
+mod grammar_fault;
+mod grammar_laws;
 mod host_variable;
 mod keyword;
+mod language;
 mod laws;
 mod left;
+mod line_fault;
+mod line_laws;
+mod line_numeral;
+mod line_quoted;
+mod listed;
 mod numeral;
 mod piece;
+mod printed;
 mod quoted;
+mod reader;
+mod stream_fault;
 mod symbol;
 mod token;
 mod tokenizer;
@@ -22,13 +49,30 @@ mod view;
 mod word;
 
 pub use bytes::tail;
+pub use divider::Divider;
 pub use fault::TextFault;
+pub use front::{
+    begins_with_divider, begins_with_sign, begins_with_word, sign_at, too_many, unexpected, word_at,
+};
+pub use grammar_fault::GrammarFault;
+pub use grammar_laws::reading_is_exact;
 pub use keyword::Keyword;
+pub use language::Language;
 pub use laws::{line_end_parts_texts, one_reading, pieces_end, reader_is_exact};
 pub use left::{Tokens, fault_ends_tokens, fault_from, fault_in};
+pub use line_fault::LineFault;
+pub use line_laws::{
+    numbers_are_read_as_written, rows_are_read_as_written, values_are_read_as_written,
+    words_stand_in_front,
+};
+pub use line_numeral::number;
+pub use listed::{behind, row};
 pub use numeral::Numeral;
 pub use piece::digits_len;
+pub use printed::value;
 pub use quoted::{quoted_at, text_of};
+pub use reader::read_whole;
+pub use stream_fault::StreamFault;
 pub use symbol::Symbol;
 pub use token::{Token, TokenKind};
 pub use tokenizer::tokens;

@@ -6,7 +6,7 @@ use Rattle.ent_check_report.specs.declared.check.TheConstants.{MOST_REPORT_BYTES
 use Rattle.ent_check_report.specs.declared.fault.CheckFault.{CheckFault}
 use Rattle.ent_check_report.specs.declared.verdict.Verdict.{Verdict}
 use Rattle.ent_check_report.specs.declared.verdict.Verdict.TheVariants.{Yes}
-use Rattle.ent_verdict_laws.specs.Right.{IsReportOfLegalBook}
+use Rattle.ent_verdict.specs.Right.{IsReportOfLegalBook}
 
 -- what other laws say
 pub record Laws : Type 0 where

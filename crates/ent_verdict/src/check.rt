@@ -6,12 +6,11 @@ ghost use Rattle.ent_check_report.specs.declared.check.TheConstants.{MOST_REPORT
 ghost use Rattle.ent_check_report.specs.declared.fault.CheckFault.TheVariants.{TooLong};
 ghost use Rattle.ent_check_report.specs.declared.verdict.Verdict.TheVariants.{Yes};
 ghost use Rattle.ent_value.specs.Watched.{IsUnmarked};
-ghost use Rattle.ent_verdict_laws.specs.Right.{IsReportOfLegalBook};
+ghost use Rattle.ent_verdict.specs.Right.{IsReportOfLegalBook};
 
+use crate::{texts_have_one_verdict, yes_is_said_of_reports_of_legal_books};
 use ent_check_report::{CheckFault, Verdict};
-use ent_unambiguous_laws::texts_have_one_verdict;
 use ent_value::Watched;
-use ent_verdict_laws::yes_is_said_of_reports_of_legal_books;
 use std::alloc::Global;
 use std::io::Read;
 

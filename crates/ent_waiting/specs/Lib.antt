@@ -2,3 +2,9 @@ pub mod Waiter
 pub mod Ended
 pub mod Queues
 pub mod WaitingList
+pub mod Store
+pub mod World
+pub mod Step
+pub mod Laws
+pub mod Run
+pub mod Room

@@ -1,3 +1,11 @@
+pub mod Pooled
+pub mod Listed
+pub mod Numbered
+pub mod Exact
+pub mod ComponentPooled
+pub mod Picked
+pub mod Around
+pub mod Used
 pub mod OnCycles
 pub mod Gathered
 pub mod Moving

@@ -18,7 +18,7 @@ use Rattle.ent_protocol.specs.State.{State, Member}
 use Rattle.ent_members.specs.Order.{tx_of}
 use Rattle.ent_run.proofs.Locked.{one_member}
 use Rattle.ent_match.specs.Place.{HasNoneOf}
-use Rattle.ent_components.proofs.Numbered.{same_member}
+use Rattle.ent_waits.proofs.Numbered.{same_member}
 
 -- ---- whose posted statements are
 

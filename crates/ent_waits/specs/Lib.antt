@@ -1,3 +1,6 @@
+pub mod Pooled
+pub mod Component
+pub mod Open
 pub mod Waits
 pub mod Rows
 pub mod Free

@@ -13,8 +13,7 @@ use crate::rows::rows_of;
 use crate::waiting::is_waiting;
 use ent_group::{MOST_MEMBERS, Members, cycle};
 use ent_job::Job;
-use ent_members::{Member, Use};
-use ent_next::SubmittedScript;
+use ent_members::{Member, SubmittedScript, Use};
 use ent_run::{Run, awaited_members_are_waited_for};
 
 /// A cycle of members that wait for each other: each waits for the next, and the last for the first. The first is the

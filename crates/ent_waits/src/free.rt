@@ -12,8 +12,7 @@ ghost use Rattle.ent_waits.specs.Waits.{state_with};
 use crate::waiting::is_waiting;
 use ent_group::Tx;
 use ent_job::Job;
-use ent_members::Member;
-use ent_next::{SubmittedScript, next_form};
+use ent_members::{Member, SubmittedScript, next_form};
 use ent_run::Run;
 use ent_semantics::Statement;
 

@@ -7,7 +7,7 @@ ghost use Rattle.ent_protocol.specs.State.{State};
 ghost use Rattle.ent_job.specs.Work.{work_seen};
 ghost use Rattle.ent_waits.specs.Jobs.{HasPostedQuery, IsWorkOf};
 
-use ent_components::is_present;
+use crate::is_present;
 use ent_group::Tx;
 use ent_job::{Job, Work};
 use ent_lock::lesser;

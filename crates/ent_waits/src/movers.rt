@@ -4,7 +4,7 @@ ghost use Rattle.ent_value.specs.declared.value.Value.{Value};
 ghost use Rattle.ent_lock.specs.Use.{IsLeastIfAny};
 ghost use Rattle.ent_semantics.specs.declared.entangled.Entangled.{Entangled};
 ghost use Rattle.ent_coordination.specs.Pool.{IsSafe};
-ghost use Rattle.ent_pool_laws.specs.Pooled.{IsPoolOf};
+ghost use Rattle.ent_waits.specs.Pooled.{IsPoolOf};
 ghost use Rattle.ent_protocol.specs.Begin.{pool_with};
 ghost use Rattle.ent_protocol.specs.Member.{Asks, next_of, pool as pool_of};
 ghost use Rattle.ent_protocol.specs.Quiet.{CanMove};
@@ -14,13 +14,12 @@ ghost use Rattle.ent_waits.specs.Waits.{state_with};
 ghost use Rattle.ent_waits.specs.Movers.{IsMover};
 
 use crate::free::{is_free, is_posting};
-use ent_components::post_fault;
+use crate::post_fault;
 use ent_group::Tx;
 use ent_job::Job;
 use ent_lock::lesser;
 use ent_match::{Pool, Posted};
-use ent_members::Member;
-use ent_next::{Next, SubmittedScript, next_of};
+use ent_members::{Member, Next, SubmittedScript, next_of};
 use ent_run::Run;
 use std::alloc::{AllocError, Global};
 

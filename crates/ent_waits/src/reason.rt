@@ -1,17 +1,17 @@
 //! Why a run can't end yet.
 ghost use Rattle.std.specs.Prelude.{◌≡◌, IfOk};
-ghost use Rattle.ent_pool_laws.specs.Pooled.{IsPoolOf};
+ghost use Rattle.ent_waits.specs.Pooled.{IsPoolOf};
 ghost use Rattle.ent_protocol.specs.State.{State};
 ghost use Rattle.ent_waits.specs.Quiet.{IsReasonIfAny, state_of};
 
 use crate::cycles::deadlock;
+use crate::first_untried;
 use crate::jobs::job_out;
 use crate::movers::least_mover;
-use ent_components::first_untried;
 use ent_group::{Members, Tx};
 use ent_job::Job;
 use ent_match::{Pool, Posted};
-use ent_next::SubmittedScript;
+use ent_members::SubmittedScript;
 use ent_run::Run;
 use ent_value::Sequence;
 use std::alloc::{AllocError, Global};

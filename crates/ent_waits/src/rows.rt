@@ -12,8 +12,7 @@ use crate::changers::{ChangersRow, row_of_changer};
 use crate::waiting::is_waiting;
 use ent_group::{MOST_MEMBERS, Row, Tx, with_mark};
 use ent_job::Job;
-use ent_members::{Member, Use, exclusive_table, statement_uses};
-use ent_next::{SubmittedScript, next_form};
+use ent_members::{Member, SubmittedScript, Use, exclusive_table, next_form, statement_uses};
 use ent_run::Run;
 use ent_semantics::{Known, Statement};
 

@@ -8,7 +8,7 @@ ghost use Rattle.ent_waits.specs.Waits.{state_with};
 use crate::cycles::deadlock;
 use ent_group::{Members, Tx};
 use ent_job::Job;
-use ent_next::SubmittedScript;
+use ent_members::SubmittedScript;
 use ent_run::Run;
 
 /// A deadlock, and the label of the group of its first member, which is rolled back for it.

@@ -7,9 +7,9 @@ use Rattle.ent_tree.specs.declared.entangled.Condition.{Condition}
 use Rattle.ent_tree.specs.declared.entangled.Condition.TheVariants.{InSelect, InAnswer, Test}
 use Rattle.ent_tree.specs.declared.script.Statement.{Statement}
 use Rattle.ent_tree.specs.declared.script.Statement.TheVariants as statements
-use Rattle.ent_parties.specs.Known.{known_after}
-use Rattle.ent_parties.specs.Party.{condition_demands, text_views, view_demands}
-use Rattle.ent_parties.specs.declared.pattern.Pattern.{Pattern}
+use Rattle.ent_meetings.specs.Known.{known_after}
+use Rattle.ent_meetings.specs.Party.{condition_demands, text_views, view_demands}
+use Rattle.ent_meetings.specs.declared.pattern.Pattern.{Pattern}
 use Rattle.ent_warnings.specs.Offered.{Written, condition_written, statement_written}
 use Rattle.ent_warnings.specs.Seen.{written}
 use Rattle.ent_warnings.specs.declared.postcondition.Postcondition.{Postcondition}

@@ -1,7 +1,7 @@
 //! Scripts that may meet, and stand too far apart to share a run.
 use crate::postcondition::Postcondition;
 use ent_group::MOST_MEMBERS;
-use ent_parties::{Party, Pattern, is_met};
+use ent_meetings::{Party, Pattern, is_met};
 use ent_tree::Script;
 use std::alloc::{AllocError, Global};
 

@@ -1,6 +1,6 @@
 //! Answer relations and texts that may be meant.
 use ent_fault_text::nearest;
-use ent_parties::Party;
+use ent_meetings::Party;
 use ent_tree::{
     Condition, Entangled, Identifier, Literal, Script, Statement, Term, Tuple, ValueSpecification,
 };

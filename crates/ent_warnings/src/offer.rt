@@ -1,9 +1,9 @@
 //! What scripts offer and demand.
 ghost use Rattle.std.specs.Prelude.{◌≡◌, IfOk, map};
-ghost use Rattle.ent_parties.specs.Party.{party_of};
+ghost use Rattle.ent_meetings.specs.Party.{party_of};
 ghost use Rattle.ent_warnings.specs.Offered.{asks_for, is_demanded, is_named, names};
 
-use ent_parties::Party;
+use ent_meetings::Party;
 use ent_tree::Script;
 use ent_value::Name;
 use std::alloc::{AllocError, Global};

@@ -1,7 +1,7 @@
 //! Postconditions, as they are written.
 ghost use Rattle.std.specs.Prelude.{◌≡◌, ◌++◌, IfOk, OnOk, map};
 ghost use Rattle.std.specs.List.{flat_map};
-ghost use Rattle.ent_parties.specs.Party.{party_of};
+ghost use Rattle.ent_meetings.specs.Party.{party_of};
 
 use ent_tree::{Condition, Entangled, Identifier, Script, Statement, Tuple};
 use std::alloc::{AllocError, Global};

@@ -7,7 +7,7 @@ use crate::offer::{is_demanded, is_named, parties_of};
 use crate::postcondition::Postcondition;
 use ent_excerpt::{Excerpt, Line, Place};
 use ent_fault_text::Explanation;
-use ent_parties::{Party, Pattern, is_met};
+use ent_meetings::{Party, Pattern, is_met};
 use ent_sql::parse_input;
 use ent_tree::{Create, Identifier, Input, Script};
 use ent_value::Refusal;

@@ -1,6 +1,6 @@
 use Rattle.std.proofs.Common.{◌≡◌, ◌<◌, true, false, length, subst, arith, rules}
 use Rattle.ent_lists.specs.Elements.{FitBefore, fit_off, fit_on, fit_whole}
-use Rattle.ent_rules.specs.Alike.{same_fact}
+use Rattle.ent_history.specs.Alike.{same_fact}
 use Rattle.ent_check.proofs.alike.same_facts.Goals as goal
 
 pub returns-then-not-alike : goal.returns-then-not-alike

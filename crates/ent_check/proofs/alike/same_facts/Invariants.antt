@@ -1,5 +1,5 @@
 use Rattle.ent_lists.specs.Elements.{FitBefore}
-use Rattle.ent_rules.specs.Alike.{same_fact}
+use Rattle.ent_history.specs.Alike.{same_fact}
 use Rattle.ent_check.proofs.alike.same_facts.Given as goal
 
 -- the facts so far are the same

@@ -1,7 +1,7 @@
 use Rattle.std.proofs.Common.{◌≡◌, take}
 use Rattle.std.specs.List.{list_any}
 use Rattle.ent_semantics.specs.declared.answer.Fact.{Fact}
-use Rattle.ent_rules.specs.Post.{is_offered}
+use Rattle.ent_history.specs.Post.{is_offered}
 use Rattle.ent_check.specs.Heads.{has}
 use Rattle.ent_check.proofs.heads.heads_of.Given as goal
 

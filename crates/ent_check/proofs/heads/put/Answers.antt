@@ -1,7 +1,7 @@
 use Rattle.std.proofs.Common.{◌||◌, ◌<◌, Bool, length, take, sym, ap, ◌∙◌, arith, rules}
 use Rattle.std.proofs.lemmas.List.Folds.{list_any_more}
-use Rattle.ent_rules.specs.Alike.{same_fact}
-use Rattle.ent_rules.specs.Post.{is_offered}
+use Rattle.ent_history.specs.Alike.{same_fact}
+use Rattle.ent_history.specs.Post.{is_offered}
 use Rattle.ent_check.specs.Heads.{has}
 use Rattle.ent_check.proofs.HeadsPut.{one_more}
 use Rattle.ent_check.proofs.Lists.{or_assoc}

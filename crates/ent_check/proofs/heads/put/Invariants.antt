@@ -1,6 +1,6 @@
 use Rattle.std.proofs.Common.{◌≡◌, ◌||◌, take}
 use Rattle.ent_semantics.specs.declared.answer.Fact.{Fact}
-use Rattle.ent_rules.specs.Post.{is_offered}
+use Rattle.ent_history.specs.Post.{is_offered}
 use Rattle.ent_check.specs.Heads.{has}
 use Rattle.ent_check.proofs.heads.put.Given as goal
 

@@ -1,9 +1,9 @@
 use Rattle.std.proofs.Common.{◌≡◌, [], true, false, sym, ap, ◌∙◌, is_some}
 use Rattle.ent_semantics.specs.Book.{all_members}
-use Rattle.ent_rules.specs.Account.{accounts_from}
-use Rattle.ent_rules.specs.Joint.{left_out_findings, members_findings}
-use Rattle.ent_rules.specs.Placed.{placed}
-use Rattle.ent_rules.specs.Verdict.{first_of}
+use Rattle.ent_history.specs.Account.{accounts_from}
+use Rattle.ent_history.specs.Joint.{left_out_findings, members_findings}
+use Rattle.ent_history.specs.Placed.{placed}
+use Rattle.ent_history.specs.Verdict.{first_of}
 use Rattle.ent_check.proofs.Joints.{members_placed}
 use Rattle.ent_check.proofs.LeftOut.{first_kept, first_skipped}
 use Rattle.ent_check.proofs.Taken.{answers_told}

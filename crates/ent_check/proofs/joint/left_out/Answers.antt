@@ -1,5 +1,5 @@
 use Rattle.std.proofs.Common.{◌≡◌, true, false, sym, ap, ◌∙◌, arith, rules, is_some}
-use Rattle.ent_rules.specs.Joint.{all_stand}
+use Rattle.ent_history.specs.Joint.{all_stand}
 use Rattle.ent_check.proofs.Accounts.{account_of}
 use Rattle.ent_check.proofs.Joints.{members_in}
 use Rattle.ent_check.proofs.LeftOut.{none_left_out, out_of_none, some_left_out}

@@ -1,5 +1,5 @@
 use Rattle.std.proofs.Common.{List}
-use Rattle.ent_rules.specs.Placed.{Placed}
+use Rattle.ent_history.specs.Placed.{Placed}
 use Rattle.ent_check.specs.Seats.{AreSeatsOf}
 use Rattle.ent_check.proofs.Joints.{members_in}
 use Rattle.ent_check.proofs.LeftOut.{LeftBehind}

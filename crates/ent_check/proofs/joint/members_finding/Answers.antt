@@ -1,5 +1,5 @@
 use Rattle.std.proofs.Common.{◌≡◌, ◌<◌, ◌≤◌, true, false, length, sym, ◌∙◌, arith, rules}
-use Rattle.ent_rules.specs.Account.{accounts_from}
+use Rattle.ent_history.specs.Account.{accounts_from}
 use Rattle.ent_check.proofs.Joints.{judged_all, judged_begun, judged_more, judged_off}
 use Rattle.ent_check.proofs.joint.members_finding.Goals as goal
 

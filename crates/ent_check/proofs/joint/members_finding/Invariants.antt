@@ -1,4 +1,4 @@
-use Rattle.ent_rules.specs.Account.{accounts_from}
+use Rattle.ent_history.specs.Account.{accounts_from}
 use Rattle.ent_check.proofs.Joints.{Judged}
 use Rattle.ent_check.proofs.joint.members_finding.Given as goal
 

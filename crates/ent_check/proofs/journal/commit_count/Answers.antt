@@ -1,5 +1,5 @@
 use Rattle.std.proofs.Common.{◌≡◌, ◌<◌, ◌≤◌, ◌+◌, length, sym, ap, subst, ◌∙◌, arith, rules, is_some, min}
-use Rattle.ent_rules.specs.Account.{commit_number}
+use Rattle.ent_history.specs.Account.{commit_number}
 use Rattle.ent_check.proofs.Numbers.{CountedBefore, counted_all, counted_off, counted_on}
 use Rattle.ent_check.proofs.journal.commit_count.Goals as goal
 use Rattle.ent_check.proofs.journal.commit_count.Goals.{then-committed, else-committed}

@@ -1,5 +1,5 @@
 use Rattle.std.proofs.Common.{◌≡◌, ◌+◌, ◌≤◌}
-use Rattle.ent_rules.specs.Account.{accounts_from, commit_count}
+use Rattle.ent_history.specs.Account.{accounts_from, commit_count}
 use Rattle.ent_check.proofs.Accounts.{accounts_behind}
 use Rattle.ent_check.proofs.journal.commit_count.Given as goal
 

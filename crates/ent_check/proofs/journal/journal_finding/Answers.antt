@@ -1,7 +1,7 @@
 use Rattle.std.proofs.Common.{◌≡◌, ◌<◌, ◌≤◌, length, sym, ap, ◌∙◌, arith, rules, min, false, is_some, ◌+◌}
-use Rattle.ent_rules.specs.Journal.{number_finding}
-use Rattle.ent_rules.specs.Account.{commit_number}
-use Rattle.ent_rules.specs.Verdict.{first_of}
+use Rattle.ent_history.specs.Journal.{number_finding}
+use Rattle.ent_history.specs.Account.{commit_number}
+use Rattle.ent_history.specs.Verdict.{first_of}
 use Rattle.ent_check.proofs.Accounts.{account_of}
 use Rattle.ent_check.proofs.Numbers.{journal_more, journal_whole}
 use Rattle.ent_check.proofs.journal.journal_finding.Goals as goal

@@ -1,4 +1,4 @@
-use Rattle.ent_rules.specs.Account.{accounts_from, commit_count}
+use Rattle.ent_history.specs.Account.{accounts_from, commit_count}
 use Rattle.ent_check.proofs.Accounts.{accounts_behind}
 use Rattle.ent_check.proofs.Numbers.{JournalBehind}
 use Rattle.ent_check.proofs.journal.journal_finding.Given as goal

@@ -1,5 +1,5 @@
 use Rattle.std.proofs.Common.{◌<◌, ◌≤◌, length, arith, rules, min}
-use Rattle.ent_rules.specs.Account.{accounts_from, commit_number}
+use Rattle.ent_history.specs.Account.{accounts_from, commit_number}
 use Rattle.ent_check.proofs.Commits.{all_entered, below_begun, below_more, entered_begun, one_entered}
 use Rattle.ent_check.proofs.order.by_number.Goals as goal
 

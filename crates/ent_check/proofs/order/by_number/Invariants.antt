@@ -1,5 +1,5 @@
 use Rattle.std.proofs.Common.{length, min}
-use Rattle.ent_rules.specs.Account.{accounts_from}
+use Rattle.ent_history.specs.Account.{accounts_from}
 use Rattle.ent_check.specs.Order.{AreBelow}
 use Rattle.ent_check.proofs.Commits.{EnteredBefore}
 use Rattle.ent_check.proofs.order.by_number.Given as goal

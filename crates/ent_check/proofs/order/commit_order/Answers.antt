@@ -2,7 +2,7 @@ use Rattle.std.proofs.Common.{◌≡◌, ◌+◌, length, arith, rules, min, ap,
 use Rattle.std.specs.BTreeMap.{get}
 use Rattle.std.specs.List.{AllByRecursion}
 use Rattle.std.specs.Ordering.{nat_cmp}
-use Rattle.ent_rules.specs.Account.{accounts_from}
+use Rattle.ent_history.specs.Account.{accounts_from}
 use Rattle.ent_check.specs.Order.{accounts_at}
 use Rattle.ent_check.proofs.Commits.{below_pushed, ordered_all, ordered_more}
 use Rattle.ent_check.proofs.order.commit_order.Goals as goal

@@ -1,6 +1,6 @@
 use Rattle.std.proofs.Common.{◌≡◌, ◌<◌, length, min}
 use Rattle.std.specs.List.{AllByRecursion}
-use Rattle.ent_rules.specs.Account.{accounts_from, commit_count}
+use Rattle.ent_history.specs.Account.{accounts_from, commit_count}
 use Rattle.ent_check.specs.Order.{AreBelow, AreNumbered}
 use Rattle.ent_check.proofs.Commits.{OrderedBefore}
 use Rattle.ent_check.proofs.order.commit_order.Given as goal

@@ -2,8 +2,8 @@ use Rattle.std.proofs.Common.{ℕ, List, map}
 use Rattle.std.specs.BTreeMap.{BTreeMap}
 use Rattle.ent_history.specs.Told.{joint_answer_of}
 use Rattle.ent_semantics.specs.Serial.{ReadView}
-use Rattle.ent_rules.specs.Account.{Account}
-use Rattle.ent_rules.specs.Placed.{placed}
+use Rattle.ent_history.specs.Account.{Account}
+use Rattle.ent_history.specs.Placed.{placed}
 use Rattle.ent_check.specs.Offers.{AreJoined, joint_in, offer_of}
 use Rattle.ent_check.specs.Seats.{AreSeatsOf}
 use Rattle.ent_check.proofs.Demands.{MetBehind, NothingFound}

@@ -1,5 +1,5 @@
 use Rattle.std.proofs.Common.{List}
-use Rattle.ent_rules.specs.Placed.{Placed}
+use Rattle.ent_history.specs.Placed.{Placed}
 use Rattle.ent_check.specs.Seats.{AreSeatsOf}
 use Rattle.ent_check.proofs.Taken.{Taken}
 use Rattle.ent_check.proofs.seating.take_seats.Given as goal

@@ -1,13 +1,13 @@
 use Rattle.std.proofs.Common.{◌≡◌, ◌++◌, [], false, true, map, is_some, sym, ap, ◌∙◌, append_assoc}
 use Rattle.ent_history.specs.Told.{joint_answer_of}
-use Rattle.ent_rules.specs.Account.{accounts, accounts_from, in_commit_order}
-use Rattle.ent_rules.specs.Joint.{left_out_findings, members_findings}
-use Rattle.ent_rules.specs.Journal.{journal_findings}
-use Rattle.ent_rules.specs.Placed.{placed}
-use Rattle.ent_rules.specs.Post.{post_findings}
-use Rattle.ent_rules.specs.Replay.{replay_findings, told_end, told_read_views}
-use Rattle.ent_rules.specs.Table.{end_findings}
-use Rattle.ent_rules.specs.Verdict.{first_of}
+use Rattle.ent_history.specs.Account.{accounts, accounts_from, in_commit_order}
+use Rattle.ent_history.specs.Joint.{left_out_findings, members_findings}
+use Rattle.ent_history.specs.Journal.{journal_findings}
+use Rattle.ent_history.specs.Placed.{placed}
+use Rattle.ent_history.specs.Post.{post_findings}
+use Rattle.ent_history.specs.Replay.{replay_findings, told_end, told_read_views}
+use Rattle.ent_history.specs.Table.{end_findings}
+use Rattle.ent_history.specs.Verdict.{first_of}
 use Rattle.ent_semantics.specs.Book.{all_members}
 use Rattle.ent_semantics.specs.Database.{opening_database}
 use Rattle.ent_check.proofs.Numbers.{first_none}

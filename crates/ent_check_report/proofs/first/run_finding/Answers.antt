@@ -3,19 +3,19 @@ use Rattle.std.specs.Arc.{arc_value}
 use Rattle.ent_history.specs.Told.{joint_answer_of}
 use Rattle.ent_history.specs.declared.history.ToldJoint.{ToldJoint}
 use Rattle.ent_form_laws.specs.Tables.{database_of}
-use Rattle.ent_rules.specs.Account.{accounts, in_commit_order}
-use Rattle.ent_rules.specs.Joint.{left_out_findings, members_findings}
-use Rattle.ent_rules.specs.Placed.{placed}
-use Rattle.ent_rules.specs.Post.{post_findings}
-use Rattle.ent_rules.specs.Replay.{replay_findings, told_end, told_read_views}
-use Rattle.ent_rules.specs.Table.{end_findings, tables_findings}
-use Rattle.ent_rules.specs.Verdict.{first_of}
-use Rattle.ent_rules.specs.declared.finding.Finding.{Finding}
+use Rattle.ent_history.specs.Account.{accounts, in_commit_order}
+use Rattle.ent_history.specs.Joint.{left_out_findings, members_findings}
+use Rattle.ent_history.specs.Placed.{placed}
+use Rattle.ent_history.specs.Post.{post_findings}
+use Rattle.ent_history.specs.Replay.{replay_findings, told_end, told_read_views}
+use Rattle.ent_history.specs.Table.{end_findings, tables_findings}
+use Rattle.ent_history.specs.Verdict.{first_of}
+use Rattle.ent_history.specs.declared.finding.Finding.{Finding}
 use Rattle.ent_select.specs.Tables.{rows_in}
 use Rattle.ent_semantics.specs.Book.{all_members}
 use Rattle.ent_semantics.specs.Database.{opening_database}
 use Rattle.ent_check.proofs.Numbers.{first_none}
-use Rattle.ent_check_run.proofs.Next.{none_there}
+use Rattle.ent_check.proofs.Next.{none_there}
 use Rattle.ent_check_report.proofs.Rules.{found_here, found_later, nothing_found}
 use Rattle.ent_check_report.proofs.first.run_finding.Goals as goal
 

@@ -4,12 +4,12 @@ use Rattle.ent_check_report.specs.declared.verdict.Verdict.{Verdict}
 use Rattle.ent_check_report.specs.declared.verdict.Verdict.TheVariants.{Yes, No}
 use Rattle.ent_history.specs.declared.history.History.{History}
 use Rattle.ent_history.specs.Told.{book_of}
-use Rattle.ent_history_form.specs.Stands.{Tells}
-use Rattle.ent_rules.specs.Findings.{findings}
-use Rattle.ent_rules.specs.Formed.{IsFormed}
-use Rattle.ent_rules.specs.Verdict.{first_of}
-use Rattle.ent_rules.specs.declared.finding.Finding.{Finding}
-use Rattle.ent_rules.specs.declared.finding.Rule.TheVariants.{Form}
+use Rattle.ent_history.specs.Stands.{Tells}
+use Rattle.ent_history.specs.Findings.{findings}
+use Rattle.ent_history.specs.Formed.{IsFormed}
+use Rattle.ent_history.specs.Verdict.{first_of}
+use Rattle.ent_history.specs.declared.finding.Finding.{Finding}
+use Rattle.ent_history.specs.declared.finding.Rule.TheVariants.{Form}
 use Rattle.ent_semantics.specs.Book.{IsLegal}
 use Rattle.ent_check_report.proofs.law.reports_that_are_right_tell_of_legal_books.Goals as goal
 

@@ -1,7 +1,7 @@
 use Rattle.std.proofs.Common.{◌≡◌, ◌∙◌, ℕ, Some, ap, subst, sym}
 use Rattle.std.specs.Arc.{arc_value}
 use Rattle.ent_headline.specs.Resolved.{resolved_forms}
-use Rattle.ent_next.specs.Next.{next_seen}
+use Rattle.ent_members.specs.Next.{next_seen}
 use Rattle.ent_protocol.specs.Member.{Asks, Commits, Next, Ordinary, active_member, next_of}
 use Rattle.ent_protocol.specs.Uses.{blocker}
 use Rattle.ent_protocol.specs.Waits.{next_uses}

@@ -1,6 +1,6 @@
 use Rattle.std.proofs.Common.{◌≡◌, ◌∙◌, List, ap, subst}
 use Rattle.std.specs.Prelude.{IfOk}
-use Rattle.ent_next.specs.Next.{next_seen}
+use Rattle.ent_members.specs.Next.{next_seen}
 use Rattle.ent_protocol.specs.Member.{Next, next_in, next_of}
 use Rattle.ent_protocol.specs.State.{State, Submitted}
 use Rattle.ent_semantics.specs.Serial.{numbered}

@@ -10,21 +10,21 @@ use Rattle.ent_protocol.specs.Commit.{commit_fates, entry_of, is_ready, preparin
 use Rattle.ent_protocol.specs.Event as replies
 use Rattle.ent_protocol.specs.Member.{active_member}
 use Rattle.ent_protocol.specs.State.{State, Member, members}
-use Rattle.ent_transaction_table.specs.TransactionTable.{TransactionTable}
+use Rattle.ent_members.specs.TransactionTable.{TransactionTable}
 use Rattle.ent_semantics.specs.declared.book.Entry.{Entry}
 use Rattle.ent_protocol_laws.specs.Attempts.{MayTakePart, StayWithin}
 use Rattle.ent_tables.specs.Stored.{Stored}
 use Rattle.ent_core.specs.Reply.{numbered_from}
 use Rattle.ent_core.specs.Store.{IsKept}
 use Rattle.ent_core.specs.contracts.store.Store.{the_view}
-use Rattle.ent_pool_laws.specs.Pooled.{IsPoolOf}
+use Rattle.ent_waits.specs.Pooled.{IsPoolOf}
 use Rattle.ent_core.specs.Begin.{IsUnposted}
 use Rattle.ent_core.proofs.Begun.{found_at, kept_changed, kept_with, one_member}
 use Rattle.ent_core.proofs.Committing.{commits, committed_all, committed_few, first_part, last_part, parts_numbered}
 use Rattle.ent_core.proofs.Committing.{same_all, same_fates, same_length, same_numbers, waits}
 use Rattle.ent_semantics.specs.declared.book.Fated.{Fated}
 use Rattle.ent_protocol.specs.Member.{is_of}
-use Rattle.ent_transaction_table.specs.ByNumber.{IsNumbered}
+use Rattle.ent_members.specs.ByNumber.{IsNumbered}
 use Rattle.ent_core.proofs.Pooled.{kept_prepared}
 use Rattle.ent_core.proofs.Settled.{settled_on}
 use Rattle.ent_core.proofs.commit.commit.Goals as goal

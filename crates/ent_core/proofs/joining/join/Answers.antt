@@ -2,7 +2,7 @@ use Rattle.std.proofs.Common.{◌≡◌, ◌∙◌, ◌++◌, List, ap, subst, s
 use Rattle.ent_members.specs.Answered.{MemberAnswer}
 use Rattle.ent_run.specs.Answered.{answered_from, answered_labels, member_answers}
 use Rattle.ent_protocol.specs.PoolEvents.{in_joined_group}
-use Rattle.ent_pool_laws.specs.Pooled.{IsPoolOf}
+use Rattle.ent_waits.specs.Pooled.{IsPoolOf}
 use Rattle.ent_core.proofs.Answering.{given_distinct}
 use Rattle.ent_core.proofs.Begun.{kept_answered}
 use Rattle.ent_core.proofs.Pooled.{kept_joined}

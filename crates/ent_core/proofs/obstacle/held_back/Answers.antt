@@ -5,7 +5,7 @@ use Rattle.std.proofs.lemmas.Result.{IfOk-weaker}
 use Rattle.ent_coordination.specs.Pool.{IsFirstUnsafe, IsSafe, Posted}
 use Rattle.ent_headline.specs.Resolved.{resolved_forms}
 use Rattle.ent_match.specs.Posting.{HasNone}
-use Rattle.ent_next.specs.Next.{next_seen}
+use Rattle.ent_members.specs.Next.{next_seen}
 use Rattle.ent_protocol.specs.Member.{Asks, Commits, Ordinary, RollsBack, next_of, pool}
 use Rattle.ent_core.specs.Obstacle.{IsHeldBack}
 use Rattle.ent_core.specs.contracts.store.Store.{the_view}

@@ -1,5 +1,5 @@
 use Rattle.std.proofs.Common.{refl, sym}
-use Rattle.ent_components.specs.Component.{IsFirstToPick}
+use Rattle.ent_waits.specs.Component.{IsFirstToPick}
 use Rattle.ent_core.specs.contracts.store.Store.{the_view}
 use Rattle.ent_core.proofs.Picked.{picked_first, picked_none}
 use Rattle.ent_core.proofs.pick.picked_job.Goals as goal

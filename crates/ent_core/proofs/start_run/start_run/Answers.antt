@@ -9,7 +9,7 @@ use Rattle.ent_semantics.specs.declared.book.Fated.{Fated}
 use Rattle.ent_core.specs.Kept.{IsKeptState}
 use Rattle.ent_core.specs.Settled.{AreSettled}
 use Rattle.ent_core.specs.contracts.store.Store.{the_view}
-use Rattle.ent_transaction_table.specs.TransactionTable.{TransactionTable}
+use Rattle.ent_members.specs.TransactionTable.{TransactionTable}
 use Rattle.ent_core.proofs.Pooled.{kept_fresh}
 use Rattle.ent_core.proofs.Settled.{settled_at_rest}
 use Rattle.ent_core.proofs.Starting.{distinct_taken, kept_started, started}

@@ -1,6 +1,6 @@
 use Rattle.std.proofs.Common.{◌≡◌, ◌∙◌, [], ℕ, List, ap, sym}
 use Rattle.std.specs.List.{filter}
-use Rattle.ent_pool_laws.specs.Pooled.{is_of_none}
+use Rattle.ent_waits.specs.Pooled.{is_of_none}
 use Rattle.ent_rel.proofs.Keyed.{none_in}
 use Rattle.ent_core.proofs.Pooled.{withdrawn_none, withdrawn_one}
 use Rattle.ent_core.proofs.take_out.+withdraw_each.Goals as goal

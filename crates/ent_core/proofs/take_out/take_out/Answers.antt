@@ -1,6 +1,6 @@
 use Rattle.std.proofs.Common.{◌≡◌, ◌∙◌, ◌++◌, ◌+◌, ◌≤◌, ℕ, List, ap, arith, length, nat_eq, sym, subst, map, take}
 use Rattle.std.specs.List.{AllByRecursion, IsDistinct, filter, filter_map}
-use Rattle.ent_pool_laws.specs.Pooled.{IsPoolOf, is_of_none}
+use Rattle.ent_waits.specs.Pooled.{IsPoolOf, is_of_none}
 use Rattle.ent_core.proofs.Pooled.{kept_gone}
 use Rattle.ent_core.proofs.TakenOut.{as_run_attempts, joints_left, kept_taken, may_leave_run, numbers_leaving}
 use Rattle.ent_core.proofs.TakenOut.{taken, who_left}
@@ -13,9 +13,9 @@ use Rattle.ent_run.specs.Moves.{is_not_of}
 use Rattle.ent_members.specs.Order.{tx_of}
 use Rattle.ent_protocol.specs.Rollback.{dormant_by, fated_by, taken_out}
 use Rattle.ent_protocol.specs.State.{Member, State, Submitted, by_number, members}
-use Rattle.ent_transaction_table.specs.ByNumber.{IsNumbered}
-use Rattle.ent_transaction_table.specs.Cause.{cause_seen}
-use Rattle.ent_transaction_table.specs.Leaving.{IsWithin, as_member}
+use Rattle.ent_members.specs.ByNumber.{IsNumbered}
+use Rattle.ent_members.specs.Cause.{cause_seen}
+use Rattle.ent_members.specs.Leaving.{IsWithin, as_member}
 use Rattle.ent_tables.specs.Stored.{Stored}
 use Rattle.ent_core.proofs.take_out.take_out.Goals as goal
 use Rattle.ent_core.proofs.take_out.take_out.Goals.{After-remove-run_attempts}

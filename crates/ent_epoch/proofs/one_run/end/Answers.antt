@@ -1,5 +1,5 @@
 use Rattle.std.proofs.Common.{sym, subst}
-use Rattle.ent_commit_notes.specs.Telling.{KeepsUp}
+use Rattle.ent_epoch.specs.Telling.{KeepsUp}
 use Rattle.ent_protocol.specs.State.{State}
 use Rattle.ent_epoch.proofs.one_run.end.Goals as goal
 

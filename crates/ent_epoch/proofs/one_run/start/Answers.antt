@@ -4,7 +4,7 @@ use Rattle.ent_headline.specs.Resolved.{resolved_forms}
 use Rattle.ent_protocol.specs.Event.{Recall, StartRun}
 use Rattle.ent_protocol.specs.State.{State}
 use Rattle.ent_sched.specs.Onward.{LeadsOn}
-use Rattle.ent_commit_notes.specs.Telling.{KeepsUp}
+use Rattle.ent_epoch.specs.Telling.{KeepsUp}
 use Rattle.ent_epoch.proofs.Heard.{recall_is_no_commit, start_is_no_commit}
 use Rattle.ent_epoch.proofs.one_run.start.Goals as goal
 

@@ -1,4 +1,4 @@
-use Rattle.ent_parties.specs.Party.{view_demands, view_offers}
+use Rattle.ent_meetings.specs.Party.{view_demands, view_offers}
 use Rattle.ent_meeting_laws.proofs.Places.{given_by_places}
 use Rattle.ent_meeting_laws.proofs.law.parties_are_of_statements.Goals as goal
 

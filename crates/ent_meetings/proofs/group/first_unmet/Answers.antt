@@ -1,8 +1,8 @@
 use Rattle.std.proofs.Common.{◌≡◌, None, IsSome, not, arith, rules, sym, ◌∙◌}
 use Rattle.std.specs.List.{find}
-use Rattle.ent_parties.specs.Meeting.{is_met}
-use Rattle.ent_parties.specs.declared.party.Party.{Party}
-use Rattle.ent_parties.specs.declared.pattern.Pattern.{Pattern}
+use Rattle.ent_meetings.specs.PartyMeeting.{is_met}
+use Rattle.ent_meetings.specs.declared.party.Party.{Party}
+use Rattle.ent_meetings.specs.declared.pattern.Pattern.{Pattern}
 use Rattle.ent_meetings.specs.Group.{seen}
 use Rattle.ent_meetings.proofs.Seeing.{find_first, find_none, none_copied, seen_at, seen_low}
 use Rattle.ent_meetings.proofs.group.first_unmet.Goals as goal

@@ -1,6 +1,6 @@
 use Rattle.std.proofs.Common.{◌≡◌, None, not, take}
 use Rattle.std.specs.List.{find}
-use Rattle.ent_parties.specs.Meeting.{is_met}
+use Rattle.ent_meetings.specs.PartyMeeting.{is_met}
 use Rattle.ent_meetings.specs.Group.{demands_of, seen}
 use Rattle.ent_meetings.proofs.group.first_unmet.Given as goal
 

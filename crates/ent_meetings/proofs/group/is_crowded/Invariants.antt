@@ -1,6 +1,6 @@
 use Rattle.std.proofs.Common.{◌≡◌, false, take, nat_lt}
 use Rattle.std.specs.List.{list_any}
-use Rattle.ent_parties.specs.Meeting.{ways}
+use Rattle.ent_meetings.specs.PartyMeeting.{ways}
 use Rattle.ent_meetings.specs.Group.{seen}
 use Rattle.ent_meetings.proofs.group.is_crowded.Given as goal
 

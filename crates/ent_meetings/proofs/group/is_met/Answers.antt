@@ -1,5 +1,5 @@
 use Rattle.std.proofs.Common.{arith, sym, ◌∙◌}
-use Rattle.ent_parties.specs.Meeting.{offers}
+use Rattle.ent_meetings.specs.PartyMeeting.{offers}
 use Rattle.ent_meetings.proofs.Seeing.{any_off, any_on, any_whole}
 use Rattle.ent_meetings.proofs.group.is_met.Goals as goal
 

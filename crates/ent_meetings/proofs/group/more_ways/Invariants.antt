@@ -1,5 +1,5 @@
 use Rattle.std.proofs.Common.{◌≡◌, ◌+◌, min, take, count_by}
-use Rattle.ent_parties.specs.Pattern.{may_meet}
+use Rattle.ent_meetings.specs.Pattern.{may_meet}
 use Rattle.ent_meetings.proofs.group.more_ways.Given as goal
 
 abbrev pub invariant-loop-offer : goal.invariant-loop-offer

@@ -1,6 +1,6 @@
 use Rattle.std.proofs.Common.{◌≡◌, false, take}
 use Rattle.std.specs.List.{list_any}
-use Rattle.ent_parties.specs.Meeting.{offers}
+use Rattle.ent_meetings.specs.PartyMeeting.{offers}
 use Rattle.ent_meetings.specs.Group.{seen}
 use Rattle.ent_meetings.proofs.group.serves.Given as goal
 

@@ -1,7 +1,7 @@
 use Rattle.std.proofs.Common.{◌≡◌, ◌+◌, take, arith, count_by}
-use Rattle.ent_parties.specs.Meeting.{ways}
-use Rattle.ent_parties.specs.Pattern.{may_meet}
-use Rattle.ent_parties.specs.declared.party.Party.{Party}
+use Rattle.ent_meetings.specs.PartyMeeting.{ways}
+use Rattle.ent_meetings.specs.Pattern.{may_meet}
+use Rattle.ent_meetings.specs.declared.party.Party.{Party}
 use Rattle.ent_meetings.specs.Group.{seen}
 use Rattle.ent_meetings.proofs.Seeing.{count_more, seen_at, seen_low}
 use Rattle.ent_meetings.proofs.group.ways.Goals as goal

@@ -1,5 +1,5 @@
 use Rattle.std.proofs.Common.{◌≡◌, min, take}
-use Rattle.ent_parties.specs.Meeting.{ways}
+use Rattle.ent_meetings.specs.PartyMeeting.{ways}
 use Rattle.ent_meetings.specs.Group.{seen}
 use Rattle.ent_meetings.proofs.group.ways.Given as goal
 

@@ -1,8 +1,8 @@
 use Rattle.std.proofs.Common.{◌≡◌, ◌<◌, ◌≤◌, ◌+◌, ℕ, List, [], ◌∷◌, ◌++◌, length, take, get_or, Some, All, sym, ap, subst, ◌∙◌, inl, inr, arith}
 use Rattle.std.proofs.lemmas.List.{take_all, take_more}
 use Rattle.ent_lists.specs.Elements.{In, clash, contains_in, in_either, nth_in, to_flat}
-use Rattle.ent_parties.specs.declared.party.Party.{Party}
-use Rattle.ent_parties.specs.declared.pattern.Pattern.{Pattern}
+use Rattle.ent_meetings.specs.declared.party.Party.{Party}
+use Rattle.ent_meetings.specs.declared.pattern.Pattern.{Pattern}
 use Rattle.ent_meetings.specs.Lack.{IsOffered, IsUnoffered}
 use Rattle.ent_meetings.specs.Meeting.{IsLonely}
 use Rattle.ent_meetings.specs.Waiting.{Waiting, named, offers_at, party_at}

@@ -1,6 +1,6 @@
 use Rattle.std.proofs.Common.{List, ℕ, sym, subst}
 use Rattle.ent_history.specs.Told.{told_by}
-use Rattle.ent_history_form.specs.Stands.{Tells}
+use Rattle.ent_history.specs.Stands.{Tells}
 use Rattle.ent_report_laws.proofs.ToEnd.{told_by_text}
 use Rattle.ent_report_laws.proofs.law.reports_of_tellable_books_are_told.Goals as goal
 

@@ -1,5 +1,5 @@
 use Rattle.std.proofs.Common.{List, ℕ, sym, subst}
-use Rattle.ent_history_form.specs.Stands.{Tells}
+use Rattle.ent_history.specs.Stands.{Tells}
 use Rattle.ent_report_laws.proofs.OfJoints.{joints_are_told}
 use Rattle.ent_report_laws.proofs.OfOpening.{opening_is_told}
 use Rattle.ent_report_laws.proofs.OfScripts.{scripts_are_told}

@@ -1,5 +1,5 @@
 use Rattle.std.proofs.Common.{subst, sym}
-use Rattle.ent_report_draft.specs.Scripts.{IsScriptLine}
+use Rattle.ent_report_reader.specs.Scripts.{IsScriptLine}
 use Rattle.ent_report_reader.proofs.ScriptSteps.{breaks_by, never_breaks, not_read}
 use Rattle.ent_report_reader.proofs.pieces.breaks_off.Goals as goal
 

@@ -1,6 +1,6 @@
 use Rattle.std.proofs.Common.{ap, refl, subst, sym}
 use Rattle.ent_book.specs.Report.{line}
-use Rattle.ent_report_draft.specs.Taking.{TakesLine}
+use Rattle.ent_report_reader.specs.Taking.{TakesLine}
 use Rattle.ent_report_reader.proofs.FirstPieces.{nothing_in_line, steps_by}
 use Rattle.ent_report_reader.proofs.pieces.take_piece.Goals as goal
 

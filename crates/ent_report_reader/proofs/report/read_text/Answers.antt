@@ -1,6 +1,6 @@
 use Rattle.std.proofs.Common.{◌+◌, ◌-◌, ap, arith}
 use Rattle.ent_book.specs.Report2.{line_count}
-use Rattle.ent_history_form.specs.Fault.{IsNoEnd}
+use Rattle.ent_history.specs.Fault.{IsNoEnd}
 use Rattle.ent_report_reader.proofs.WholeRead.{not_ended, some_left}
 use Rattle.ent_report_reader.proofs.Whole.{breaks_at, faulty_at}
 use Rattle.ent_report_reader.proofs.report.read_text.Goals.{else-has_ended-via-then-has_ended+else-is_empty}

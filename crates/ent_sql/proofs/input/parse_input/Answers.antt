@@ -3,8 +3,8 @@ use Rattle.ent_tree.specs.declared.script.Input.{Input}
 use Rattle.ent_sql.specs.declared.fault.SqlFault.{SqlFault}
 use Rattle.ent_value.specs.Refusal.{Refuses}
 use Rattle.ent_value.specs.declared.refusal.Refusal.{Refusal}
-use Rattle.ent_grammar.specs.declared.fault.GrammarFault.{GrammarFault}
-use Rattle.ent_grammar.specs.Grammar.{reads_all}
+use Rattle.ent_text.specs.declared.grammar_fault.GrammarFault.{GrammarFault}
+use Rattle.ent_text.specs.Grammar.{reads_all}
 use Rattle.ent_sql.specs.Scripts.{input}
 use Rattle.ent_text.specs.Left.{IsFaultlessBefore}
 use Rattle.ent_sql.specs.Fault.{place_of}

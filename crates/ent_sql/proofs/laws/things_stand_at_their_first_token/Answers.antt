@@ -1,6 +1,6 @@
 use Rattle.std.proofs.Common.{[], true, sym, ap, ◌∙◌}
 use Rattle.std.proofs.lemmas.List.{append-nil}
-use Rattle.ent_grammar.specs.Read.{place_of}
+use Rattle.ent_text.specs.Read.{place_of}
 use Rattle.ent_sql.proofs.Places.{literal_stands, operand_stands, expression_stands, term_stands, condition_stands}
 use Rattle.ent_sql.proofs.laws.things_stand_at_their_first_token.Goals as goal
 

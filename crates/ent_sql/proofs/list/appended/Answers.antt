@@ -1,8 +1,8 @@
 use Rattle.std.proofs.Common.{◌∙◌, ◌-◌, ◌∷◌, [], sym, ap, arith, length}
-use Rattle.ent_grammar.specs.Class.{is, among, class_of}
+use Rattle.ent_text.specs.Class.{is, among, class_of}
 use Rattle.std.proofs.lemmas.List.{length-append}
 use Rattle.std.proofs.lemmas.Result.{err_from_is_err_and}
-use Rattle.ent_grammar.specs.Grammar.{firsts, reads}
+use Rattle.ent_text.specs.Grammar.{firsts, reads}
 use Rattle.ent_sql.proofs.Loops.{more_start, more_on, more_fault, more_too_many, more_unexpected, more_done}
 use Rattle.ent_sql.proofs.list.appended.Goals as goal
 

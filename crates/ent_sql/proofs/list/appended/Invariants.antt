@@ -1,6 +1,6 @@
 use Rattle.std.proofs.Common.{◌≡◌, ◌+◌, ◌-◌, ◌++◌, length}
-use Rattle.ent_grammar.specs.Class.{is, among, class_of}
-use Rattle.ent_grammar.specs.Grammar.{give, chain, more, firsts, reads}
+use Rattle.ent_text.specs.Class.{is, among, class_of}
+use Rattle.ent_text.specs.Grammar.{give, chain, more, firsts, reads}
 use Rattle.ent_sql.proofs.Loops.{More}
 use Rattle.ent_sql.proofs.list.appended.Given as goal
 

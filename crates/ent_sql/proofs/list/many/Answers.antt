@@ -1,8 +1,8 @@
 use Rattle.std.proofs.Common.{◌∙◌, ◌∷◌, [], sym, ap, arith, length}
-use Rattle.ent_grammar.specs.Class.{among}
+use Rattle.ent_text.specs.Class.{among}
 use Rattle.std.proofs.lemmas.List.{length-append}
 use Rattle.std.proofs.lemmas.Result.{err_from_is_err_and}
-use Rattle.ent_grammar.specs.Grammar.{firsts, reads}
+use Rattle.ent_text.specs.Grammar.{firsts, reads}
 use Rattle.ent_sql.proofs.Loops.{many_first, many_on, many_fault, many_too_many, many_done}
 use Rattle.ent_sql.proofs.list.many.Goals as goal
 

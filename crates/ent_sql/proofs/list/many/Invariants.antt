@@ -1,6 +1,6 @@
 use Rattle.std.proofs.Common.{◌≡◌, ◌+◌, length}
-use Rattle.ent_grammar.specs.Class.{among}
-use Rattle.ent_grammar.specs.Grammar.{firsts, reads, many}
+use Rattle.ent_text.specs.Class.{among}
+use Rattle.ent_text.specs.Grammar.{firsts, reads, many}
 use Rattle.ent_sql.proofs.Loops.{Many}
 use Rattle.ent_sql.proofs.list.many.Given as goal
 

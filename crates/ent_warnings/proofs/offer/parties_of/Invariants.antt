@@ -1,5 +1,5 @@
 use Rattle.std.proofs.Common.{◌≡◌, map, take}
-use Rattle.ent_parties.specs.Party.{party_of}
+use Rattle.ent_meetings.specs.Party.{party_of}
 use Rattle.ent_warnings.proofs.offer.parties_of.Given as goal
 
 abbrev pub invariant-loop-script : goal.invariant-loop-script

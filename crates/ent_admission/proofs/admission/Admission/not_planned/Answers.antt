@@ -1,7 +1,7 @@
 use Rattle.std.proofs.Common.{◌≡◌, ◌∙◌, ℕ, All, List, true, arith, sym, subst}
 use Rattle.std.proofs.lemmas.Grind.{common_steps}
 use Rattle.ent_meetings.specs.Waiting.{named}
-use Rattle.ent_parties.specs.Meeting.{IsClosed}
+use Rattle.ent_meetings.specs.PartyMeeting.{IsClosed}
 use Rattle.ent_waiting.specs.WaitingList.{waiter_of, waits_idle}
 use Rattle.ent_admission.specs.Admission.{parties_of}
 use Rattle.ent_admission.specs.Admission.{Admission}

@@ -1,7 +1,7 @@
 use Rattle.std.proofs.Common.{◌≡◌, ◌∙◌, ℕ, None, Some, sym, ap, subst}
 use Rattle.ent_meetings.specs.Waiting.{ChangesAt}
-use Rattle.ent_parties.specs.declared.party.Party.{Party}
-use Rattle.ent_parties.specs.Party.{party_of}
+use Rattle.ent_meetings.specs.declared.party.Party.{Party}
+use Rattle.ent_meetings.specs.Party.{party_of}
 use Rattle.ent_waiting.specs.WaitingList.{WaitingList, waiter_of}
 use Rattle.ent_admission.specs.Admission.{Admission, IsFormed, IsKept}
 use Rattle.ent_admission.specs.contracts.admission.Admission.{the_view}

@@ -1,5 +1,5 @@
 use Rattle.std.proofs.Common.{sym, subst, refl}
-use Rattle.ent_commit_notes.specs.Telling.{telling_at}
+use Rattle.ent_epoch.specs.Telling.{telling_at}
 use Rattle.ent_epoch.specs.Epoch.{Epoch}
 use Rattle.ent_admission.specs.Admission.{Admission, IsKept}
 use Rattle.ent_admission.specs.Moves.{TellsCommits}

@@ -1,7 +1,7 @@
 use Rattle.std.proofs.Common.{ℕ, ap, map, List, ◌∙◌, sym}
 use Rattle.std.specs.Option.{option_and_then, option_map}
 use Rattle.ent_history.specs.Told.{joint_answer_of}
-use Rattle.ent_rules.specs.Placed.{Placed, member_at}
+use Rattle.ent_history.specs.Placed.{Placed, member_at}
 use Rattle.ent_semantics.specs.Entangled.{Valuation}
 use Rattle.ent_semantics.specs.declared.book.Member.{Member}
 use Rattle.ent_check.specs.Told.{member_in, told_seat}

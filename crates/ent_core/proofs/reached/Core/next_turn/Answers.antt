@@ -1,6 +1,6 @@
 use Rattle.std.proofs.Common.{◌≡◌, ◌∙◌, Some, ap, subst, sym}
 use Rattle.ent_headline.specs.Resolved.{resolved_forms}
-use Rattle.ent_next.specs.Turn.{turn_seen}
+use Rattle.ent_members.specs.Turn.{turn_seen}
 use Rattle.ent_protocol.specs.Lookup.{Ready, Turn, standing}
 use Rattle.ent_protocol.specs.State.{State}
 use Rattle.ent_core.specs.Begin.{IsFreeMember}

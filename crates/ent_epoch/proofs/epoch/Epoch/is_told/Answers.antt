@@ -1,5 +1,5 @@
 use Rattle.std.proofs.Common.{◌≡◌, List, length, sym, ap, subst, arith, ◌∙◌}
-use Rattle.ent_commit_notes.specs.Telling.{KeepsUp}
+use Rattle.ent_epoch.specs.Telling.{KeepsUp}
 use Rattle.ent_protocol.specs.Reached.{settled}
 use Rattle.ent_protocol.specs.State.{State}
 use Rattle.ent_semantics.specs.declared.book.Entry.{Entry}

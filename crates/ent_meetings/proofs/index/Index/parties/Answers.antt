@@ -3,7 +3,7 @@ use Rattle.std.specs.Borrow.{Bor}
 use Rattle.std.specs.Global.{Vec}
 use Rattle.std.specs.List.{cons_option}
 use Rattle.std.proofs.lemmas.List.{append-nil}
-use Rattle.ent_parties.specs.declared.party.Party.{Party}
+use Rattle.ent_meetings.specs.declared.party.Party.{Party}
 use Rattle.ent_meetings.specs.Group.{seen}
 use Rattle.ent_meetings.specs.Waiting.{named, party_at}
 use Rattle.ent_meetings.proofs.Seeing.{seen_more}

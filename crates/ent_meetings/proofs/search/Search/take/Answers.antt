@@ -3,7 +3,7 @@ use Rattle.std.specs.Global.{Vec}
 use Rattle.std.specs.List.Sorted.{IsPermutation}
 use Rattle.std.proofs.lemmas.Bool.{both_ways}
 use Rattle.std.proofs.lemmas.List.Sorted.{IsPermutation-sym}
-use Rattle.ent_parties.specs.Meeting.{IsClear}
+use Rattle.ent_meetings.specs.PartyMeeting.{IsClear}
 use Rattle.ent_meetings.specs.Meeting.{HasOneOf, IsWithin}
 use Rattle.ent_meetings.specs.Search.{AreCleared, IsStand, found_of}
 use Rattle.ent_meetings.specs.Waiting.{Waiting, named}

@@ -2,7 +2,7 @@ use Rattle.std.proofs.Common.{◌≡◌, ℕ, List, [], ◌∷◌, true, false, 
 use Rattle.std.specs.Borrow.{Bor}
 use Rattle.std.specs.List.{list_any}
 use Rattle.ent_lists.specs.Elements.{In, any_none, any_some, differ, in_second, same_number}
-use Rattle.ent_parties.specs.declared.party.Party.{Party}
+use Rattle.ent_meetings.specs.declared.party.Party.{Party}
 use Rattle.ent_meetings.specs.Group.{may_come, seen}
 use Rattle.ent_meetings.specs.Waiting.{named, party_at}
 use Rattle.ent_meetings.proofs.Growing.{grows_by, grows_not}

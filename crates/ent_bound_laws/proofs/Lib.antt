@@ -1,3 +1,0 @@
-mod Kept
-mod Meant
-mod Readable

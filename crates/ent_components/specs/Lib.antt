@@ -1,2 +1,0 @@
-pub mod Component
-pub mod Open

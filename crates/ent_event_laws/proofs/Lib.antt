@@ -1,6 +1,0 @@
-pub mod Conflicting
-pub mod Rows
-pub mod Joined
-pub mod OneJoined
-pub mod Traced
-pub mod Operations

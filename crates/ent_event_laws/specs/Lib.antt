@@ -1,3 +1,0 @@
-pub mod Beginning
-pub mod Joining
-pub mod SerialTrace

@@ -1,5 +1,0 @@
-use Rattle.ent_finished_report_laws.proofs.Opened.{opening_read}
-use Rattle.ent_finished_report_laws.proofs.law.read_openings_can_be_shown.Goals as goal
-
-pub returns : goal.returns
-returns c = opening_read c.reading_is_exact.ensures.input c.reader_is_exact.ensures.tokens

@@ -1,5 +1,0 @@
-use Rattle.ent_given.proofs.First.{of_first}
-use Rattle.ent_given.proofs.law.first_fault_tells_its_row.Goals as goal
-
-pub returns : goal.returns
-returns c = λ tables rows fault. of_first tables fault rows

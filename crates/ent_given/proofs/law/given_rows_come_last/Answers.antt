@@ -1,5 +1,0 @@
-use Rattle.ent_given.proofs.Joined.{come_last}
-use Rattle.ent_given.proofs.law.given_rows_come_last.Goals as goal
-
-pub returns : goal.returns
-returns c = come_last

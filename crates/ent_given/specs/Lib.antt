@@ -1,2 +1,0 @@
-pub mod Givable
-pub mod Given

@@ -1,9 +1,0 @@
-pub mod Parts
-pub mod Draft
-pub mod Opening
-pub mod Scripts
-pub mod Answers
-pub mod Joints
-pub mod Tables
-pub mod Stands
-pub mod Fault

@@ -1,5 +1,0 @@
-use Rattle.ent_line.proofs.Rows.{behind_found}
-use Rattle.ent_line.proofs.laws.words_stand_in_front.Goals as goal
-
-pub returns-clause-found : goal.returns-clause-found
-returns-clause-found c = behind_found

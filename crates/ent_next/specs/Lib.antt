@@ -1,4 +1,0 @@
-pub mod Asked
-pub mod Form
-pub mod Next
-pub mod Turn

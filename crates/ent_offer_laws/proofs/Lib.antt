@@ -1,4 +1,0 @@
-pub mod Statements
-pub mod Offers
-pub mod Noted
-pub mod Ranged

@@ -1,9 +1,0 @@
-pub mod Columns
-pub mod Meant
-pub mod Faults
-pub mod Legal
-pub mod Declared
-pub mod Rows
-pub mod Faultless
-pub mod Counted
-pub mod Tellable

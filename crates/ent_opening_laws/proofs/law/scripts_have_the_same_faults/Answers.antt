@@ -1,5 +1,0 @@
-use Rattle.ent_opening_laws.proofs.Faults.{same_script}
-use Rattle.ent_opening_laws.proofs.law.scripts_have_the_same_faults.Goals as goal
-
-pub returns : goal.returns
-returns c = same_script

@@ -1,2 +1,0 @@
-pub mod Bindings
-mod Offered

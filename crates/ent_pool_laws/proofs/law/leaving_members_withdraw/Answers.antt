@@ -1,6 +1,0 @@
-use Rattle.ent_protocol.specs.Rollback.{is_among}
-use Rattle.ent_pool_laws.proofs.Pooled.{pool_without}
-use Rattle.ent_pool_laws.proofs.law.leaving_members_withdraw.Goals as goal
-
-pub returns : goal.returns
-returns c = λ gone cause s. pool_without s (is_among gone)

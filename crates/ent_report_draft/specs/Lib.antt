@@ -1,9 +1,0 @@
-pub mod Judging
-pub mod View
-pub mod Reading
-pub mod Due
-pub mod Opened
-pub mod Scripts
-pub mod Bindings
-pub mod Members
-pub mod Taking

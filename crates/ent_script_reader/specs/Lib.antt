@@ -1,4 +1,0 @@
-pub mod Begins
-pub mod Filling
-pub mod Only
-pub mod Read

@@ -1,6 +1,0 @@
-use Rattle.ent_store_laws.proofs.Reached.{stands_on, reached_kept}
-use Rattle.ent_store_laws.proofs.law.memory_stands_on_the_store.Goals as goal
-
-pub returns : goal.returns
-returns g c changed tables world own reached =
-    stands_on changed tables world (reached_kept changed tables world reached) own

@@ -1,5 +1,0 @@
-use Rattle.ent_store_laws.proofs.Witness.{runs_through}
-use Rattle.ent_store_laws.proofs.law.two_processes_share_a_store.Goals as goal
-
-pub returns : goal.returns
-returns g c = runs_through

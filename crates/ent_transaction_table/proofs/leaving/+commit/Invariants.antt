@@ -1,5 +1,0 @@
-use Rattle.std.proofs.Common.{length}
-use Rattle.ent_transaction_table.proofs.leaving.+commit.Given as goal
-
-abbrev pub decreases-commit : goal.decreases-commit
-decreases-commit l = length l.members.now

@@ -1,0 +1,2 @@
+pub mod Reportable
+pub mod Right
