@@ -1,4 +1,4 @@
-//! The rules of ent_rules, checked over what a report tells.
+//! The rules of ent_history, checked over what a report tells.
 //!
 //! The rules of the journal, of joint answers and of postconditions are checked whole, and the commits are put in
 //! order. Each finding has a line. Nothing is searched for: a grounding is looked up by the place of its statement and

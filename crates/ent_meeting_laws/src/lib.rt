@@ -1,7 +1,7 @@
 //! Why texts tell who may meet: in each legal book, what a statement demands by its text may be met, by the text alone,
 //! by a statement of its joint answer.
 //!
-//! The functions here have no body: their contracts are laws of the definitions of ent_parties and ent_semantics. So a
+//! The functions here have no body: their contracts are laws of the definitions of ent_meetings and ent_semantics. So a
 //! script that stands in no closed set of scripts isn't answered whole, whatever the tables say.
 #![tactic(auto)]
 
