@@ -20,7 +20,7 @@ use ent_check::line_of;
 use ent_history::{History, Rule};
 use ent_report_laws::{found_lines_fit, told_histories_are_formed};
 use ent_report_reader::read_report;
-use ent_text::{StreamFault, read_whole};
+use ent_stream::{StreamFault, read_whole};
 use ent_value::{Refusal, Watched};
 use std::alloc::{AllocError, Global};
 use std::io::Read;

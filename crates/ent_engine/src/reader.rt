@@ -5,7 +5,7 @@ ghost use Rattle.ent_engine.specs.declared.reader.TheConstants.{MOST_BYTES};
 ghost use Rattle.ent_engine.specs.Io.{ReadingFails, IsReaderMarkedBy};
 
 use crate::fault::RunFault;
-use ent_text::StreamFault;
+use ent_stream::StreamFault;
 use ent_value::{Refusal, Watched};
 use std::alloc::Global;
 use std::io::Read;
@@ -22,7 +22,7 @@ pub fn read_whole<R: Read>(alloc: Global, reader: &mut Watched<R>) -> Result<Vec
     ensures fault { IfErr result (λ fault. ReadingFails (R.remaining reader.old.inner) fault) }
     ensures marks { IsReaderMarkedBy result reader.new }
 {
-    match ent_text::read_whole(alloc, reader, MOST_BYTES) {
+    match ent_stream::read_whole(alloc, reader, MOST_BYTES) {
         Ok(bytes) => Ok(bytes),
         Err(Refusal::Memory) => Err(RunFault::Memory),
         Err(Refusal::Fault(StreamFault::TooLong)) => Err(RunFault::TooLong),

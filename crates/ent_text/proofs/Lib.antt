@@ -37,4 +37,3 @@ pub mod Numbers
 pub mod LineTexts
 pub mod Values
 pub mod Rows
-pub mod Pieces

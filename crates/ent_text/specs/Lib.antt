@@ -21,4 +21,3 @@ pub mod FirstFault
 pub mod Front
 pub mod Pieces
 pub mod Written
-pub mod StreamReading

@@ -15,8 +15,6 @@
 //!
 //! Each call gives a thing and the bytes behind it, or says that nothing of its sort stands in front. A caller may rely
 //! on it that what is read is written just so, and that what is written so is read.
-//!
-//! A stream that is read whole, up to a limit, in any pieces in which it comes.
 #![tactic(auto)]
 
 mod bytes;
@@ -40,8 +38,6 @@ mod numeral;
 mod piece;
 mod printed;
 mod quoted;
-mod reader;
-mod stream_fault;
 mod symbol;
 mod token;
 mod tokenizer;
@@ -71,8 +67,6 @@ pub use numeral::Numeral;
 pub use piece::digits_len;
 pub use printed::value;
 pub use quoted::{quoted_at, text_of};
-pub use reader::read_whole;
-pub use stream_fault::StreamFault;
 pub use symbol::Symbol;
 pub use token::{Token, TokenKind};
 pub use tokenizer::tokens;

@@ -1,11 +1,11 @@
 //! A stream read whole.
 ghost use Rattle.std.specs.Prelude.{◌≡◌, ◌≤◌, ◌<◌, length, vec_len, IfOk, IfErr, IfSome};
-ghost use Rattle.ent_text.specs.StreamReading.{is_unreadable};
-ghost use Rattle.ent_text.specs.declared.stream_fault.StreamFault.TheVariants.{TooLong};
+ghost use Rattle.ent_stream.specs.Reading.{is_unreadable};
+ghost use Rattle.ent_stream.specs.declared.fault.StreamFault.TheVariants.{TooLong};
 ghost use Rattle.ent_value.specs.Watched.{IsUnmarked};
 ghost use Rattle.ent_value.specs.declared.refusal.Refusal.TheVariants.{Fault};
 
-use crate::stream_fault::StreamFault;
+use crate::fault::StreamFault;
 use ent_value::{Refusal, Watched};
 use std::alloc::{AllocError, Global};
 use std::io::Read;

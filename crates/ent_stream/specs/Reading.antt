@@ -1,7 +1,7 @@
 -- What reading a stream came to.
 use Rattle.std.specs.Prelude.{Bool, true, false, Result, Ok, Err}
-use Rattle.ent_text.specs.declared.stream_fault.StreamFault.{StreamFault}
-use Rattle.ent_text.specs.declared.stream_fault.StreamFault.TheVariants.{TooLong, Unreadable}
+use Rattle.ent_stream.specs.declared.fault.StreamFault.{StreamFault}
+use Rattle.ent_stream.specs.declared.fault.StreamFault.TheVariants.{TooLong, Unreadable}
 use Rattle.ent_value.specs.declared.refusal.Refusal.{Refusal}
 use Rattle.ent_value.specs.declared.refusal.Refusal.TheVariants.{Memory, Fault}
 

@@ -1,7 +1,7 @@
 use Rattle.std.proofs.Common.{arith, ◌∙◌}
 use Rattle.std.proofs.Math.Bool.{or-false}
-use Rattle.ent_text.proofs.Pieces.{nothing_read, read_more, read_to_end, read_too_much}
-use Rattle.ent_text.proofs.reader.read_pieces.Goals as goal
+use Rattle.ent_stream.proofs.Pieces.{nothing_read, read_more, read_to_end, read_too_much}
+use Rattle.ent_stream.proofs.reader.read_pieces.Goals as goal
 
 pub reading-init : goal.reading-init
 reading-init g c = record {

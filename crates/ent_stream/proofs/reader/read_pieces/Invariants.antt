@@ -1,7 +1,7 @@
 use Rattle.std.proofs.Common.{◌≤◌, ◌-◌, vec_len}
 use Rattle.std.specs.Io.KnownBytes.{Consumes}
 use Rattle.ent_value.specs.Watched.{IsUnmarked}
-use Rattle.ent_text.proofs.reader.read_pieces.Given as goal
+use Rattle.ent_stream.proofs.reader.read_pieces.Given as goal
 
 -- what was read is a beginning of what the reader had, and no read failed
 abbrev pub invariant-reading : goal.invariant-reading
