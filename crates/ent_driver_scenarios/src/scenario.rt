@@ -1,68 +1,68 @@
-//! A scenario: an input, a line `== calls`, and a call a line.
-use crate::call::{Call, read_call};
-use anyhow::{Context, Result};
-use ent_driver::{Driver, DriverFault, Move, reply_text};
-use ent_engine::{ReportVersion, RunFault};
+//! A scenario: an input, whose scripts are the first who wait, a line `== calls`, and a call a line. Behind the first
+//! line, which opens the room, come rows that are given. Behind a line that puts a script come its bound values, each a
+//! line, and its text, up to the line that ends it.
+use crate::call::{Open, read_open};
+use crate::rows::take_row;
+use crate::stage::Stage;
+use anyhow::{Context, Result, bail};
+use ent_prepare::GivenRow;
+use ent_room::{NotOpened, Room};
+use ent_value::Refusal;
+use ent_waiting::Ticket;
 use std::alloc::Global;
 
 /// The replies to the calls of a scenario, each a line or more.
 pub(crate) fn replies(alloc: Global, text: &str) -> Result<String> {
     let (input, calls) = text.split_once("== calls\n").context("no line == calls")?;
-    let mut out = Vec::new(alloc);
-    match Driver::open(alloc, input.as_bytes()) {
-        Ok(driver) => play(alloc, driver, calls, &mut out)?,
-        Err(fault) => put_fault(alloc, &mut out, DriverFault::Text(fault))?,
-    }
-    String::from_utf8(out).context("the replies aren't UTF-8")
+    let (first, calls) = calls.split_once("\n").context("no call")?;
+    let open = read_open(first)?;
+    opened(alloc, input, open, calls)
 }
 
-fn play(alloc: Global, opened: Driver, calls: &str, out: &mut Vec<u8>) -> Result<()> {
-    let mut driver = opened;
+/// Opens a room over an input and the rows that stand first among the calls, and makes the others; or why it isn't
+/// opened.
+fn opened(alloc: Global, input: &str, open: Open, calls: &str) -> Result<String> {
+    let mut rows: Vec<GivenRow> = Vec::new(alloc);
+    let mut taken = 0usize;
     for line in calls.lines() {
-        let call = read_call(line)?;
-        match reply_to(alloc, &mut driver, call) {
-            Ok(text) => out.extend_from_slice(text.as_slice())?,
-            Err(fault) => put_fault(alloc, out, fault)?,
+        if !take_row(alloc, &mut rows, line)? {
+            break;
         }
+        taken = taken.saturating_add(1);
     }
-    Ok(())
-}
-
-/// Makes a call. Its reply, with its end.
-fn reply_to(alloc: Global, driver: &mut Driver, call: Call<'_>) -> Result<Vec<u8>, DriverFault> {
-    match call {
-        Call::Submit(script) => {
-            let tx = driver.submit(alloc, script.as_bytes())?;
-            let text = format!(in alloc; "number {tx}\n")?;
-            Ok(text.into_bytes())
-        }
-        Call::Run => {
-            driver.run(alloc)?;
-            Ok(Vec::from_slice(alloc, b"ran\n")?)
-        }
-        Call::Make(asked) => made(alloc, driver, asked),
-        Call::Why(tx) => driver.why(alloc, tx),
-        Call::Answers(tx) => driver.answers(alloc, tx),
-        Call::Table(name) => driver.table(alloc, name.as_bytes()),
-        Call::Close => {
-            driver.close()?;
-            driver.report(alloc, ReportVersion::One)
-        }
+    let (text, given, next) = (input.as_bytes(), rows.as_slice(), Ticket::new(open.next));
+    match Room::read(
+        alloc,
+        text,
+        given,
+        open.epoch,
+        next,
+        open.next_group,
+        open.limits,
+    ) {
+        Ok(room) => played(alloc, room, calls, taken),
+        Err(Refusal::Memory) => bail!("no memory"),
+        Err(Refusal::Fault(fault)) => not_opened(alloc, fault),
     }
 }
 
-fn made(alloc: Global, driver: &mut Driver, asked: Move) -> Result<Vec<u8>, DriverFault> {
-    let reply = driver.make(alloc, asked)?;
-    Ok(reply_text(alloc, &reply)?)
+fn not_opened(alloc: Global, fault: NotOpened) -> Result<String> {
+    Ok(match fault {
+        NotOpened::Full => format!(in alloc; "full\n")?,
+        NotOpened::Faulty(fault) => format!(in alloc; "{fault}\n")?,
+        NotOpened::TooManyRows => format!(in alloc; "E407\n")?,
+        NotOpened::NotARow(fault) => {
+            format!(in alloc; "row {}: E{}\n", fault.place(), fault.code())?
+        }
+    })
 }
 
-/// A fault by its number.
-fn put_fault(alloc: Global, out: &mut Vec<u8>, fault: DriverFault) -> Result<()> {
-    let line = match fault {
-        DriverFault::Vacant => format!(in alloc; "vacant\n")?,
-        DriverFault::Text(RunFault::Memory) => format!(in alloc; "E900\n")?,
-        _ => format!(in alloc; "E{}\n", fault.code())?,
-    };
-    out.extend_from_slice(line.as_bytes())?;
-    Ok(())
+/// Makes the calls behind so many lines.
+fn played(alloc: Global, room: Room, calls: &str, taken: usize) -> Result<String> {
+    let mut stage = Stage::new(alloc, room);
+    stage.say("opened\n")?;
+    for line in calls.lines().skip(taken) {
+        stage.take(line)?;
+    }
+    Ok(stage.into_replies())
 }
