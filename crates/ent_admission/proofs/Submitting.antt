@@ -7,7 +7,7 @@ use Rattle.ent_form.specs.Catalogue.{schemas_of}
 use Rattle.ent_form.specs.Form.{script_in}
 use Rattle.ent_form.specs.declared.fault.FormFault.{FormFault}
 use Rattle.ent_form.specs.declared.script.Plain.{Plain}
-use Rattle.ent_headline.specs.Resolved.{resolved_forms}
+use Rattle.ent_epoch.specs.Passed.{resolved_forms}
 use Rattle.ent_protocol.specs.Event.{Faulty, Full, Submit}
 use Rattle.ent_protocol.specs.Run.{SubmitsForm, SubmitsUnless}
 use Rattle.ent_protocol.specs.State.{State}

@@ -13,7 +13,7 @@ use Rattle.ent_semantics.specs.Serial.{Runs as SerialRuns, Turn, numbered, scrip
 use Rattle.ent_semantics.specs.declared.book.Entry.{Entry}
 use Rattle.ent_form.specs.OpeningFault.{opening_fault}
 use Rattle.ent_form.specs.declared.fault.FormFault.{FormFault}
-use Rattle.ent_headline.specs.Resolved.{resolved_forms}
+use Rattle.ent_epoch.specs.Passed.{resolved_forms}
 use Rattle.ent_serializability.specs.Commits.{GoesOnBy, committed_by}
 use Rattle.ent_epoch.specs.Telling.{HaveTickets, Telling, TellsRest, telling_at}
 use Rattle.ent_protocol.specs.Event.{Event, Recall, Recalled, Reply, StartRun, Submit, Submitted}

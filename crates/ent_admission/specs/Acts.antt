@@ -2,7 +2,7 @@
 use Rattle.std.specs.Prelude.{◌≡◌, ◌⊎◌, ◌+◌, ◌++◌, ℕ, true, List}
 use Rattle.ent_epoch.specs.Epoch.{begun, carried_over}
 use Rattle.ent_feed.specs.declared.group.Group.{Group}
-use Rattle.ent_renewal.specs.Renewal.{IsRenewed}
+use Rattle.ent_epoch.specs.Passed.{IsRenewed}
 use Rattle.ent_semantics.specs.Database.{Name}
 use Rattle.ent_waiting.specs.Waiter.{is_idle}
 use Rattle.ent_waiting.specs.WaitingList.{Onward, moved}

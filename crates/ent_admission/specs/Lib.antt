@@ -2,3 +2,4 @@ pub mod Admission
 pub mod Moves
 pub mod Groups
 pub mod Acts
+pub mod Passed

@@ -4,10 +4,9 @@ use Rattle.std.specs.Prelude.{List, length, if◌then◌else◌}
 use Rattle.std.specs.BTreeMap.{is_at}
 use Rattle.std.specs.BTreeSet.{contains}
 use Rattle.std.specs.Ordering.{nat_cmp}
-use Rattle.ent_headline.specs.Resolved.{resolved_forms}
+use Rattle.ent_epoch.specs.Passed.{LeadsOn, resolved_forms}
 use Rattle.ent_protocol.specs.Lookup.{standing}
 use Rattle.ent_protocol.specs.Reached.{CanClose}
-use Rattle.ent_sched.specs.Onward.{LeadsOn}
 use Rattle.ent_semantics.specs.declared.book.Fate.{Fate}
 use Rattle.ent_semantics.specs.declared.book.Fate.TheVariants as fates
 use Rattle.ent_epoch.specs.Epoch.{Epoch, Publishes, Takes, fate_at}

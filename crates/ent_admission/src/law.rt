@@ -8,9 +8,9 @@ ghost use Rattle.ent_epoch.specs.Epoch.{begun};
 ghost use Rattle.ent_form.specs.OpeningFault.{opening_fault};
 ghost use Rattle.ent_protocol.specs.Reached.{book_of};
 
+use ent_epoch::resolved_runs_are_legal;
 use ent_feed::{groups_give_the_journal, groups_give_the_settled_tables};
 use ent_form::FormFault;
-use ent_headline::resolved_runs_are_legal;
 use ent_protocol_laws::steps_go_on;
 use ent_serializability::journals_grow_by_commits;
 

@@ -20,5 +20,6 @@ mod waiters;
 
 pub use admission::Admission;
 pub use batch::Again;
+pub use ent_epoch::{FinishedBook, NotTurned};
 pub use law::{acts_go_on, feeds_tell_all_at_rest, feeds_tell_what_committed};
 pub use planning::NotPlanned;

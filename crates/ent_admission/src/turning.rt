@@ -6,14 +6,13 @@ ghost use Rattle.ent_book.specs.Tables.{book_seen};
 ghost use Rattle.ent_epoch.specs.Epoch.{begun, carried_over};
 ghost use Rattle.ent_epoch.specs.declared.turn.NotTurned.TheVariants.{Busy, NoNumber, TooManyRows};
 ghost use Rattle.ent_protocol.specs.Reached.{book_of};
-ghost use Rattle.ent_renewal.specs.Renewal.{IsRenewed, rows_together};
+ghost use Rattle.ent_epoch.specs.Passed.{IsRenewed, rows_together};
 ghost use Rattle.ent_semantics.specs.Book.{IsLegal};
 ghost use Rattle.ent_tree.specs.declared.limits.TheConstants.{MOST_OPENING_ROWS};
 ghost use Rattle.ent_value.specs.declared.refusal.Refusal.TheVariants.{Fault};
 
 use crate::admission::Admission;
-use ent_epoch::NotTurned;
-use ent_renewal::FinishedBook;
+use ent_epoch::{FinishedBook, NotTurned};
 use ent_value::{Name, Refusal};
 
 impl Admission {

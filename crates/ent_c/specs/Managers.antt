@@ -3,8 +3,7 @@
 use Rattle.std.specs.Prelude.{◌≡◌, ◌⊎◌, ℕ, ℤ, pos, List}
 use Rattle.std.specs.declared.option.Option.{Option}
 use Rattle.std.specs.declared.option.Option.TheVariants.{None, Some}
-use Rattle.ent_core.specs.Standing.{standing_seen}
-use Rattle.ent_core.specs.declared.standing.Standing.{Standing}
+use Rattle.ent_driver.specs.Passed.{Standing, standing_seen}
 use Rattle.ent_engine.specs.Fault.{status as fault_status}
 use Rattle.ent_engine.specs.Reading.{IsRefused}
 use Rattle.ent_engine.specs.declared.fault.RunFault.{RunFault}

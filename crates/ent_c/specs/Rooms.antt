@@ -3,7 +3,7 @@
 use Rattle.std.specs.Prelude.{◌≡◌, ◌⊎◌, ℕ, ℤ, pos, List, [], Option, Some, None, true, false}
 use Rattle.std.specs.BTreeSet.{contains}
 use Rattle.std.specs.Ordering.{nat_cmp}
-use Rattle.ent_admission.specs.Admission.{IsAtRest}
+use Rattle.ent_room.specs.Passed.{IsAtRest}
 use Rattle.ent_bound.specs.declared.variable.BoundVariable.{BoundVariable}
 use Rattle.ent_prepare.specs.declared.row.GivenRow.{GivenRow}
 use Rattle.ent_prepare.specs.Prepared.{IsFirstFault}

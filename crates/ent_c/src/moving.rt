@@ -1,6 +1,6 @@
 //! One move of a manager at a time, and why a transaction doesn't move.
 ghost use Rattle.std.specs.Prelude.{◌≡◌, [], MatchOption};
-ghost use Rattle.ent_core.specs.Reply.{reply_seen};
+ghost use Rattle.ent_driver.specs.Passed.{reply_seen};
 ghost use Rattle.ent_driver.specs.Why.{Explains, IsUnexplained};
 ghost use Rattle.ent_c.specs.Managers.{HandsOutOr, behind};
 ghost use Rattle.ent_c.specs.Moving.{IsNoMove, MakesIn, move_numbered, number_of};
@@ -9,8 +9,7 @@ use crate::handle::Handle;
 use crate::manager::hand_out;
 use crate::told::Told;
 use crate::{DONE, MISUSED};
-use ent_core::Reply;
-use ent_driver::{DriverFault, Move};
+use ent_driver::{DriverFault, Move, Reply};
 use std::alloc::Global;
 
 /// The move of this number, and of this transaction where it is of one.

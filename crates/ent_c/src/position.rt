@@ -1,9 +1,9 @@
 //! Where a transaction stands, in numbers.
 ghost use Rattle.std.specs.Prelude.{◌≡◌};
-ghost use Rattle.ent_core.specs.Standing.{standing_seen};
+ghost use Rattle.ent_driver.specs.Passed.{standing_seen};
 ghost use Rattle.ent_c.specs.Position.{fate_position, no_position, position_of};
 
-use ent_core::Standing;
+use ent_driver::Standing;
 use ent_semantics::{Failure, Fate};
 
 /// Where a transaction stands. C calls it `struct entangle_position`, and names the kinds.

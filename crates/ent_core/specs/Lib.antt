@@ -14,3 +14,4 @@ pub mod Settled
 pub mod Standing
 pub mod Store
 pub mod TakeOut
+pub mod Passed

@@ -3,7 +3,7 @@ use Rattle.std.proofs.Common.{◌≡◌, inl, inr, ℕ, Bool, true, false, List,
 use Rattle.std.proofs.Common.{Option, Some, None, Result, Ok, Err, IfOk, OnErr}
 use Rattle.ent_core.specs.Pick.{NoneCanBePicked}
 use Rattle.ent_form.specs.declared.fault.FormFault.{FormFault}
-use Rattle.ent_headline.specs.Resolved.{resolved_forms}
+use Rattle.ent_core.specs.Passed.{resolved_forms}
 use Rattle.ent_lists.specs.Elements.{clash}
 use Rattle.ent_protocol.specs.Begin.{Begins}
 use Rattle.ent_protocol.specs.Event.{Event, Reply}

@@ -5,7 +5,7 @@ use Rattle.ent_form.specs.declared.fault.FormFault.{FormFault}
 use Rattle.ent_protocol.specs.Event.{Event, Reply, Submit, Submitted}
 use Rattle.ent_protocol.specs.State.{State}
 use Rattle.ent_protocol.specs.Step.{Step}
-use Rattle.ent_headline.specs.Resolved.{resolved_forms}
+use Rattle.ent_core.specs.Passed.{resolved_forms}
 use Rattle.ent_desk.specs.Advance.{Advances, Makes}
 use Rattle.ent_desk.specs.Kept.{IsKeptDesk}
 use Rattle.ent_desk.specs.Seen.{DeskState, GetsReceipts, LeadsOn, SessionState}

@@ -26,7 +26,7 @@ use Rattle.ent_protocol_laws.specs.ByNumber.{StandByNumber}
 use Rattle.ent_protocol_laws.specs.Numbered.{Apart, from_by_number, keys_apart, one_passes, to_by_number}
 use Rattle.ent_protocol_laws.specs.Standing.{StandOnce, standing as standing_all}
 use Rattle.ent_form.specs.declared.fault.FormFault.{FormFault}
-use Rattle.ent_headline.specs.Resolved.{resolved_forms}
+use Rattle.ent_core.specs.Passed.{resolved_forms}
 use Rattle.ent_protocol_laws.proofs.Found.{found}
 use Rattle.ent_protocol_laws.proofs.Left.{fated_tx, tx_of}
 use Rattle.ent_termination.proofs.Numbers.{members_apart}

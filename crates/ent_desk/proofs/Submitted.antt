@@ -17,7 +17,7 @@ use Rattle.ent_protocol.specs.Run.{SubmitsForm, SubmitsUnless}
 use Rattle.ent_protocol.specs.State.{State}
 use Rattle.ent_protocol.specs.State.{Submitted as OneSubmitted}
 use Rattle.ent_protocol.specs.Step.{Step}
-use Rattle.ent_headline.specs.Resolved.{resolved_forms}
+use Rattle.ent_core.specs.Passed.{resolved_forms}
 use Rattle.ent_core.specs.Play.{AreSubmitted, input_fault, scripts_fault}
 use Rattle.ent_core.proofs.Playing.{fault_behind}
 

@@ -12,7 +12,7 @@ use Rattle.ent_semantics.specs.declared.book.Fate.TheVariants.{Committed}
 use Rattle.ent_semantics.specs.declared.book.Fated.{Fated}
 use Rattle.ent_protocol.specs.Reached.{IsFinishedBook, IsGathered, IsGatheredAt}
 use Rattle.ent_termination.specs.Fates.{HaveFates}
-use Rattle.ent_headline.specs.Resolved.{resolved_forms}
+use Rattle.ent_core.specs.Passed.{resolved_forms}
 use Rattle.ent_desk.specs.declared.ticket.Receipt.{Receipt}
 use Rattle.ent_desk.specs.declared.ticket.Ticket.{Ticket}
 use Rattle.ent_desk.specs.Opened.{first_over, tickets_from}

@@ -2,7 +2,7 @@
 use Rattle.std.specs.Prelude.{◌≡◌, ℕ, length}
 use Rattle.ent_protocol.specs.Reached.{IsGatheredAt}
 use Rattle.ent_protocol.specs.State.{State}
-use Rattle.ent_headline.specs.Resolved.{resolved_forms}
+use Rattle.ent_core.specs.Passed.{resolved_forms}
 
 -- The core is reached from the state that so many submits made of its opening's own, and as many tickets and receipts
 -- were counted as it has scripts and journal entries.

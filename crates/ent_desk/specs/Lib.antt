@@ -7,3 +7,4 @@ pub mod Advance
 pub mod Closed
 pub mod Opened
 pub mod Accounted
+pub mod Passed

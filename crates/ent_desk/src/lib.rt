@@ -21,6 +21,7 @@ mod ticket;
 pub use advance::Advance;
 pub use closing::{CloseFault, NotClosed};
 pub use desk::{Desk, NotSubmitted, SubmitFault};
+pub use ent_core::{Core, PlayFault};
 pub use naming::{Blanks, Both, Naming, Seats};
 pub use opening::{core_over, open};
 pub use session::{Session, Stopped};

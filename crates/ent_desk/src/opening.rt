@@ -4,7 +4,7 @@ ghost use Rattle.ent_core.specs.Play.{AreSubmitted, input_fault};
 ghost use Rattle.ent_desk.specs.Opened.{first_over, first_session, other_session, tickets_from};
 ghost use Rattle.ent_form.specs.declared.fault.FormFault.{FormFault};
 ghost use Rattle.ent_protocol.specs.Reached.{IsGatheredState};
-ghost use Rattle.ent_headline.specs.Resolved.{resolved_forms};
+ghost use Rattle.ent_core.specs.Passed.{resolved_forms};
 ghost use Rattle.ent_value.specs.declared.refusal.Refusal.TheVariants.{Fault};
 
 use crate::desk::Desk;

@@ -11,7 +11,7 @@ use Rattle.ent_semantics.specs.declared.book.Book.{Book}
 use Rattle.ent_protocol.specs.Lookup.{standing}
 use Rattle.ent_protocol.specs.Reached.{CanClose, book_of}
 use Rattle.ent_protocol.specs.State.{State}
-use Rattle.ent_headline.specs.Resolved.{resolved_forms}
+use Rattle.ent_sched.specs.Passed.{resolved_forms}
 use Rattle.ent_sched.specs.Onward.{LeadsOn}
 use Rattle.ent_tree.specs.declared.declaration.Opening.{Opening}
 use Rattle.ent_tree.specs.declared.script.Input.{Input}

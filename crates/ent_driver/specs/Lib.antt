@@ -6,3 +6,4 @@ pub mod Drives
 pub mod Renewal
 pub mod Moves
 pub mod Why
+pub mod Passed

@@ -2,7 +2,7 @@
 use Rattle.std.specs.Prelude.{◌≡◌, ◌⊎◌, []}
 use Rattle.ent_core.specs.Event.{MayWantMemory}
 use Rattle.ent_form.specs.declared.fault.FormFault.{FormFault}
-use Rattle.ent_headline.specs.Resolved.{resolved_forms}
+use Rattle.ent_sched.specs.Passed.{resolved_forms}
 use Rattle.ent_protocol.specs.Event.{Event, Reply, Lent, Recall, Recalled}
 use Rattle.ent_protocol.specs.Event as events
 use Rattle.ent_protocol.specs.Job.{Done, Job, IsEvaluated}

@@ -5,7 +5,7 @@ use Rattle.ent_protocol.specs.Event.{Recall, Recalled}
 use Rattle.ent_protocol.specs.Reached.{CanClose}
 use Rattle.ent_protocol.specs.State.{State}
 use Rattle.ent_protocol.specs.Step.{Step}
-use Rattle.ent_headline.specs.Resolved.{resolved_forms}
+use Rattle.ent_sched.specs.Passed.{resolved_forms}
 use Rattle.ent_sched.specs.Bounds.{events_of_run}
 use Rattle.ent_sched.specs.Onward.{LeadsOn}
 

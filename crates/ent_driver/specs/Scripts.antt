@@ -8,7 +8,7 @@ use Rattle.ent_sql.specs.Reading.{script_reading}
 use Rattle.ent_protocol.specs.Event.{Submit, Submitted, Full as IsFull, Faulty}
 use Rattle.ent_protocol.specs.State.{State}
 use Rattle.ent_protocol.specs.Step.{Step}
-use Rattle.ent_headline.specs.Resolved.{resolved_forms}
+use Rattle.ent_sched.specs.Passed.{resolved_forms}
 use Rattle.ent_engine.specs.Reading.{IsText, IsRefused}
 use Rattle.ent_engine.specs.declared.fault.RunFault.{RunFault}
 use Rattle.ent_engine.specs.declared.fault.RunFault.TheVariants.{NotUtf8, TooLong, Sql, Form, Check, Differs}

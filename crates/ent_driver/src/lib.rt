@@ -20,6 +20,7 @@ mod text;
 mod why;
 
 pub use driver::Driver;
+pub use ent_core::{Reply, Standing};
 pub use ent_renewal::FinishedBook;
 pub use fault::DriverFault;
 pub use handle_law::{cores_may_pass, drivers_may_pass};

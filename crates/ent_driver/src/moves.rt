@@ -3,7 +3,7 @@ ghost use Rattle.std.specs.Prelude.{◌≡◌, [], ℕ, IfErr, IfOk, OnErr};
 ghost use Rattle.ent_core.specs.Reply.{reply_seen};
 ghost use Rattle.ent_driver.specs.Moves.{Goes, IsNotMade, Makes, Moves, Sticks, StopsMove, TakesResult, event_of};
 ghost use Rattle.ent_driver.specs.declared.fault.DriverFault.TheVariants.{Vacant};
-ghost use Rattle.ent_headline.specs.Resolved.{resolved_forms};
+ghost use Rattle.ent_sched.specs.Passed.{resolved_forms};
 ghost use Rattle.ent_protocol.specs.Event.{Begin, Pick};
 ghost use Rattle.ent_protocol.specs.Job.{IsEvaluated};
 ghost use Rattle.ent_sched.specs.Progress.{IsJustLent};

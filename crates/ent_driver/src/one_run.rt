@@ -1,7 +1,7 @@
 //! One run of a core that is handed in.
 ghost use Rattle.std.specs.Prelude.{IfErr, IfOk, ℕ};
 ghost use Rattle.ent_driver.specs.OneRun.{RunsOnce};
-ghost use Rattle.ent_headline.specs.Resolved.{resolved_forms};
+ghost use Rattle.ent_sched.specs.Passed.{resolved_forms};
 ghost use Rattle.ent_sched.specs.Onward.{LeadsOn};
 
 use ent_form::FormFault;

@@ -11,7 +11,7 @@ use Rattle.ent_protocol.specs.Run.{Forms}
 use Rattle.ent_protocol.specs.State.{State}
 use Rattle.ent_protocol.specs.State.{Submitted as OneSubmitted}
 use Rattle.ent_termination.specs.Fates.{HaveFates}
-use Rattle.ent_headline.specs.Resolved.{resolved_forms}
+use Rattle.ent_sched.specs.Passed.{resolved_forms}
 use Rattle.ent_sched.specs.Onward.{LeadsOn}
 use Rattle.ent_sched.specs.RunOut.{IsRunOut}
 use Rattle.ent_sched.specs.Play.{AreSubmitted}

@@ -3,7 +3,7 @@ use Rattle.std.specs.Prelude.{ℕ, List}
 use Rattle.ent_tree.specs.declared.script.Input.{Input}
 use Rattle.ent_semantics.specs.declared.book.Book.{Book}
 use Rattle.ent_semantics.specs.Database.{Database}
-use Rattle.ent_desk.specs.Closed.{IsServed}
+use Rattle.ent_serve.specs.Passed.{IsServed}
 use Rattle.ent_book.specs.Report.{report_text}
 use Rattle.ent_book.specs.Report2.{report_2_text}
 use Rattle.ent_engine.specs.declared.options.ReportVersion.{ReportVersion}

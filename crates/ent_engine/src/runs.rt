@@ -4,16 +4,16 @@ ghost use Rattle.ent_book.specs.Tables.{book_seen};
 ghost use Rattle.ent_sched.specs.Play.{AreSubmitted, input_fault};
 ghost use Rattle.ent_termination.specs.Fates.{HaveFates};
 ghost use Rattle.ent_engine.specs.Parse.{IsRefusedForForm};
-ghost use Rattle.ent_headline.specs.Resolved.{resolved_forms};
+ghost use Rattle.ent_sched.specs.Passed.{resolved_forms};
 ghost use Rattle.ent_sched.specs.RunOut.{IsRunOut};
 ghost use Rattle.ent_semantics.specs.Book.{IsLegal};
 
 use crate::fault::RunFault;
 use ent_book::NamedTable;
-use ent_desk::core_over;
 use ent_form::FormFault;
 use ent_sched::{Core, Counted, Watcher, run_all_watched};
 use ent_semantics::Book;
+use ent_serve::core_over;
 use ent_termination::events_lead_on;
 use ent_tree::Input;
 use ent_value::{Refusal, Sequence};

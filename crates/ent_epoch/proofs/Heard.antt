@@ -1,7 +1,7 @@
 -- Events that a telling needn't hear of.
 use Rattle.std.proofs.Common.{◌≡◌, Bool, true, false, List, [], ◌∷◌, ap}
 use Rattle.ent_form.specs.declared.fault.FormFault.{FormFault}
-use Rattle.ent_headline.specs.Resolved.{resolved_forms}
+use Rattle.ent_sched.specs.Passed.{resolved_forms}
 use Rattle.ent_serializability.specs.Commits.{is_commit}
 use Rattle.ent_protocol.specs.Event.{Recall, Reply, StartRun}
 use Rattle.ent_protocol.specs.Run.{StartsWith}

@@ -11,7 +11,7 @@ use Rattle.ent_form.specs.OpeningFault.{opening_fault}
 use Rattle.ent_form.specs.declared.fault.FormFault.{FormFault}
 use Rattle.ent_form_laws.proofs.NamesApart.{AreApart, names_apart}
 use Rattle.ent_form_laws.proofs.Opened.{declared_once}
-use Rattle.ent_headline.specs.Resolved.{resolved_forms}
+use Rattle.ent_sched.specs.Passed.{resolved_forms}
 use Rattle.ent_semantics.specs.Database.{Name, same_name}
 use Rattle.ent_semantics.specs.Form.{Tables}
 use Rattle.ent_semantics.specs.declared.book.Entry.{Entry}

@@ -8,7 +8,7 @@ use Rattle.std.proofs.lemmas.Grind.{flat_map-append}
 use Rattle.ent_tree.specs.declared.declaration.Opening.{Opening}
 use Rattle.ent_tree.specs.declared.script.Script.{Script}
 use Rattle.ent_form.specs.declared.fault.FormFault.{FormFault}
-use Rattle.ent_headline.specs.Resolved.{resolved_forms}
+use Rattle.ent_sched.specs.Passed.{resolved_forms}
 use Rattle.ent_semantics.specs.Database.{Database}
 use Rattle.ent_semantics.specs.Form.{Tables}
 use Rattle.ent_semantics.specs.Serial.{numbered}

@@ -10,7 +10,7 @@ use Rattle.std.proofs.Math.ListN.{drop_of_length-le}
 use Rattle.std.proofs.lemmas.List.Sums.{sum_by-cons}
 use Rattle.ent_form.specs.declared.fault.FormFault.{FormFault}
 use Rattle.ent_group.specs.declared.members.TheConstants.{MOST_MEMBERS}
-use Rattle.ent_headline.specs.Resolved.{resolved_forms}
+use Rattle.ent_sched.specs.Passed.{resolved_forms}
 use Rattle.ent_protocol.specs.Event.{Reply, StartRun, Submit, Submitted}
 use Rattle.ent_protocol.specs.Reached.{CanClose}
 use Rattle.ent_protocol.specs.Run.{StartsWith, SubmitsForm, SubmitsUnless, starting, submitting}

@@ -4,3 +4,4 @@ pub mod Telling
 pub mod OneRun
 pub mod Epoch
 pub mod Told
+pub mod Passed

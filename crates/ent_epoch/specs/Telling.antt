@@ -1,7 +1,7 @@
 -- How far a core is told of, and the groups that tell the rest.
 use Rattle.std.specs.Prelude.{◌≡◌, ◌≤◌, ℕ, true, List, [], All, Some, length, if◌then◌else◌}
 use Rattle.std.specs.List.{AllByRecursion, IsDistinct}
-use Rattle.ent_headline.specs.Resolved.{resolved_forms}
+use Rattle.ent_sched.specs.Passed.{resolved_forms}
 use Rattle.ent_semantics.specs.Database.{same_name}
 use Rattle.ent_semantics.specs.Form.{Tables}
 use Rattle.ent_semantics.specs.Serial.{numbered}

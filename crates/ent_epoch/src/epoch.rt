@@ -3,12 +3,11 @@ ghost use Rattle.std.specs.Prelude.{◌≡◌, ◌↔◌, ◌+◌, ◌<◌, ◌�
 ghost use Rattle.std.specs.Prelude.{false, length};
 ghost use Rattle.std.specs.Option.{option_copied};
 ghost use Rattle.ent_book.specs.Tables.{book_seen};
-ghost use Rattle.ent_core.specs.declared.closing.NotDone.{NotDone};
+ghost use Rattle.ent_sched.specs.Passed.{NotDone, resolved_forms};
 ghost use Rattle.ent_value.specs.Refusal.{Gives};
 ghost use Rattle.ent_value.specs.declared.refusal.Refusal.TheVariants.{Fault};
 ghost use Rattle.ent_form.specs.OpeningFault.{opening_fault, unless};
 ghost use Rattle.ent_group.specs.declared.members.TheConstants.{MOST_MEMBERS};
-ghost use Rattle.ent_headline.specs.Resolved.{resolved_forms};
 ghost use Rattle.ent_form.specs.declared.fault.FormFault.{FormFault as FormFaultSeen};
 ghost use Rattle.ent_protocol.specs.Event.{Full as IsFull, Faulty as IsFaulty, Submit, Submitted};
 ghost use Rattle.ent_protocol.specs.Lookup.{standing};
@@ -31,12 +30,11 @@ use crate::one_run::run_to_end;
 use crate::script::for_one_run;
 use crate::turn::{NotTurned, can_close, exchange, next_core};
 use crate::{Telling, entries_have_tickets, tellings_keep_up, told_tables_are_settled};
-use ent_core::{Core, NotDone, Reply, Standing};
 use ent_feed::{Feed, NoNumber};
 use ent_form::FormFault;
 use ent_group::Tx;
-use ent_headline::resolved_runs_are_legal;
 use ent_renewal::{FinishedBook, TooManyRows};
+use ent_sched::{Core, NotDone, Reply, Standing, resolved_runs_are_legal};
 use ent_semantics::{Fate, element};
 use ent_tree::{Opening, Script};
 use ent_value::{Name, Refusal};
@@ -449,7 +447,7 @@ impl Epoch {
         open.is_reached();
         match open.close() {
             Ok(book) => Ok(FinishedBook::new(book)),
-            Err(ent_core::NotClosed { core, refusal }) => Err(NotClosed {
+            Err(ent_sched::NotClosed { core, refusal }) => Err(NotClosed {
                 epoch: Epoch {
                     number,
                     core: Some(core),

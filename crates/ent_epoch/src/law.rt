@@ -3,7 +3,7 @@
 ghost use Rattle.std.specs.Prelude.{◌≡◌, ◌++◌, ◌+◌, ◌<◌, List, ℕ, [], false, length};
 ghost use Rattle.std.specs.List.{AllByRecursion};
 ghost use Rattle.ent_form.specs.declared.fault.FormFault.{FormFault as Fault};
-ghost use Rattle.ent_headline.specs.Resolved.{resolved_forms};
+ghost use Rattle.ent_sched.specs.Passed.{resolved_forms};
 ghost use Rattle.ent_protocol.specs.Event.{Event, Recall, Reply, StartRun};
 ghost use Rattle.ent_protocol.specs.Reached.{CanClose, IsReached};
 ghost use Rattle.ent_protocol.specs.State.{State};

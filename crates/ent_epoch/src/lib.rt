@@ -23,6 +23,8 @@ mod script;
 mod telling;
 mod turn;
 
+pub use ent_renewal::FinishedBook;
+pub use ent_sched::resolved_runs_are_legal;
 pub use epoch::{Epoch, NotClosed, NotSubmitted};
 pub use law::groups_tell_of_epochs;
 pub use notes_law::{

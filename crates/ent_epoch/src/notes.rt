@@ -1,12 +1,12 @@
 //! Notes of commits.
 ghost use Rattle.std.specs.Prelude.{◌≡◌, ◌∷◌, ◌++◌, ◌+◌, ◌<◌, ◌^◌, [], IfOk, OnErr, OnOk, length};
-ghost use Rattle.ent_core.specs.Reply.{numbered_from};
+ghost use Rattle.ent_sched.specs.Passed.{numbered_from};
 ghost use Rattle.ent_protocol.specs.Reached.{settled};
 ghost use Rattle.ent_feed.specs.Tables.{rows_in};
 
-use ent_core::Core;
 use ent_group::{MOST_MEMBERS, Members};
 use ent_rel::Table;
+use ent_sched::Core;
 use std::alloc::{AllocError, Global};
 use std::marker::Model;
 use std::sync::Arc;
@@ -33,7 +33,7 @@ impl Model for Note {
     ghost use Rattle.std.specs.Coded.{codes};
     ghost use Rattle.ent_rel.specs.Relation.{coded_rows};
     ghost use Rattle.std.specs.Prelude.{◌+◌, ◌<◌, ◌^◌, length};
-    ghost use Rattle.ent_core.specs.Reply.{numbered_from};
+    ghost use Rattle.ent_sched.specs.Passed.{numbered_from};
     ghost use Rattle.ent_epoch.specs.Notes.{Note};
     ghost use Rattle.ent_feed.specs.Tables.{rows_in};
 

@@ -2,7 +2,7 @@
 ghost use Rattle.std.specs.Prelude.{◌≡◌, ◌∷◌, ◌++◌, ℕ, List, None, [], false, length, true};
 ghost use Rattle.ent_form.specs.OpeningFault.{opening_fault};
 ghost use Rattle.ent_form.specs.declared.fault.FormFault.{FormFault as Fault};
-ghost use Rattle.ent_headline.specs.Resolved.{resolved_forms};
+ghost use Rattle.ent_sched.specs.Passed.{resolved_forms};
 ghost use Rattle.ent_protocol.specs.Event.{Event, Reply};
 ghost use Rattle.ent_protocol.specs.Reached.{IsReached, settled};
 ghost use Rattle.ent_protocol.specs.Run.{Forms};
@@ -18,9 +18,9 @@ ghost use Rattle.ent_epoch.specs.Publishing.{AreGroupsOf, IsGroupOfRest};
 ghost use Rattle.ent_epoch.specs.Telling.{CanTell, HaveTickets, HearsOn, KeepsUp, Telling, TellsRest, telling_at};
 
 use ent_form::FormFault;
-use ent_headline::resolved_forms_are_faithful;
 use ent_protocol::commits_are_numbered;
 use ent_protocol_laws::{steps_go_on, transactions_stand_once};
+use ent_sched::resolved_forms_are_faithful;
 use ent_semantics::{closing_keeps_the_meaning, runs_go_on, statements_keep_to_their_uses};
 use ent_serializability::{journals_grow_by_commits, only_commits_settle_tables};
 

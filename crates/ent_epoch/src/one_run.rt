@@ -2,7 +2,7 @@
 ghost use Rattle.std.specs.Prelude.{◌≡◌, ℕ, [], IfErr, IfOk, OnOk};
 ghost use Rattle.ent_epoch.specs.OneRun.{AreForOneRun, EndsRun, MakesRun, StartsRun};
 ghost use Rattle.ent_epoch.specs.Telling.{KeepsUp, Telling as TellingSeen};
-ghost use Rattle.ent_headline.specs.Resolved.{resolved_forms};
+ghost use Rattle.ent_sched.specs.Passed.{resolved_forms};
 ghost use Rattle.ent_sched.specs.Onward.{LeadsOn};
 
 use crate::law::batches_go_on;

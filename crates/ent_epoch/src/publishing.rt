@@ -2,7 +2,7 @@
 ghost use Rattle.std.specs.Prelude.{◌≡◌, ◌+◌, ◌<◌, ◌≤◌, ◌^◌, [], All, IfOk, drop, length, map, suc, unwrap_or};
 ghost use Rattle.std.specs.List.{IsDistinct};
 ghost use Rattle.ent_book.specs.Report.{entry_answers};
-ghost use Rattle.ent_core.specs.Reply.{numbered_from};
+ghost use Rattle.ent_sched.specs.Passed.{numbered_from};
 ghost use Rattle.ent_protocol.specs.Reached.{table_names};
 ghost use Rattle.ent_semantics.specs.Database.{same_name};
 ghost use Rattle.ent_semantics.specs.Serial.{numbered};
@@ -12,10 +12,10 @@ ghost use Rattle.ent_feed.specs.Tables.{database_in, rows_in};
 ghost use Rattle.ent_feed.specs.Telling.{commits_of};
 
 use crate::notes::Note;
-use ent_core::answers_copy;
 use ent_feed::{Commit, Group, table_changes};
 use ent_group::Members;
 use ent_rel::Table;
+use ent_sched::answers_copy;
 use ent_semantics::{Answer, Entry, element};
 use ent_tree::Opening;
 use ent_value::Sequence;

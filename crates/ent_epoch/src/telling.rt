@@ -1,7 +1,7 @@
 //! How far a core is told of.
 ghost use Rattle.std.specs.Prelude.{◌≡◌, ◌∷◌, ◌+◌, ◌<◌, ◌≤◌, ◌^◌, [], All, IfErr, IfOk, length};
 ghost use Rattle.std.specs.List.{IsDistinct};
-ghost use Rattle.ent_core.specs.Reply.{reply_seen};
+ghost use Rattle.ent_sched.specs.Passed.{reply_seen};
 ghost use Rattle.ent_protocol.specs.Event.{Event};
 ghost use Rattle.ent_protocol.specs.Reached.{table_names};
 ghost use Rattle.ent_semantics.specs.Database.{same_name};
@@ -16,11 +16,10 @@ ghost use Rattle.ent_epoch.specs.Telling.{HaveTickets, HearsOn, KeepsUp, TellsRe
 use crate::notes::{Note, put_note, settled_tables};
 use crate::notes_law::{groups_tell_the_rest, settled_tables_are_declared, what_is_told_stands};
 use crate::publishing::Source;
-use ent_core::{Core, Reply};
 use ent_eval::Done;
 use ent_feed::{Group, NoNumber};
 use ent_rel::Table;
-use ent_sched::{Told, Watcher};
+use ent_sched::{Core, Reply, Told, Watcher};
 use ent_value::Refusal;
 use ent_waiting::Ticket;
 use std::alloc::{AllocError, Global};

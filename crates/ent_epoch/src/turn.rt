@@ -10,11 +10,11 @@ ghost use Rattle.ent_value.specs.declared.refusal.Refusal.TheVariants.{Fault};
 ghost use Rattle.ent_epoch.specs.Epoch.{carried_over, core_in};
 ghost use Rattle.ent_renewal.specs.declared.opening.TooManyRows.{TooManyRows as TooManyRowsSeen};
 
-use ent_core::{Core, NotClosed, NotDone};
 use ent_rel::Table;
 use ent_renewal::{
     FinishedBook, TablesByName, TooManyRows, drained_opening, states_at_rest_hold_their_tables,
 };
+use ent_sched::{Core, NotClosed, NotDone};
 use ent_tree::Opening;
 use ent_value::{Name, Refusal};
 use std::alloc::{AllocError, Global};

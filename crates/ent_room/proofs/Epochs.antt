@@ -5,7 +5,7 @@ use Rattle.std.specs.Ordering.{nat_cmp}
 use Rattle.ent_admission.specs.Admission.{Admission, IsAllTold, IsAtRest}
 use Rattle.ent_admission.specs.Moves.{Chain, Chooses, Enters, Goes, Moves, Runs, Settles, Tells}
 use Rattle.ent_admission.specs.Moves.{TellsCommits, TellsEndings}
-use Rattle.ent_epoch.specs.Epoch.{Epoch, begun}
+use Rattle.ent_admission.specs.Passed.{Epoch, begun}
 use Rattle.ent_protocol.specs.Reached.{CanClose}
 use Rattle.ent_semantics.specs.Database.{opening_database}
 use Rattle.ent_tree.specs.declared.declaration.Opening.{Opening}

@@ -9,8 +9,7 @@ use Rattle.ent_form.specs.declared.fault.FormFault.{FormFault}
 use Rattle.ent_form.specs.declared.script.Plain.{Plain}
 use Rattle.ent_tree.specs.declared.declaration.Opening.{Opening}
 use Rattle.ent_tree.specs.declared.script.Script.{Script}
-use Rattle.ent_headline.specs.Resolved.{resolved_forms}
-use Rattle.ent_core.specs.Play.{scripts_fault}
+use Rattle.ent_admission.specs.Passed.{resolved_forms, scripts_fault}
 use Rattle.ent_admission.specs.Admission.{IsFormed}
 use Rattle.ent_waiting.specs.WaitingList.{WaitingList}
 use Rattle.ent_room.specs.Putting.{with_put}

@@ -3,3 +3,4 @@ pub mod Acts
 pub mod Putting
 pub mod Reading
 pub mod State
+pub mod Passed

@@ -4,7 +4,7 @@ use Rattle.ent_admission.specs.Admission.{no_groups}
 use Rattle.ent_engine.specs.Reading.{IsInput, IsRefused}
 use Rattle.ent_engine.specs.declared.fault.RunFault.{RunFault}
 use Rattle.ent_engine.specs.declared.fault.RunFault.TheVariants as faults
-use Rattle.ent_epoch.specs.Epoch.{begun}
+use Rattle.ent_admission.specs.Passed.{begun}
 use Rattle.ent_prepare.specs.Given.{AreTooMany as AreTooManyRows, CanStand, IsFirstFault, with_rows}
 use Rattle.ent_prepare.specs.declared.row.GivenRow.{GivenRow}
 use Rattle.ent_tree.specs.declared.declaration.Opening.{Opening}

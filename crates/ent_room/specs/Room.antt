@@ -3,9 +3,8 @@ use Rattle.std.specs.Prelude.{◌≡◌, ◌+◌, List, Option, Some, None}
 use Rattle.ent_admission.specs.Admission.{Admission}
 use Rattle.ent_book.specs.Tables.{book_seen}
 use Rattle.ent_book.specs.declared.table.NamedTable.{NamedTable}
-use Rattle.ent_epoch.specs.Epoch.{Epoch}
+use Rattle.ent_admission.specs.Passed.{Epoch, drained}
 use Rattle.ent_protocol.specs.Reached.{book_of}
-use Rattle.ent_renewal.specs.Renewal.{drained}
 use Rattle.ent_semantics.specs.Book.{IsLegal}
 use Rattle.ent_semantics.specs.Database.{Name, opening_database}
 use Rattle.ent_semantics.specs.declared.book.Book.{Book}

@@ -1,5 +1,5 @@
 //! Books of epochs that ended.
-use ent_renewal::FinishedBook;
+use ent_admission::FinishedBook;
 
 /// The book of an epoch that ended.
 #[derive(Drop)]

@@ -21,6 +21,8 @@ mod step;
 mod tables;
 mod waking;
 
+pub use ent_admission::FinishedBook;
+pub use ent_engine::{ReportVersion, RunFault, status_of};
 pub use epoch_book::EpochBook;
 pub use putting::{NotPut, NotPutBack, Stay};
 pub use reading::NotOpened;

@@ -2,9 +2,8 @@
 ghost use Rattle.std.specs.Prelude.{◌≡◌, [], IfErr, IfOk, None, OnOk};
 ghost use Rattle.std.specs.Result.{result_err};
 ghost use Rattle.ent_admission.specs.Admission.{no_groups};
-ghost use Rattle.ent_core.specs.Play.{input_fault, scripts_fault};
+ghost use Rattle.ent_admission.specs.Passed.{begun, input_fault, scripts_fault};
 ghost use Rattle.ent_engine.specs.Reading.{IsInput, IsRefused};
-ghost use Rattle.ent_epoch.specs.Epoch.{begun};
 ghost use Rattle.ent_form.specs.Catalogue.{schemas_of};
 ghost use Rattle.ent_form.specs.Form.{script_in};
 ghost use Rattle.ent_form.specs.OpeningFault.{first_of, opening_fault};

@@ -4,7 +4,7 @@ use Rattle.ent_bound.specs.declared.fault.BindingFault.{BindingFault}
 use Rattle.ent_bound.specs.declared.fault.BindingFault.TheVariants.{Value as ValueOf, Twice, SetByScript, Unused}
 use Rattle.ent_bound.specs.declared.fault.ValueFault.{ValueFault}
 use Rattle.ent_bound.specs.declared.fault.ValueFault.TheVariants.{LeastNumber, TooLong, NotUtf8, ControlCharacter}
-use Rattle.ent_engine.specs.Fault.{code_of as run_code_of, place_of as run_place_of, status as run_status}
+use Rattle.ent_room.specs.Passed.{code_of as run_code_of, place_of as run_place_of, status as run_status}
 use Rattle.ent_form.specs.Fault.{code_of as form_code_of, place_of as form_place_of}
 use Rattle.ent_prepare.specs.Fault.{code_of as prepare_code_of, place_of as prepare_place_of}
 use Rattle.ent_prepare.specs.declared.fault.PrepareFault.{PrepareFault}

@@ -2,10 +2,8 @@
 use Rattle.std.specs.Prelude.{◌≡◌, ◌⊎◌, ◌+◌, ◌<◌, ◌^◌, ◌&&◌, ◌==◌, ℕ, Bool, true, false, is_some, List, [], ◌∷◌}
 use Rattle.std.specs.Prelude.{if◌then◌else◌}
 use Rattle.std.specs.List.{filter, list_all}
-use Rattle.ent_admission.specs.Admission.{IsAtRest}
-use Rattle.ent_epoch.specs.Epoch.{begun, carried_over}
+use Rattle.ent_room.specs.Passed.{IsAtRest, IsRenewed, begun, carried_over, rows_together}
 use Rattle.ent_protocol.specs.Lookup.{present_rows}
-use Rattle.ent_renewal.specs.Renewal.{IsRenewed, rows_together}
 use Rattle.ent_room.specs.Room.{IsBookOf, Room}
 use Rattle.ent_tree.specs.declared.limits.TheConstants.{MOST_OPENING_ROWS}
 use Rattle.ent_value.specs.Name.{is_word}

@@ -6,10 +6,9 @@ ghost use Rattle.ent_room_calls.specs.Fault.{prepare_number, status, value_numbe
 ghost use Rattle.ent_room_calls.specs.declared.fault.RoomFault.TheVariants.{Memory as OutOfMemory};
 
 use ent_bound::{BindingFault, ValueFault};
-use ent_engine::{RunFault, status_of};
 use ent_form::FormFault;
 use ent_prepare::PrepareFault;
-use ent_room::{NotOpened, NotPut, NotPutBack, NotStepped};
+use ent_room::{NotOpened, NotPut, NotPutBack, NotStepped, RunFault, status_of};
 use ent_value::Refusal;
 use ent_waiting::{NotRestored, NotWithdrawn};
 use std::alloc::{AllocError, AllocFailed};

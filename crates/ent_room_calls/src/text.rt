@@ -2,15 +2,13 @@
 ghost use Rattle.std.specs.Prelude.{◌≡◌, ◌⊎◌, IfErr, IfOk, None, Some, true};
 ghost use Rattle.ent_book.specs.Tables.{book_seen};
 ghost use Rattle.ent_driver.specs.Told.{lines_under};
-ghost use Rattle.ent_engine.specs.Report.{text_of};
+ghost use Rattle.ent_room.specs.Passed.{text_of};
 ghost use Rattle.ent_room_calls.specs.Text.{HasNoTable};
 ghost use Rattle.ent_room_calls.specs.declared.fault.RoomFault.TheVariants.{Memory};
 
 use crate::fault::RoomFault;
 use ent_driver::{lines_under, report_text};
-use ent_engine::ReportVersion;
-use ent_renewal::FinishedBook;
-use ent_room::Room;
+use ent_room::{FinishedBook, ReportVersion, Room};
 use ent_value::{Name, is_word};
 use std::alloc::Global;
 

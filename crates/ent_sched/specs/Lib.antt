@@ -7,3 +7,4 @@ pub mod Runs
 pub mod Tally
 pub mod Tries
 pub mod Watching
+pub mod Passed

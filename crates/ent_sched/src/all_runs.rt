@@ -3,7 +3,7 @@ ghost use Rattle.std.specs.Prelude.{◌≡◌, ℕ, IfErr, IfOk};
 ghost use Rattle.ent_book.specs.Tables.{book_seen};
 ghost use Rattle.ent_termination.specs.Fates.{HaveFates};
 ghost use Rattle.ent_protocol.specs.Reached.{IsFinishedBook, book_of, scripts_of};
-ghost use Rattle.ent_headline.specs.Resolved.{resolved_forms};
+ghost use Rattle.ent_core.specs.Passed.{resolved_forms};
 ghost use Rattle.ent_sched.specs.Onward.{LeadsOn};
 ghost use Rattle.ent_sched.specs.RunOut.{IsRunOut};
 ghost use Rattle.ent_sched.specs.Runs.{RunsInto, RunsOut};

@@ -11,7 +11,7 @@ ghost use Rattle.ent_protocol.specs.Lookup.{Ready, Turn, running_members, standi
 ghost use Rattle.ent_protocol.specs.PoolEvents.{IsOutstandingJoint};
 ghost use Rattle.ent_protocol.specs.Reached.{CanClose, IsFinishedBook, IsReached, book_of, scripts_of};
 ghost use Rattle.ent_protocol.specs.Step.{Step};
-ghost use Rattle.ent_headline.specs.Resolved.{resolved_forms};
+ghost use Rattle.ent_core.specs.Passed.{resolved_forms};
 ghost use Rattle.ent_sched.specs.Tally.{MakesEvent};
 ghost use Rattle.ent_sched.specs.Watching.{heard_of};
 ghost use Rattle.ent_semantics.specs.Book.{IsLegal};

@@ -2,7 +2,7 @@
 ghost use Rattle.std.specs.Prelude.{◌≡◌, [], false, true};
 ghost use Rattle.ent_termination.specs.Idle.{IsAnswered};
 ghost use Rattle.ent_protocol.specs.Event.{BreakCycle, NoCycle};
-ghost use Rattle.ent_headline.specs.Resolved.{resolved_forms};
+ghost use Rattle.ent_core.specs.Passed.{resolved_forms};
 ghost use Rattle.ent_sched.specs.Onward.{TicksOn};
 ghost use Rattle.ent_sched.specs.Progress.{UsesUp};
 ghost use Rattle.ent_sched.specs.Watching.{IsWatchedInRun};

@@ -2,7 +2,7 @@
 ghost use Rattle.std.specs.Prelude.{◌≡◌, ℕ, [], false, true, IfOk, OnOk};
 ghost use Rattle.ent_termination.specs.Within.{IsBelow, IsWithin};
 ghost use Rattle.ent_termination.specs.Idle.{IsIdleRound};
-ghost use Rattle.ent_headline.specs.Resolved.{resolved_forms};
+ghost use Rattle.ent_core.specs.Passed.{resolved_forms};
 ghost use Rattle.ent_sched.specs.Onward.{TicksOn, events_of_round};
 ghost use Rattle.ent_sched.specs.Watching.{IsWatchedInRun};
 

@@ -3,7 +3,7 @@ ghost use Rattle.std.specs.Prelude.{◌≡◌, ◌<◌, [], false, true, IfOk, O
 ghost use Rattle.ent_termination.specs.Idle.{IsIdleRound};
 ghost use Rattle.ent_termination.specs.Tries.{tries_left};
 ghost use Rattle.ent_protocol.specs.Reached.{CanClose};
-ghost use Rattle.ent_headline.specs.Resolved.{resolved_forms};
+ghost use Rattle.ent_core.specs.Passed.{resolved_forms};
 ghost use Rattle.ent_sched.specs.Onward.{TicksOn};
 ghost use Rattle.ent_sched.specs.Bounds.{events_of_run, run_start};
 ghost use Rattle.ent_sched.specs.Watching.{IsRunWatched, IsWatchedInRun};

@@ -1,7 +1,7 @@
 //! The rounds of a run.
 ghost use Rattle.std.specs.Prelude.{◌≡◌, [], OnOk};
 ghost use Rattle.ent_termination.specs.Idle.{IsIdleRound};
-ghost use Rattle.ent_headline.specs.Resolved.{resolved_forms};
+ghost use Rattle.ent_core.specs.Passed.{resolved_forms};
 ghost use Rattle.ent_sched.specs.Onward.{TicksOn};
 ghost use Rattle.ent_sched.specs.Bounds.{events_of_rounds};
 ghost use Rattle.ent_sched.specs.Watching.{IsWatchedInRun};

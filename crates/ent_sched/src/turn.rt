@@ -5,7 +5,7 @@ ghost use Rattle.ent_termination.specs.Idle.{IsHeldUp};
 ghost use Rattle.ent_protocol.specs.Event.{Begin};
 ghost use Rattle.ent_protocol.specs.Lookup.{Ready, Turn, running_members, standing};
 ghost use Rattle.ent_core.specs.Begin.{IsFreeMember};
-ghost use Rattle.ent_headline.specs.Resolved.{resolved_forms};
+ghost use Rattle.ent_core.specs.Passed.{resolved_forms};
 ghost use Rattle.ent_sched.specs.Onward.{TicksOn};
 ghost use Rattle.ent_sched.specs.Progress.{IsJustLent, UsesUp};
 ghost use Rattle.ent_sched.specs.Watching.{IsWatchedInRun};

@@ -12,7 +12,7 @@ use Rattle.ent_semantics.specs.Database.{Database}
 use Rattle.ent_semantics.specs.declared.book.Book.{Book}
 use Rattle.ent_protocol.specs.Reached.{IsGatheredAt, scripts_of}
 use Rattle.ent_protocol.specs.State.{State, Submitted}
-use Rattle.ent_headline.specs.Resolved.{resolved_forms}
+use Rattle.ent_desk.specs.Passed.{resolved_forms}
 use Rattle.ent_desk.specs.declared.ticket.First.{First}
 use Rattle.ent_desk.specs.declared.ticket.Ticket.{Ticket}
 use Rattle.ent_desk.specs.Closed.{IsClosedBook, IsServed, all_tickets}

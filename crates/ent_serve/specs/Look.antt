@@ -1,5 +1,5 @@
 -- What a look finds behind the lock.
-use Rattle.ent_headline.specs.Resolved.{resolved_forms}
+use Rattle.ent_desk.specs.Passed.{resolved_forms}
 use Rattle.ent_protocol.specs.Reached.{IsReached, book_of}
 use Rattle.ent_protocol.specs.State.{State}
 use Rattle.ent_semantics.specs.Book.{IsLegal}

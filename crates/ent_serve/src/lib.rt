@@ -16,10 +16,9 @@ mod gate;
 mod manager;
 mod workers;
 
-pub use ent_core::{Core, PlayFault};
 pub use ent_desk::{
-    Blanks, Both, CloseFault, First, Naming, NotSubmitted, Receipt, Seats, Session, SubmitFault,
-    Ticket,
+    Blanks, Both, CloseFault, Core, First, Naming, NotSubmitted, PlayFault, Receipt, Seats,
+    Session, SubmitFault, Ticket, core_over,
 };
 pub use fault::ServeFault;
 pub use gate::{Gate, Open};

@@ -4,7 +4,7 @@ ghost use Rattle.std.specs.Prelude.{◌↔◌, None, Some, IfErr, IfOk, IfSome, 
 ghost use Rattle.std.specs.Prelude.{find, length, replicate, vec_len};
 ghost use Rattle.std.specs.Fn.{FnOnceReturnsAt, FnOnceTakesAt};
 ghost use Rattle.ent_book.specs.Tables.{book_seen};
-ghost use Rattle.ent_core.specs.Play.{input_fault};
+ghost use Rattle.ent_desk.specs.Passed.{input_fault};
 ghost use Rattle.ent_desk.specs.Closed.{IsClosedBook};
 ghost use Rattle.ent_desk.specs.Opened.{first_session, other_session};
 ghost use Rattle.ent_desk.specs.Seen.{GetsReceipts, with_ticket};
@@ -18,9 +18,9 @@ ghost use Rattle.ent_value.specs.declared.refusal.Refusal.TheVariants.{Fault};
 
 use crate::gate::Gate;
 use ent_book::NamedTable;
-use ent_core::{Core, PlayFault};
 use ent_desk::{
-    Advance, Blanks, CloseFault, Desk, Naming, NotSubmitted, Seats, Session, Stopped, open,
+    Advance, Blanks, CloseFault, Core, Desk, Naming, NotSubmitted, PlayFault, Seats, Session,
+    Stopped, open,
 };
 use ent_eval::{Done, Job, evaluate};
 use ent_group::Tx;

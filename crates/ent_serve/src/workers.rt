@@ -2,7 +2,7 @@
 ghost use Rattle.std.specs.Prelude.{◌≡◌, ◌-◌, ◌<◌, ◌≤◌, List, ℕ, None};
 ghost use Rattle.std.specs.Prelude.{Some, IfErr, IfOk, OnOk, map, slice_index_or, vec_len};
 ghost use Rattle.ent_book.specs.Tables.{book_seen};
-ghost use Rattle.ent_core.specs.Play.{input_fault};
+ghost use Rattle.ent_desk.specs.Passed.{input_fault};
 ghost use Rattle.ent_desk.specs.Closed.{IsClosedBook, IsServed};
 ghost use Rattle.ent_desk.specs.Seen.{SessionState};
 ghost use Rattle.ent_form.specs.declared.fault.FormFault.{FormFault};

@@ -1,7 +1,7 @@
 -- What is told of an event, and what it makes of notes.
 use Rattle.std.proofs.Common.{◌≡◌, ℕ, suc, List, [], ◌∷◌, refl, sym, ap, subst}
 use Rattle.std.specs.Prelude.{Option}
-use Rattle.ent_core.specs.Reply.{numbered_from}
+use Rattle.ent_sched.specs.Passed.{numbered_from}
 use Rattle.ent_reasons.specs.News.{IsHeard, entered, news, parties}
 use Rattle.ent_reasons.specs.Noted.{IsNoted, Noted}
 use Rattle.ent_reasons.specs.declared.note.Change.{Change}

@@ -1,11 +1,10 @@
 //! Two watchers that are told the same.
-ghost use Rattle.ent_core.specs.Reply.{reply_seen};
+ghost use Rattle.ent_sched.specs.Passed.{reply_seen};
 ghost use Rattle.ent_protocol.specs.Event.{Event};
 ghost use Rattle.ent_sched.specs.Watching.{TellsOf, heard_of};
 
-use ent_core::{Core, Reply};
 use ent_eval::Done;
-use ent_sched::{Told, Watcher};
+use ent_sched::{Core, Reply, Told, Watcher};
 
 /// Two watchers, each of which is told all.
 #[derive(Drop)]

@@ -1,9 +1,8 @@
 //! A watcher that says something before anything runs.
 ghost use Rattle.std.specs.Prelude.{◌≡◌, None};
 
-use ent_core::{Core, Reply};
 use ent_eval::Done;
-use ent_sched::{Told, Watcher};
+use ent_sched::{Core, Reply, Told, Watcher};
 use std::fmt::Display;
 use std::io::Eprint;
 

@@ -1,9 +1,9 @@
 //! A look at a core: what stops the members of its run.
-use ent_core::{BeginRefusal, Core, Obstacle};
 use ent_group::{Members, Tx};
 use ent_match::Demand;
 use ent_members::Conflict;
 use ent_reasons::{Block, Need, Observation, Observations};
+use ent_sched::{BeginRefusal, Core, Obstacle};
 use ent_semantics::{Atom, Term};
 use ent_tree::{Duplicate, Opening};
 use ent_value::{Value, print_value};

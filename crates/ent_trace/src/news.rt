@@ -1,14 +1,14 @@
 //! What a reply tells, and of whom.
 ghost use Rattle.std.specs.Prelude.{◌≡◌, ◌+◌};
-ghost use Rattle.ent_core.specs.Reply.{reply_seen};
+ghost use Rattle.ent_sched.specs.Passed.{reply_seen};
 ghost use Rattle.ent_reasons.specs.declared.last_status.LastStatus.TheVariants.{HeldBack};
 ghost use Rattle.ent_reasons.specs.declared.note.Change.TheVariants.{Passes, Stands};
 ghost use Rattle.ent_reasons.specs.News.{first_party, news};
 
-use ent_core::Reply;
 use ent_group::{Members, Tx};
 use ent_match::Unsafe;
 use ent_reasons::{Change, LastStatus};
+use ent_sched::Reply;
 
 /// What is told of some transactions.
 #[derive(Drop)]

@@ -1,7 +1,7 @@
 //! A watcher that notes what each transaction was told last, and what stopped it.
 ghost use Rattle.std.specs.Prelude.{◌≡◌, [], map, true};
 ghost use Rattle.ent_job.specs.Work.{work_seen};
-ghost use Rattle.ent_core.specs.Reply.{reply_seen};
+ghost use Rattle.ent_sched.specs.Passed.{reply_seen};
 ghost use Rattle.ent_reasons.specs.News.{IsHeard, parties, workers};
 ghost use Rattle.ent_protocol.specs.Event.{Event};
 ghost use Rattle.ent_sched.specs.Watching.{TellsOf};
@@ -9,12 +9,11 @@ ghost use Rattle.ent_trace.specs.Marking.{AreHeld, Marks};
 
 use crate::looks::{look, look_at_blocks};
 use crate::news::{News, first_party, news_of};
-use ent_core::{Core, Reply};
 use ent_eval::{Done, Work};
 use ent_group::{Members, Tx};
 use ent_match::Posted;
 use ent_reasons::{Notes, Observations};
-use ent_sched::{Told, Watcher};
+use ent_sched::{Core, Reply, Told, Watcher};
 use std::alloc::Global;
 
 /// Notes what each transaction was told last in its run, and what was seen of it when nothing could be answered.

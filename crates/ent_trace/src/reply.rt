@@ -1,10 +1,10 @@
 //! Replies, each as a line has it.
 use crate::answer::put_answer;
 use crate::text::Text;
-use ent_core::{Reason, Reply};
 use ent_form::FormFault;
 use ent_group::{Members, Tx};
 use ent_match::Unsafe;
+use ent_sched::{Reason, Reply};
 use ent_semantics::{Answer, Failure};
 use std::alloc::Global;
 

@@ -1,4 +1,4 @@
-use Rattle.ent_headline.specs.Resolved.{resolved_forms}
+use Rattle.ent_epoch.specs.Passed.{resolved_forms}
 use Rattle.ent_admission.proofs.Told.{Laws, tells_what_committed}
 use Rattle.ent_admission.proofs.law.feeds_tell_what_committed.Goals as goal
 

@@ -1,5 +1,5 @@
 use Rattle.std.proofs.Common.{◌∙◌, Some, ap, inl, inr, refl, sym}
-use Rattle.ent_core.specs.Reply.{reply_seen}
+use Rattle.ent_driver.specs.Passed.{reply_seen}
 use Rattle.ent_driver.specs.Moves.{IsNotMade, Moves}
 use Rattle.ent_driver.specs.declared.fault.DriverFault.TheVariants.{Vacant}
 use Rattle.ent_c.specs.Managers.{behind}

@@ -1,6 +1,6 @@
 use Rattle.std.proofs.Common.{◌≡◌, ◌∙◌, ap, arith, length, subst, sym}
 use Rattle.ent_protocol.specs.Reached.{IsGatheredState}
-use Rattle.ent_headline.specs.Resolved.{resolved_forms}
+use Rattle.ent_core.specs.Passed.{resolved_forms}
 use Rattle.ent_desk.specs.Opened.{tickets_from}
 use Rattle.ent_desk.proofs.Closed.{length_tickets}
 use Rattle.ent_desk.proofs.Opened.{as_many, none_committed}

@@ -1,6 +1,6 @@
 use Rattle.std.proofs.Common.{refl, subst, sym}
 use Rattle.ent_core.specs.Reply.{reply_seen}
-use Rattle.ent_headline.specs.Resolved.{resolved_forms}
+use Rattle.ent_sched.specs.Passed.{resolved_forms}
 use Rattle.ent_protocol.specs.Event.{Recall}
 use Rattle.ent_protocol.specs.State.{State}
 use Rattle.ent_sched.specs.Bounds.{events_of_run}

@@ -1,5 +1,5 @@
 use Rattle.std.proofs.Common.{ℕ}
-use Rattle.ent_headline.specs.Resolved.{resolved_forms}
+use Rattle.ent_sched.specs.Passed.{resolved_forms}
 use Rattle.ent_sched.specs.Onward.{LeadsOn}
 use Rattle.ent_engine.proofs.runs.run_out.Given as goal
 

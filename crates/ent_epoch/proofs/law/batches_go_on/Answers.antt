@@ -1,6 +1,6 @@
 use Rattle.std.proofs.Common.{◌≤◌, List, sym, subst}
 use Rattle.std.specs.List.{AllByRecursion}
-use Rattle.ent_headline.specs.Resolved.{resolved_forms}
+use Rattle.ent_sched.specs.Passed.{resolved_forms}
 use Rattle.ent_protocol.specs.State.{Submitted}
 use Rattle.ent_protocol_laws.specs.Attempts.{AsksForRun}
 use Rattle.ent_epoch.proofs.Tries.{ended_closes, led_on_kept, recalled_kept, started_kept}

@@ -1,5 +1,5 @@
 use Rattle.std.proofs.Common.{refl}
-use Rattle.ent_headline.specs.Resolved.{resolved_forms}
+use Rattle.ent_sched.specs.Passed.{resolved_forms}
 use Rattle.ent_protocol.specs.Event.{Submit, Submitted}
 use Rattle.ent_epoch.specs.Epoch.{begun, for_one_run}
 use Rattle.ent_epoch.proofs.Told.{begun_told, published_told, still_told, taken_untold}

@@ -1,4 +1,4 @@
-use Rattle.ent_headline.specs.Resolved.{resolved_forms}
+use Rattle.ent_sched.specs.Passed.{resolved_forms}
 use Rattle.ent_epoch.proofs.Told.{led_behind, made_behind, one_behind}
 use Rattle.ent_epoch.proofs.law.journals_go_on.Goals as goal
 

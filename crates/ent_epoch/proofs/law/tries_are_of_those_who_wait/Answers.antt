@@ -1,4 +1,4 @@
-use Rattle.ent_headline.specs.Resolved.{resolved_forms}
+use Rattle.ent_sched.specs.Passed.{resolved_forms}
 use Rattle.ent_epoch.proofs.Tries.{tries_counted}
 use Rattle.ent_epoch.proofs.law.tries_are_of_those_who_wait.Goals as goal
 

@@ -1,4 +1,4 @@
-use Rattle.ent_headline.specs.Resolved.{resolved_forms}
+use Rattle.ent_sched.specs.Passed.{resolved_forms}
 use Rattle.ent_epoch.proofs.Owned.{entries_owned}
 use Rattle.ent_epoch.proofs.notes_law.entries_have_tickets.Goals as goal
 

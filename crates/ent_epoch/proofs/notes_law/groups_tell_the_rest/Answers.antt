@@ -1,6 +1,6 @@
 use Rattle.std.proofs.Common.{◌≡◌, List, None, subst}
 use Rattle.ent_form.specs.OpeningFault.{opening_fault}
-use Rattle.ent_headline.specs.Resolved.{resolved_forms}
+use Rattle.ent_sched.specs.Passed.{resolved_forms}
 use Rattle.ent_semantics.specs.Form.{Tables}
 use Rattle.ent_protocol.specs.Reached.{settled}
 use Rattle.ent_tree.specs.declared.declaration.Opening.{Opening}

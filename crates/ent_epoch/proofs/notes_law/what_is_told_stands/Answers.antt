@@ -1,4 +1,4 @@
-use Rattle.ent_headline.specs.Resolved.{resolved_forms}
+use Rattle.ent_sched.specs.Passed.{resolved_forms}
 use Rattle.ent_epoch.proofs.Standing.{can_tell}
 use Rattle.ent_epoch.proofs.notes_law.what_is_told_stands.Goals as goal
 

@@ -1,5 +1,5 @@
 use Rattle.std.proofs.Common.{◌∙◌, ◌+◌, Result, Ok, Err, IfErr, IfOk}
-use Rattle.ent_headline.specs.Resolved.{resolved_forms}
+use Rattle.ent_sched.specs.Passed.{resolved_forms}
 use Rattle.ent_epoch.proofs.one_run.run_to_end.Goals as goal
 
 if_err : {T E : Type 0} {P Q : E → Type 0} (r : Result T E) → ((e : E) → P e → Q e) → IfErr r P → IfErr r Q

@@ -1,6 +1,5 @@
 use Rattle.std.proofs.Common.{refl, subst, sym, ◌∙◌}
-use Rattle.ent_core.specs.Reply.{reply_seen}
-use Rattle.ent_headline.specs.Resolved.{resolved_forms}
+use Rattle.ent_sched.specs.Passed.{reply_seen, resolved_forms}
 use Rattle.ent_protocol.specs.Event.{Recall, StartRun}
 use Rattle.ent_protocol.specs.State.{State}
 use Rattle.ent_sched.specs.Onward.{LeadsOn}

@@ -1,5 +1,5 @@
 use Rattle.std.proofs.Common.{◌≡◌, ◌+◌, ◌++◌, drop, map}
-use Rattle.ent_core.specs.Reply.{numbered_from}
+use Rattle.ent_sched.specs.Passed.{numbered_from}
 use Rattle.ent_epoch.specs.Publishing.{commit_at}
 use Rattle.ent_epoch.proofs.publishing.commits.Given as goal
 

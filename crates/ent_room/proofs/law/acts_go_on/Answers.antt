@@ -1,5 +1,5 @@
 use Rattle.std.proofs.Common.{◌∙◌, refl, sym, ap}
-use Rattle.ent_epoch.specs.Epoch.{Epoch}
+use Rattle.ent_admission.specs.Passed.{Epoch}
 use Rattle.ent_room.proofs.law.acts_go_on.Goals as goal
 
 pub returns-clause-stays : goal.returns-clause-stays

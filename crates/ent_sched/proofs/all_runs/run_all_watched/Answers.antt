@@ -5,7 +5,7 @@ use Rattle.ent_termination.specs.Tries.{tries_left}
 use Rattle.ent_protocol.specs.Event.{Recall}
 use Rattle.ent_protocol.specs.Reached.{CanClose, IsFinished}
 use Rattle.ent_protocol.specs.State.{State}
-use Rattle.ent_headline.specs.Resolved.{resolved_forms}
+use Rattle.ent_core.specs.Passed.{resolved_forms}
 use Rattle.ent_sched.specs.Bounds.{events_of_run}
 use Rattle.ent_sched.specs.Onward.{TicksOn}
 use Rattle.ent_sched.specs.Tally.{Tally}

@@ -1,6 +1,6 @@
 use Rattle.std.proofs.Common.{◌≡◌, []}
 use Rattle.ent_termination.specs.Tries.{tries_left}
-use Rattle.ent_headline.specs.Resolved.{resolved_forms}
+use Rattle.ent_core.specs.Passed.{resolved_forms}
 use Rattle.ent_sched.specs.Watching.{IsWatched}
 use Rattle.ent_sched.proofs.Running.{HasRun}
 use Rattle.ent_sched.proofs.all_runs.run_all_watched.Given as goal

@@ -2,7 +2,7 @@ use Rattle.std.proofs.Common.{sym, subst, refl, ◌∙◌}
 use Rattle.ent_core.specs.Reply.{reply_seen}
 use Rattle.ent_protocol.specs.Event.{BreakCycle}
 use Rattle.ent_protocol.specs.Step.{Step}
-use Rattle.ent_headline.specs.Resolved.{resolved_forms}
+use Rattle.ent_core.specs.Passed.{resolved_forms}
 use Rattle.ent_sched.proofs.Moving.{broken_lends_none, no_cycle, none_lent}
 use Rattle.ent_sched.proofs.Watched.{one_watched}
 use Rattle.ent_sched.proofs.deadlock.break_deadlock.Goals as goal

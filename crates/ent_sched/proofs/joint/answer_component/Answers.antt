@@ -4,7 +4,7 @@ use Rattle.ent_core.specs.Reply.{reply_seen}
 use Rattle.ent_protocol.specs.Event.{Pick}
 use Rattle.ent_protocol.specs.State.{State}
 use Rattle.ent_protocol.specs.Step.{Step}
-use Rattle.ent_headline.specs.Resolved.{resolved_forms}
+use Rattle.ent_core.specs.Passed.{resolved_forms}
 use Rattle.ent_sched.proofs.Moving.{nothing_picked}
 use Rattle.ent_sched.proofs.NoneLent.{lends_none}
 use Rattle.ent_sched.proofs.Watched.{one_watched, unwatched, watched_on}

@@ -2,7 +2,7 @@ use Rattle.std.proofs.Common.{refl}
 use Rattle.ent_core.specs.Reply.{reply_seen}
 use Rattle.ent_termination.specs.Lending.{IsLentAlone}
 use Rattle.ent_protocol.specs.Event.{JoinAnswer, Lent, Pick}
-use Rattle.ent_headline.specs.Resolved.{resolved_forms}
+use Rattle.ent_core.specs.Passed.{resolved_forms}
 use Rattle.ent_sched.proofs.Moving.{joint_progress}
 use Rattle.ent_sched.proofs.Watched.{one_watched, unwatched}
 use Rattle.ent_sched.proofs.joint.join_answer.Goals as goal

@@ -3,7 +3,7 @@ use Rattle.ent_termination.specs.Idle.{IsAnswered}
 use Rattle.ent_protocol.specs.Event.{BreakCycle, NoCycle, Nothing, Pick}
 use Rattle.ent_protocol.specs.Lookup.{running_members}
 use Rattle.ent_protocol.specs.State.{State}
-use Rattle.ent_headline.specs.Resolved.{resolved_forms}
+use Rattle.ent_core.specs.Passed.{resolved_forms}
 use Rattle.ent_sched.specs.Onward.{events_of_round}
 use Rattle.ent_sched.proofs.Moving.{moved_then, one_moved}
 use Rattle.ent_sched.proofs.Watched.{watched_on}

@@ -1,7 +1,7 @@
 use Rattle.std.proofs.Common.{refl}
 use Rattle.ent_core.specs.Reply.{reply_seen}
 use Rattle.ent_protocol.specs.Event.{EndRun}
-use Rattle.ent_headline.specs.Resolved.{resolved_forms}
+use Rattle.ent_core.specs.Passed.{resolved_forms}
 use Rattle.ent_sched.proofs.Started.{run_over}
 use Rattle.ent_sched.proofs.Watched.{one_watched, unwatched}
 use Rattle.ent_sched.proofs.one_run.end.Goals as goal

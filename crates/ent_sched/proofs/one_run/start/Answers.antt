@@ -1,7 +1,7 @@
 use Rattle.std.proofs.Common.{◌∙◌, refl, sym}
 use Rattle.ent_core.specs.Reply.{reply_seen}
 use Rattle.ent_protocol.specs.Event.{StartRun}
-use Rattle.ent_headline.specs.Resolved.{resolved_forms}
+use Rattle.ent_core.specs.Passed.{resolved_forms}
 use Rattle.ent_sched.proofs.Started.{lent_of, off_of, on_of, started}
 use Rattle.ent_sched.proofs.Watched.{not_started, start_watched}
 use Rattle.ent_sched.proofs.one_run.start.Goals as goal

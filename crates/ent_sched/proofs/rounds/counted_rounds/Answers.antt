@@ -1,7 +1,7 @@
 use Rattle.std.proofs.Common.{◌-◌, ◌∙◌, length, refl, rules, subst, sym}
 use Rattle.ent_termination.specs.Idle.{IsIdleRound}
 use Rattle.ent_protocol.specs.State.{members}
-use Rattle.ent_headline.specs.Resolved.{resolved_forms}
+use Rattle.ent_core.specs.Passed.{resolved_forms}
 use Rattle.ent_sched.specs.Bounds.{most_progress}
 use Rattle.ent_sched.proofs.Counting.{AddUp, last_round_made, one_made, round_made}
 use Rattle.ent_sched.proofs.Watched.{unwatched, watched_on}

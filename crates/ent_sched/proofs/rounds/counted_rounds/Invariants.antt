@@ -1,7 +1,7 @@
 use Rattle.std.proofs.Common.{◌≡◌, ◌≤◌, ◌-◌, ◌*◌, [], length}
 use Rattle.ent_termination.specs.Within.{IsWithin}
 use Rattle.ent_protocol.specs.State.{members}
-use Rattle.ent_headline.specs.Resolved.{resolved_forms}
+use Rattle.ent_core.specs.Passed.{resolved_forms}
 use Rattle.ent_sched.specs.Onward.{TicksOn, events_of_round}
 use Rattle.ent_sched.specs.Bounds.{most_progress}
 use Rattle.ent_sched.specs.Watching.{IsWatchedInRun}

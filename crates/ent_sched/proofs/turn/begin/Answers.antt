@@ -2,7 +2,7 @@ use Rattle.std.proofs.Common.{◌≡◌, sym, ap, refl, ◌∙◌, arith}
 use Rattle.ent_termination.specs.Progress.{brings_work, is_progress}
 use Rattle.ent_core.specs.Reply.{reply_seen}
 use Rattle.ent_protocol.specs.Event.{Begin}
-use Rattle.ent_headline.specs.Resolved.{resolved_forms}
+use Rattle.ent_core.specs.Passed.{resolved_forms}
 use Rattle.ent_sched.proofs.Moving.{held_up, none_lent}
 use Rattle.ent_sched.proofs.NoneLent.{lends_none}
 use Rattle.ent_sched.proofs.Watched.{one_watched, unwatched, watched_on}

@@ -2,7 +2,7 @@ use Rattle.std.proofs.Common.{◌≡◌, ◌≤◌, ◌+◌, ◌*◌, false, tru
 use Rattle.ent_termination.specs.Idle.{IsHeldUp}
 use Rattle.ent_protocol.specs.Lookup.{running_members}
 use Rattle.ent_protocol.specs.State.{State}
-use Rattle.ent_headline.specs.Resolved.{resolved_forms}
+use Rattle.ent_core.specs.Passed.{resolved_forms}
 use Rattle.ent_sched.proofs.Moving.{one_moved}
 use Rattle.ent_sched.proofs.Turning.{all_taken}
 use Rattle.ent_sched.proofs.Watched.{unwatched, watched_on}

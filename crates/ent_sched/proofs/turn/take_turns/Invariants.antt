@@ -1,7 +1,7 @@
 use Rattle.std.proofs.Common.{◌≡◌, ◌*◌, [], false, true, take}
 use Rattle.std.specs.List.{AllByRecursion}
 use Rattle.ent_termination.specs.Idle.{IsHeldUp}
-use Rattle.ent_headline.specs.Resolved.{resolved_forms}
+use Rattle.ent_core.specs.Passed.{resolved_forms}
 use Rattle.ent_sched.specs.Onward.{TicksOn}
 use Rattle.ent_sched.specs.Progress.{UsesUp}
 use Rattle.ent_sched.specs.Watching.{IsWatchedInRun}

@@ -1,7 +1,7 @@
 use Rattle.std.proofs.Common.{refl, arith, rules}
 use Rattle.ent_core.specs.Begin.{begin_refusal_seen}
 use Rattle.ent_protocol.specs.Event.{Begin}
-use Rattle.ent_headline.specs.Resolved.{resolved_forms}
+use Rattle.ent_core.specs.Passed.{resolved_forms}
 use Rattle.ent_sched.proofs.Watched.{one_watched, unwatched}
 use Rattle.ent_sched.proofs.turn.turn.Goals as goal
 

@@ -1,4 +1,4 @@
-use Rattle.ent_core.specs.Reply.{reply_seen}
+use Rattle.ent_sched.specs.Passed.{reply_seen}
 use Rattle.ent_trace.proofs.Hearing.{heard}
 use Rattle.ent_trace.proofs.note_taker.hear.Goals as goal
 

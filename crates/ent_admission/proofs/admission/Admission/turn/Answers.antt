@@ -1,7 +1,7 @@
 use Rattle.std.proofs.Common.{◌<◌, refl, sym, subst}
 use Rattle.std.proofs.lemmas.Result.{err_from_is_err_and}
 use Rattle.ent_epoch.specs.Epoch.{carried_over}
-use Rattle.ent_renewal.specs.Renewal.{rows_together}
+use Rattle.ent_epoch.specs.Passed.{rows_together}
 use Rattle.ent_tree.specs.declared.limits.TheConstants.{MOST_OPENING_ROWS}
 use Rattle.ent_admission.specs.Acts.{Advances}
 use Rattle.ent_admission.specs.Admission.{IsAtRest}

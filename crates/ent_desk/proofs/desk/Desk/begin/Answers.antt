@@ -1,6 +1,6 @@
 use Rattle.std.proofs.Common.{◌≡◌, ◌∙◌, suc, List, ap, drop, length, refl, subst, sym}
 use Rattle.ent_core.specs.Reply.{reply_seen}
-use Rattle.ent_headline.specs.Resolved.{resolved_forms}
+use Rattle.ent_core.specs.Passed.{resolved_forms}
 use Rattle.ent_protocol.specs.Event.{Begin}
 use Rattle.ent_protocol.specs.Quiet.{CanMove}
 use Rattle.ent_desk.specs.Advance.{MakesUnless}

@@ -1,6 +1,6 @@
 use Rattle.std.proofs.Common.{refl, subst}
 use Rattle.ent_core.specs.Begin.{begin_refusal_seen}
-use Rattle.ent_headline.specs.Resolved.{resolved_forms}
+use Rattle.ent_core.specs.Passed.{resolved_forms}
 use Rattle.ent_protocol.specs.Quiet.{CanMove}
 use Rattle.ent_desk.specs.Seen.{DeskState}
 use Rattle.ent_desk.proofs.Standstill.{cannot_move, refusal_idle}

@@ -1,7 +1,7 @@
 use Rattle.std.proofs.Common.{◌∙◌, subst, sym}
 use Rattle.ent_book.specs.Tables.{book_seen}
 use Rattle.ent_protocol.specs.Reached.{CanClose, scripts_of}
-use Rattle.ent_headline.specs.Resolved.{resolved_forms}
+use Rattle.ent_core.specs.Passed.{resolved_forms}
 use Rattle.ent_desk.specs.Accounted.{IsAccounted}
 use Rattle.ent_desk.specs.Seen.{DeskState}
 use Rattle.ent_desk.proofs.Closed.{closed}

@@ -1,6 +1,6 @@
 use Rattle.std.proofs.Common.{◌≡◌, ◌∙◌, ap, subst, sym, false}
 use Rattle.ent_core.specs.Reply.{reply_seen}
-use Rattle.ent_headline.specs.Resolved.{resolved_forms}
+use Rattle.ent_core.specs.Passed.{resolved_forms}
 use Rattle.ent_protocol.specs.Event.{StartRun}
 use Rattle.ent_desk.specs.Advance.{Advances, IsStill}
 use Rattle.ent_desk.specs.Seen.{DeskState}

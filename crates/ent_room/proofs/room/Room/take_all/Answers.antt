@@ -1,8 +1,7 @@
 use Rattle.std.proofs.Common.{◌≡◌, ◌∙◌, [], ◌∷◌, ◌++◌, None, sym, subst, ap}
 use Rattle.std.proofs.lemmas.List.{append_assoc}
-use Rattle.ent_core.specs.Play.{scripts_fault}
+use Rattle.ent_admission.specs.Passed.{Epoch, scripts_fault}
 use Rattle.ent_admission.specs.Admission.{IsFormed}
-use Rattle.ent_epoch.specs.Epoch.{Epoch}
 use Rattle.ent_waiting.specs.WaitingList.{WaitingList}
 use Rattle.ent_room.specs.Putting.{with_put}
 use Rattle.ent_room.specs.declared.putting.Stay.TheVariants.{AsWritten}

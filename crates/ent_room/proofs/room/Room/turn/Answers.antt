@@ -1,7 +1,6 @@
 use Rattle.std.proofs.Common.{◌<◌, subst}
 use Rattle.std.proofs.lemmas.Result.{err_from_is_err_and}
-use Rattle.ent_epoch.specs.Epoch.{carried_over}
-use Rattle.ent_renewal.specs.Renewal.{rows_together}
+use Rattle.ent_admission.specs.Passed.{carried_over, rows_together}
 use Rattle.ent_tree.specs.declared.limits.TheConstants.{MOST_OPENING_ROWS}
 use Rattle.ent_room.specs.Room.{Room}
 use Rattle.ent_room.proofs.room.Room.turn.Goals as goal
