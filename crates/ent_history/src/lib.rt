@@ -6,8 +6,7 @@
 //!
 //! The form of a report of version 2: which line can stand below those that stand above it, and where a text can end.
 //!
-//! These are definitions, said section by section. The crate has no function: laws of the definitions stand in crates
-//! above it.
+//! These definitions are said section by section; laws of them stand in crates above.
 //!
 //! The rules over what a report tells: what breaks each of them, and that none is broken exactly where the book that
 //! is told of is legal.

@@ -9,9 +9,7 @@
 //! and of what it limits, which is a type of the tree, a table, a list of members, the scripts of a core, or the bytes
 //! of an input or of a report. So neither a constant nor what it limits can change unnoticed.
 //!
-//! That the reports of the program are right.
-//!
-//! The function here has no body: its contract is a law of what the program writes.
+//! That the reports of the program are right: a law of what the program writes.
 #![tactic(auto)]
 
 mod characters;
