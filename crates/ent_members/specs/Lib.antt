@@ -4,7 +4,6 @@ pub mod Changes
 pub mod Answered
 pub mod Conflict
 pub mod InRun
-pub mod Asked
 pub mod Form
 pub mod Next
 pub mod Turn

@@ -25,7 +25,6 @@ mod cause;
 mod conflict;
 mod entrant;
 mod fates;
-mod first_asked;
 mod form;
 mod hold;
 mod leaving;

@@ -28,7 +28,7 @@ pub enum Next {
 }
 
 /// A closed statement as what comes next.
-pub(crate) fn statement_next(alloc: Global, statement: Statement<Value>) -> Result<Next, AllocError>
+fn statement_next(alloc: Global, statement: Statement<Value>) -> Result<Next, AllocError>
     ensures { IfOk result (λ next. next_seen next ≡ statement_next statement) }
 {
     match statement {
@@ -70,13 +70,7 @@ fn next_in(alloc: Global, own: &SubmittedScript, member: &Member) -> Result<Next
     ensures rolls_back { next_in (Some own.now) member.now ≡ RollsBack → IsOk result }
 {
     match element(own.form(), member.place() as u64) {
-        Some(form) => match own.asked_at(member.place(), member.environment()) {
-            Some(asked) => {
-                let shared = asked.clone()?;
-                Ok(Next::Asks(shared))
-            }
-            None => form_next(alloc, form, member.environment()),
-        },
+        Some(form) => form_next(alloc, form, member.environment()),
         None => Ok(end_next(own.end())),
     }
 }
