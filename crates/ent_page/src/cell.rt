@@ -1,7 +1,8 @@
 //! Values that stand as bytes.
-ghost use Rattle.std.specs.Prelude.{◌≡◌, IfOk};
+ghost use Rattle.std.specs.Prelude.{◌≡◌, IfOk, nat_eq};
 ghost use Rattle.std.proofs.Common.{rules};
 ghost use Rattle.std.specs.Cmp.{eq_by_cmp_equiv, partial_order_from_total, partial_equiv_from_equiv};
+ghost use Rattle.std.specs.Cmp.Lexicographic.{pointwise};
 ghost use Rattle.std.specs.Cmp.Rules.{comparing};
 ghost use Rattle.std.specs.Ordering.{as_partial_cmp, eq_by_cmp};
 ghost use Rattle.ent_value.specs.Value.{value_cmp, kind_of};
@@ -60,20 +61,36 @@ impl<'a> Cell<'a> {
     }
 }
 
+/// Whether two lists of bytes are the same. Lists of cells are mostly so short that a plain loop is the fastest.
+fn are_same_bytes(left: &[u8], right: &[u8]) -> bool
+    ensures { result ≡ pointwise nat_eq left.now right.now }
+{
+    if left.len() != right.len() {
+        return false;
+    }
+    for index in 0..left.len() {
+        if left[index] != right[index] {
+            return false;
+        }
+    }
+    true
+}
+
 impl<'a> PartialEq for Cell<'a> {
     ghost eq = { eq_by_cmp value_cmp };
 
     ghost laws = { partial_equiv_from_equiv (eq_by_cmp_equiv values_total) };
 
+    #[inline(always)]
     fn eq(&self, other: &Cell<'a>) -> bool {
         match self.kind {
             Kind::Int => match other.kind {
-                Kind::Int => self.bytes == other.bytes,
+                Kind::Int => are_same_bytes(self.bytes, other.bytes),
                 Kind::Text => false,
             },
             Kind::Text => match other.kind {
                 Kind::Int => false,
-                Kind::Text => self.bytes == other.bytes,
+                Kind::Text => are_same_bytes(self.bytes, other.bytes),
             },
         }
     }

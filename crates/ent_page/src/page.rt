@@ -66,6 +66,7 @@ impl Page {
     }
 
     /// The key at an index, counted from 0.
+    #[inline(always)]
     pub fn key(&self, index: usize) -> &[u8]
         requires { index < length self.now }
         ensures { result.now ≡ get_or self.now index [] }

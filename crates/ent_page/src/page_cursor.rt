@@ -41,6 +41,7 @@ impl<'a> PageCursor<'a> {
     }
 
     /// The next key, or `None` after the last.
+    #[inline(always)]
     pub(crate) fn next_key(&mut self) -> Option<&'a [u8]>
         ensures { MatchOption result ((self.old ≡ []) × (self.new ≡ [])) (λ key. self.old ≡ key.now ∷ self.new) }
     {

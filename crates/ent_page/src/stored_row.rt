@@ -49,6 +49,7 @@ impl<'a> StoredRow<'a> {
     }
 
     /// The cell at an index, counted from 0.
+    #[inline(always)]
     pub fn cell(&self, index: usize) -> Cell<'a>
         requires { index < length self.now }
         ensures { slice_get self.now index ≡ Some result }

@@ -38,6 +38,7 @@ impl<'a> RowCursor<'a> {
     }
 
     /// The next row, or `None` after the last.
+    #[inline(always)]
     pub fn next_row(&mut self) -> Option<StoredRow<'a>>
         ensures { MatchOption result ((self.old ≡ []) × (self.new ≡ [])) (λ row. self.old ≡ row ∷ self.new) }
     {

@@ -131,3 +131,8 @@ pub begins_with : {X : Type 0} (xs : List X) (x : X) → 1 ≤ length xs → x �
     → xs ≡ x ∷ take (length xs - 1) (drop 1 xs)
 begins_with [] x le is = absurd (omega arith)
 begins_with (y ∷ xs) x le is = sym (λ i. is i ∷ take_all (length (y ∷ xs) - 1) xs (omega arith) i)
+
+-- a test that all pass leaves all
+pub all_pass : {X : Type 0} (xs : List X) → filter (λ x. true) xs ≡ xs
+all_pass [] = refl
+all_pass (x ∷ xs) = ap (λ others. x ∷ others) (all_pass xs)

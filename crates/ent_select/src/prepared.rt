@@ -1,7 +1,8 @@
 //! Tests of a WHERE, made ready once for all rows of a source.
 ghost use Rattle.std.specs.Prelude.{◌≡◌, ◌++◌, IfOk, List, slice_get, slice_index_or};
 ghost use Rattle.ent_value.specs.declared.value.Value.{Value as Held};
-ghost use Rattle.ent_semantics.specs.Selection.{holds, meets};
+ghost use Rattle.ent_value.specs.Value.{value_cmp};
+ghost use Rattle.ent_semantics.specs.Selection.{compares, holds, meets};
 ghost use Rattle.ent_semantics.specs.Term.{no_value};
 ghost use Rattle.ent_select.specs.Early.{may_hold, may_meet, value_there};
 ghost use Rattle.ent_select.specs.Prepared.{prepared_value, prepared_holds, prepared_meets};
@@ -118,7 +119,19 @@ fn holds(test: &PreparedTest, none: &KnownValue, row: &StoredRow<'_>) -> bool
 {
     let left = operand_cell(&test.left, none, row);
     let right = operand_cell(&test.right, none, row);
-    compares(test.comparison, left.cmp(&right))
+    cells_compare(test.comparison, left, right)
+}
+
+/// Whether two cells compare so. Whether they are equal shows sooner than which is less.
+#[inline(always)]
+fn cells_compare(comparison: Comparison, left: Cell<'_>, right: Cell<'_>) -> bool
+    ensures { result ≡ compares comparison (value_cmp left.entry right.entry) }
+{
+    match comparison {
+        Comparison::Equal => left == right,
+        Comparison::NotEqual => left != right,
+        _ => compares(comparison, left.cmp(&right)),
+    }
 }
 
 /// Whether a test holds over a row, or speaks of a column behind it.
@@ -127,13 +140,14 @@ fn may_hold(test: &PreparedTest, row: &StoredRow<'_>) -> bool
 {
     if let Some(left) = cell_there(&test.left, row) {
         if let Some(right) = cell_there(&test.right, row) {
-            return compares(test.comparison, left.cmp(&right));
+            return cells_compare(test.comparison, left, right);
         }
     }
     true
 }
 
 /// The value of an operand in a row, where it stands; `none`, where the row has no such column.
+#[inline(always)]
 fn operand_cell<'a>(
     operand: &'a PreparedOperand,
     none: &'a KnownValue,
@@ -148,6 +162,7 @@ fn operand_cell<'a>(
 }
 
 /// The value of a column in a row, where it stands; `none`, where the row has no such column.
+#[inline(always)]
 fn column_cell<'a>(number: usize, none: &'a KnownValue, row: &'a StoredRow<'_>) -> Cell<'a>
     ensures { result ≡ slice_index_or row.now number none.now }
 {

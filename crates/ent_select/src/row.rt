@@ -34,7 +34,7 @@ pub(crate) fn item_row(
     let none = Value::Int(0);
     let mut values = Vec::with_capacity(alloc, items.len())?;
     for item in items {
-        values.push(operand_value(row, item, &none).copy(alloc)?)?;
+        values.push_reserved(operand_value(row, item, &none).copy(alloc)?);
     }
     Ok(Row::from_vec(values))
 }
@@ -50,7 +50,7 @@ pub(crate) fn shown_row(
 {
     let mut values = Vec::with_capacity(alloc, items.len())?;
     for item in items {
-        values.push(shown_value(alloc, item, front, row)?)?;
+        values.push_reserved(shown_value(alloc, item, front, row)?);
     }
     Ok(Row::from_vec(values))
 }

@@ -52,7 +52,10 @@ fn show_rows(
 {
     while let Some(row) = rows.next_row() {
         if tests.meets(&row) {
-            found.push(shown_row(alloc, items, front, &row)?)?;
+            if found.len() == found.capacity() {
+                found.reserve(1)?;
+            }
+            found.push_reserved(shown_row(alloc, items, front, &row)?);
         }
     }
     Ok(())
@@ -69,6 +72,9 @@ fn source_rows<'a>(
     ensures { IfOk result (λ rows. AreNarrowed tests.now front.now table.now.rows rows) }
 {
     let first = first_values(alloc, front, tests, table.kinds())?;
+    if first.is_empty() {
+        return Ok(table.cursor());
+    }
     table.look_up(alloc, first.as_slice())
 }
 
