@@ -1,104 +1,68 @@
 //! One client of the service.
-use ent_serve::{Gate, Manager, Naming, NotSubmitted, Session, Turn};
+use ent_serve::{Gate, Manager, Naming, NotSubmitted, Session};
 use ent_tree::Script;
 use ent_value::Refusal;
-use std::alloc::AllocError;
 use std::sync::Wait;
 use std::thread;
+use std::time::{Clock, Duration};
 
-/// A client that comes: the scripts of what it wants, and its session.
+/// A client who comes after a while: what is wanted, and its session.
 #[derive(Drop)]
 pub(crate) struct Client<L: Naming> {
-    pub(crate) scripts: Vec<Script>,
+    pub(crate) after: Duration,
+    pub(crate) script: Script,
     pub(crate) session: Session<L>,
 }
 
-/// The script that comes back where memory ran out; none where it is taken, or refused for good.
-fn left(submitted: Result<u64, NotSubmitted>) -> Option<Script> {
-    let Err(refused) = submitted else {
-        return None;
-    };
-    if refused.refusal == Refusal::Memory {
-        Some(refused.script)
-    } else {
-        None
+/// How a submit came out.
+#[derive(Drop)]
+enum Submitted {
+    Taken(u64),
+    /// Memory ran out, and the script came back.
+    Again(Script),
+    Refused,
+}
+
+fn submitted(told: Result<u64, NotSubmitted>) -> Submitted {
+    match told {
+        Ok(tx) => Submitted::Taken(tx),
+        Err(refused) if refused.refusal == Refusal::Memory => Submitted::Again(refused.script),
+        Err(_) => Submitted::Refused,
     }
 }
 
-/// Submits a script, again as often as memory runs out.
+/// Submits a script, again as often as memory runs out: its number, or None where it is refused for good.
 fn submit<L: Naming, G: Gate, R: Wait>(
     rt: &R,
     manager: &Manager<L, G>,
     session: &mut Session<L>,
     script: Script,
-) {
-    let mut next = Some(script);
+) -> Option<u64> {
+    let mut next = script;
     for _ in rt.forever() {
-        match next.take() {
-            Some(script) => next = left(manager.submit(rt, session, script)),
-            None => break,
+        match submitted(manager.submit(rt, session, next)) {
+            Submitted::Taken(tx) => return Some(tx),
+            Submitted::Again(script) => next = script,
+            Submitted::Refused => return None,
         }
     }
+    unreachable!()
 }
 
-/// Submits what a client wants; then it has its session alone.
-pub(crate) fn submit_all<L: Naming, G: Gate, R: Wait>(
+/// A client comes, submits what is wanted, and waits for its fate. Then it has its session alone.
+pub(crate) fn visit<L: Naming, G: Gate, R: Wait + Clock>(
     rt: &R,
     manager: &Manager<L, G>,
     client: Client<L>,
 ) -> Session<L> {
     let Client {
-        scripts,
+        after,
+        script,
         mut session,
     } = client;
-    for script in scripts {
-        submit(rt, manager, &mut session, script);
+    thread::sleep(rt, after);
+    if let Some(tx) = submit(rt, manager, &mut session, script) {
+        manager.wait_for(rt, &mut session, tx);
     }
     session
-}
-
-/// Whether each script of a session has its fate.
-fn is_served<L: Naming, G: Gate, R: Wait>(
-    rt: &R,
-    manager: &Manager<L, G>,
-    session: &Session<L>,
-) -> bool {
-    for ticket in session.tickets() {
-        if manager.fate(rt, session, ticket.tx).is_none() {
-            return false;
-        }
-    }
-    true
-}
-
-/// Works until each script of a session has its fate. Where memory runs out, the call is made again, also if all its
-/// scripts have their fates: the session may hold a job for which all others wait. It leaves after a call that went
-/// well.
-pub(crate) fn work_on<L: Naming, G: Gate, R: Wait>(
-    rt: &R,
-    manager: &Manager<L, G>,
-    mut session: Session<L>,
-) -> Session<L> {
-    for _ in rt.forever() {
-        match manager.work(rt, &mut session) {
-            Ok(_) if is_served(rt, manager, &session) => break,
-            Ok(Turn::Idle) | Err(AllocError) => thread::yield_now(),
-            Ok(_) => {}
-        }
-    }
-    session
-}
-
-/// Works until nothing is left: a run may be on still when each script has its fate.
-pub(crate) fn work_out<L: Naming, G: Gate, R: Wait>(
-    rt: &R,
-    manager: &Manager<L, G>,
-    session: &mut Session<L>,
-) {
-    for _ in rt.forever() {
-        match manager.work(rt, session) {
-            Ok(Turn::Done) => break,
-            Ok(_) | Err(AllocError) => {}
-        }
-    }
 }

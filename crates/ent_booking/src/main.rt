@@ -1,9 +1,11 @@
-//! A booking service. Four clients, each in a thread of its own with a session of its own, book at once: friends who
-//! want one flight, three who trade seats in a ring, one whose partner never comes, and an ordinary buyer. What it
-//! prints is the same whatever the schedule.
+//! A booking service whose clients come at different times: friends who want one flight, three who trade seats in a
+//! ring, one whose partner never comes, and an ordinary buyer. Each has a thread and a session of its own, submits its
+//! script, and waits for its fate; a thread of the service starts and ends the runs by the clock. What it prints is the
+//! same whatever the schedule.
 #![tactic(auto)]
 
 mod client;
+mod pace;
 mod report;
 mod service;
 mod text;

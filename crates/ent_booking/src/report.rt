@@ -62,7 +62,7 @@ pub(crate) fn append_report<L: Naming>(
     sessions: &[Session<L>],
 ) -> Result<(), AllocError> {
     for (place, session) in sessions.iter().enumerate() {
-        if let Some((name, _)) = CLIENTS.get(place) {
+        if let Some((name, _, _)) = CLIENTS.get(place) {
             append_client(out, name, book, session)?;
         }
     }

@@ -14,33 +14,39 @@ INSERT INTO Seats VALUES ('14C', 'Bob');
 INSERT INTO Seats VALUES ('20F', 'Cleo');
 ";
 
-/// Two friends who want one flight to LA, whichever it is.
-pub(crate) const FRIENDS: &str = "BEGIN TRANSACTION;
+/// A script that books a flight to LA with a friend, whichever it is. It waits long for the friend.
+pub(crate) const MICKEY: &str = "BEGIN TRANSACTION WITHIN 1000 RUNS;
 SELECT 'Mickey', fno AS @f INTO ANSWER Flying
   WHERE fno IN (SELECT fno FROM Flights WHERE dest = 'LA') AND ('Minnie', fno) IN ANSWER Flying CHOOSE 1;
 INSERT INTO Bookings VALUES ('Mickey', @f);
 COMMIT;
-BEGIN TRANSACTION;
+";
+
+pub(crate) const MINNIE: &str = "BEGIN TRANSACTION WITHIN 1000 RUNS;
 SELECT 'Minnie', fno AS @f INTO ANSWER Flying
   WHERE fno IN (SELECT fno FROM Flights WHERE dest = 'LA') AND ('Mickey', fno) IN ANSWER Flying CHOOSE 1;
 INSERT INTO Bookings VALUES ('Minnie', @f);
 COMMIT;
 ";
 
-/// Three who trade seats in a ring: each moves only if another one takes the seat that is left.
-pub(crate) const TRADERS: &str = "BEGIN TRANSACTION;
+/// Scripts that trade seats in a ring: each moves only if another one takes the seat that is left.
+pub(crate) const ANN: &str = "BEGIN TRANSACTION WITHIN 1000 RUNS;
 SELECT 'Ann', seat AS @seat INTO ANSWER Moves
   WHERE seat IN (SELECT seat FROM Seats WHERE who = 'Bob') AND own IN (SELECT seat FROM Seats WHERE who = 'Ann')
     AND ('Cleo', own) IN ANSWER Moves CHOOSE 1;
 INSERT INTO Changes VALUES ('Ann', @seat);
 COMMIT;
-BEGIN TRANSACTION;
+";
+
+pub(crate) const BOB: &str = "BEGIN TRANSACTION WITHIN 1000 RUNS;
 SELECT 'Bob', seat AS @seat INTO ANSWER Moves
   WHERE seat IN (SELECT seat FROM Seats WHERE who = 'Cleo') AND own IN (SELECT seat FROM Seats WHERE who = 'Bob')
     AND ('Ann', own) IN ANSWER Moves CHOOSE 1;
 INSERT INTO Changes VALUES ('Bob', @seat);
 COMMIT;
-BEGIN TRANSACTION;
+";
+
+pub(crate) const CLEO: &str = "BEGIN TRANSACTION WITHIN 1000 RUNS;
 SELECT 'Cleo', seat AS @seat INTO ANSWER Moves
   WHERE seat IN (SELECT seat FROM Seats WHERE who = 'Ann') AND own IN (SELECT seat FROM Seats WHERE who = 'Cleo')
     AND ('Bob', own) IN ANSWER Moves CHOOSE 1;
@@ -48,16 +54,16 @@ INSERT INTO Changes VALUES ('Cleo', @seat);
 COMMIT;
 ";
 
-/// One whose partner never comes.
-pub(crate) const LONER: &str = "BEGIN TRANSACTION WITHIN 3 RUNS;
+/// A script whose partner never comes.
+pub(crate) const DONALD: &str = "BEGIN TRANSACTION WITHIN 3 RUNS;
 SELECT 'Donald', fno AS @f INTO ANSWER Flying
   WHERE fno IN (SELECT fno FROM Flights WHERE dest = 'Paris') AND ('Daisy', fno) IN ANSWER Flying CHOOSE 1;
 INSERT INTO Bookings VALUES ('Donald', @f);
 COMMIT;
 ";
 
-/// An ordinary buyer.
-pub(crate) const BUYER: &str = "BEGIN TRANSACTION;
+/// The script of an ordinary buyer.
+pub(crate) const GOOFY: &str = "BEGIN TRANSACTION;
 INSERT INTO Sales VALUES ('Goofy', 136);
 SELECT fno FROM Sales WHERE who = 'Goofy';
 COMMIT;

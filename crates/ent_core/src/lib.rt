@@ -35,7 +35,9 @@ mod take_out;
 pub use begin::{BeginRefusal, FreeMember};
 pub use closing::{NotClosed, NotDone};
 pub use copies::answers_copy;
-pub use ent_headline::{resolved_forms_are_faithful, resolved_runs_are_legal};
+pub use ent_headline::{
+    resolved_forms_are_faithful, resolved_journals_fit_the_fates, resolved_runs_are_legal,
+};
 pub use ent_waits::Reason;
 pub use event::Event;
 pub use obstacle::Obstacle;

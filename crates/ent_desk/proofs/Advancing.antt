@@ -11,7 +11,7 @@ use Rattle.ent_protocol.specs.Event as events
 use Rattle.ent_protocol.specs.Play.{is_idle}
 use Rattle.ent_protocol.specs.PoolEvents.{Picks}
 use Rattle.ent_protocol.specs.Quiet.{CanMove, IsReason, NoneIs}
-use Rattle.ent_protocol.specs.Reached.{IsFinished, IsReached, book_of}
+use Rattle.ent_protocol.specs.Reached.{CanClose, IsFinished, IsReached, book_of}
 use Rattle.ent_protocol.specs.Run.{BreaksIfAny, Ends, EndsWhileRunning, Starts, StartsWith}
 use Rattle.ent_protocol.specs.State.{State, Dormant}
 use Rattle.ent_protocol.specs.Step.{Step}
@@ -19,7 +19,9 @@ use Rattle.ent_protocol.specs.Waits.{NoDeadlock}
 use Rattle.ent_protocol_laws.specs.ByNumber.{StandByNumber}
 use Rattle.ent_protocol_laws.specs.Standing.{StandOnce}
 use Rattle.ent_termination.specs.Fates.{HaveFates}
-use Rattle.ent_desk.specs.Advance.{Advances, BeginsUnless, IsNext, IsStill, Makes, MakesUnless, advance_in, moved_unless}
+use Rattle.ent_desk.specs.Advance.{Advances, AdvancesInRun, BeginsUnless, EndsRun, IsDone, IsNext}
+use Rattle.ent_desk.specs.Advance.{IsNextInRun, IsStill, Makes, MakesUnless, MovesInRun, MovesUnlessStill, RestsAs}
+use Rattle.ent_desk.specs.Advance.{StartsRun, advance_in, moved_unless}
 use Rattle.ent_desk.specs.Seen.{DeskState, LeadsOn}
 use Rattle.ent_desk.specs.declared.advance.Advance.{Advance}
 use Rattle.ent_desk.specs.declared.advance.Advance.TheVariants as advances
@@ -116,6 +118,15 @@ pub next_made : (event : Event) (before after : DeskState) (told : Advance) → 
 next_made event before after told next makes =
     by_told event before after told (moves_told makes.reply told makes.tells) next makes
 
+-- no run is on, and nobody waits for one
+pub is_done : (s : State) → IsReached resolved_forms s → CanClose s
+    → ((s : State) → IsFinished resolved_forms s → HaveFates (book_of s)) → IsDone s
+is_done s reached closes fates =
+    record {
+      closes = closes;
+      fates = fates s (record { reached = reached; no_run = closes.0; none_dormant = closes.1 });
+    }
+
 -- ---- events
 
 abbrev pub desk : ℕ → State → DeskState
@@ -171,15 +182,25 @@ module _ (count : ℕ) (old new : State) (reply : Reply FormFault) where
   why_busy true on (inl h) none = absurd (told_some advances.Moved (events.Ended _) h.1 refl none)
   why_busy true on (inr h) none = (h.2.1, (h.0, h.1))
 
-  pub ended : (told : Advance) → Some told ≡ advance_in reply → IsStill old → Ends old reply new
-      → Advances (desk count old) told (desk count new)
-  ended told is still step =
-      next_made events.EndRun (desk count old) (desk count new) told still (makes events.EndRun (Some told) is step)
+  ends_told : (told : Advance) (running : Bool) → running ≡ true → EndsWhileRunning old running reply new
+      → Some told ≡ advance_in reply → advances.Moved ≡ told
+  ends_told told false on step is = clash false on refl
+  ends_told told true on (inl h) is =
+      let both : Some told ≡ Some advances.Moved = is ∙ ap (λ (r : Reply FormFault). advance_in r) h.1 in cc
+  ends_told told true on (inr h) is = absurd (not_none told (sym (is ∙ ap (λ (r : Reply FormFault). advance_in r) h.2.0)))
 
-  pub kept_waiting : None ≡ advance_in reply → old.running ≡ true → IsStill old → Ends old reply new
-      → Advances (desk count old) advances.Idle (desk count new)
-  kept_waiting none on still step =
-      let h = why_busy old.running on step none in (ap (desk count) h.0, awaits old on still h.1.0 h.1.1)
+  pub ended : (told : Advance) → Some told ≡ advance_in reply → old.running ≡ true → Ends old reply new
+      → EndsRun (desk count old) told (desk count new)
+  ended told is on step =
+      let moved = ends_told told old.running on step is in
+      subst (λ (t : Advance). EndsRun (desk count old) t (desk count new)) moved
+      (makes events.EndRun (Some advances.Moved) (ap Some moved ∙ is) step)
+
+  pub kept_busy : None ≡ advance_in reply → old.running ≡ true → Ends old reply new
+      → EndsRun (desk count old) advances.Idle (desk count new)
+  kept_busy none on step =
+      let h = why_busy old.running on step none in
+      (ap (desk count) h.0, (λ closes. clash old.running on closes.0), (λ running. h.1))
 
   -- ---- the start of a run
 
@@ -190,46 +211,140 @@ module _ (count : ℕ) (old new : State) (reply : Reply FormFault) where
   none_started false (first ∷ more) off h none =
       absurd (told_some advances.Moved (events.Started _) h.0 refl none)
 
-  pub started : (told : Advance) → Some told ≡ advance_in reply → IsStill old → Starts old reply new
-      → Advances (desk count old) told (desk count new)
-  started told is still step =
-      next_made events.StartRun (desk count old) (desk count new) told still
-      (makes events.StartRun (Some told) is step)
+  starts_told : (told : Advance) (running : Bool) (dormant : List Dormant) → running ≡ false
+      → StartsWith old running dormant reply new → Some told ≡ advance_in reply → advances.Moved ≡ told
+  starts_told told true dormant off step is = clash true refl off
+  starts_told told false [] off step is =
+      absurd (not_none told (sym (is ∙ ap (λ (r : Reply FormFault). advance_in r) step.0)))
+  starts_told told false (first ∷ more) off step is =
+      let both : Some told ≡ Some advances.Moved = is ∙ ap (λ (r : Reply FormFault). advance_in r) step.0 in cc
+
+  pub started : (told : Advance) → Some told ≡ advance_in reply → old.running ≡ false → Starts old reply new
+      → StartsRun (desk count old) told (desk count new)
+  started told is off step =
+      let moved = starts_told told old.running old.dormant off step is in
+      subst (λ (t : Advance). StartsRun (desk count old) t (desk count new)) moved
+      (makes events.StartRun (Some advances.Moved) (ap Some moved ∙ is) step)
 
   pub all_done : None ≡ advance_in reply → old.running ≡ false → Starts old reply new → IsReached resolved_forms old
       → ((s : State) → IsFinished resolved_forms s → HaveFates (book_of s))
-      → Advances (desk count old) advances.Done (desk count new)
+      → StartsRun (desk count old) advances.Done (desk count new)
   all_done none off step reached fates =
-      let h = none_started old.running old.dormant off step none in (
-        ap (desk count) h.0,
-        record {
-          closes = (off, h.1);
-          fates = fates old (record { reached = reached; no_run = off; none_dormant = h.1 });
-        },
-      )
+      let h = none_started old.running old.dormant off step none in
+      (ap (desk count) h.0, is_done old reached (off, h.1) fates)
+
+-- ---- in a run
+
+in_run_next : (s : State) (event : Event) → IsNextInRun s event → IsNext s event
+in_run_next s (events.Submit script) next = next
+in_run_next s events.StartRun next = absurd next
+in_run_next s (events.Begin tx) next = next
+in_run_next s (events.Finish done) next = next
+in_run_next s events.Pick next = next
+in_run_next s (events.JoinAnswer done) next = next
+in_run_next s events.BreakCycle next = next
+in_run_next s events.EndRun next = absurd next
+in_run_next s events.Recall next = next
+
+pub moves_advance : (before after : DeskState) (told : Advance) → MovesInRun before told after
+    → Advances before told after
+moves_advance before after told h = next_made h.0 before after told (in_run_next before.core h.0 h.1) h.2
+
+pub moves_in_run : (before after : DeskState) (told : Advance) → MovesInRun before told after
+    → AdvancesInRun before told after
+moves_in_run before after (advances.Lent job) h = h
+moves_in_run before after advances.Moved h = h
+moves_in_run before after advances.Idle h =
+    clash false (moves_told h.2.reply advances.Idle h.2.tells) refl
+moves_in_run before after advances.Done h =
+    clash false (moves_told h.2.reply advances.Done h.2.tells) refl
+
+pub rests_in_run : (before after : DeskState) (told : Advance) → after ≡ before → IsStill before.core
+    → RestsAs after.core told → AdvancesInRun before told after
+rests_in_run before after (advances.Lent job) same still h = absurd h
+rests_in_run before after advances.Moved same still h = absurd h
+rests_in_run before after advances.Idle same still h =
+    (same, still, subst (λ (d : DeskState). ¬ CanClose d.core) same h)
+rests_in_run before after advances.Done same still h = (same, subst (λ (d : DeskState). IsDone d.core) same h)
+
+-- ---- runs
+
+pub ends_advance : {E : Type 0} (r : Result Advance E) (before after : DeskState) → before.core.running ≡ true
+    → IsStill before.core → IfOk r (λ told. EndsRun before told after) → IfOk r (λ told. Advances before told after)
+ends_advance (Ok (advances.Lent job)) before after on still h = absurd h
+ends_advance (Ok advances.Moved) before after on still h = (events.EndRun, still, h)
+ends_advance (Ok advances.Idle) before after on still h =
+    let why = h.2 on in (h.0, awaits before.core on still why.0 why.1)
+ends_advance (Ok advances.Done) before after on still h = h
+ends_advance (Err fault) before after on still h = tt
+
+pub starts_advance : {E : Type 0} (r : Result Advance E) (before after : DeskState) → before.core.running ≡ false
+    → IsStill before.core → IfOk r (λ told. StartsRun before told after)
+    → IfOk r (λ told. Advances before told after)
+starts_advance (Ok (advances.Lent job)) before after off still h = absurd h
+starts_advance (Ok advances.Moved) before after off still h = (events.StartRun, still, h)
+starts_advance (Ok advances.Idle) before after off still h = clash before.core.running h.1 off
+starts_advance (Ok advances.Done) before after off still h = h
+starts_advance (Err fault) before after off still h = tt
+
+-- a run can't end where none is on
+pub rests_as_ended : (s : DeskState) (told : Advance) → s.core.running ≡ false → RestsAs s.core told
+    → EndsRun s told s
+rests_as_ended s (advances.Lent job) off h = absurd h
+rests_as_ended s advances.Moved off h = absurd h
+rests_as_ended s advances.Idle off h = (refl, h, (λ on. clash s.core.running on off))
+rests_as_ended s advances.Done off h = (refl, h)
 
 -- ---- one part of an advance after another
 
-pub moved : (fact : Type 0) (event : Event) (before after : DeskState) (told : Option Advance) (advance : Advance)
-    → IsNext before.core event → told ≡ Some advance → MakesUnless fact event before told after
-    → Advances before advance after
-moved fact event before after told advance next is h =
-    next_made event before after advance next
-    (subst (λ (t : Option Advance). MakesUnless fact event before t after) is h)
+pub moved_in_run : (fact : Type 0) (event : Event) (before after : DeskState) (told : Option Advance)
+    (advance : Advance) → IsNextInRun before.core event → told ≡ Some advance
+    → MakesUnless fact event before told after → MovesInRun before advance after
+moved_in_run fact event before after told advance next is h =
+    (event, next, subst (λ (t : Option Advance). MakesUnless fact event before t after) is h)
 
 pub stayed : (fact : Type 0) (event : Event) (before after : DeskState) (told : Option Advance) → told ≡ None
     → MakesUnless fact event before told after → (after ≡ before) × fact
 stayed fact event before after told is h = subst (λ (t : Option Advance). MakesUnless fact event before t after) is h
 
 pub begun_first : (before after : DeskState) (told : Option Advance) (advance : Advance) → told ≡ Some advance
-    → BeginsUnless before told after → Advances before advance after
+    → BeginsUnless before told after → MovesInRun before advance after
 begun_first before after told advance is h = subst (λ (t : Option Advance). BeginsUnless before t after) is h
 
 pub none_begun : (before after : DeskState) (told : Option Advance) → told ≡ None → BeginsUnless before told after
     → (after ≡ before) × NoneIs (CanMove before.core)
 none_begun before after told is h = subst (λ (t : Option Advance). BeginsUnless before t after) is h
 
+pub run_moved : (before after : DeskState) (told : Option Advance) (advance : Advance) → told ≡ Some advance
+    → MovesUnlessStill before told after → MovesInRun before advance after
+run_moved before after told advance is h =
+    subst (λ (t : Option Advance). MovesUnlessStill before t after) is h
+
+pub run_still : (before after : DeskState) (told : Option Advance) → told ≡ None
+    → MovesUnlessStill before told after → (after ≡ before) × IsStill before.core
+run_still before after told is h = subst (λ (t : Option Advance). MovesUnlessStill before t after) is h
+
+-- a deadlock is broken, or there is none
+pub broken_or_still : (before mid after : DeskState) (told : Option Advance) → mid ≡ before
+    → NoneIs (CanMove before.core) → NoneCanBePicked before.core
+    → MakesUnless (NoDeadlock mid.core) events.BreakCycle mid told after → MovesUnlessStill before told after
+broken_or_still before mid after (Some told) is nobody none h =
+    (events.BreakCycle, (nobody, none), subst (λ (d : DeskState). Makes events.BreakCycle d (Some told) after) is h)
+broken_or_still before mid after None is nobody none h = (
+  h.0 ∙ is,
+  record {
+    nobody_moves = nobody;
+    none_picked = none;
+    no_deadlock = subst (λ (d : DeskState). NoDeadlock d.core) is h.1;
+  },
+)
+
 -- what comes behind a part that changed nothing
+pub behind_still : {E : Type 0} (r : Result (Option Advance) E) (before mid after : DeskState) → mid ≡ before
+    → IfOk r (λ told. MovesUnlessStill mid told after) → IfOk r (λ told. MovesUnlessStill before told after)
+behind_still r before mid after is h =
+    subst (λ (d : DeskState). IfOk r (λ told. MovesUnlessStill d told after)) is h
+
 pub behind : {E : Type 0} (r : Result Advance E) (before mid after : DeskState) → mid ≡ before
     → IfOk r (λ advance. Advances mid advance after) → IfOk r (λ advance. Advances before advance after)
 behind r before mid after is h = subst (λ (d : DeskState). IfOk r (λ advance. Advances d advance after)) is h

@@ -19,8 +19,8 @@ use Rattle.ent_core.specs.Passed.{resolved_forms}
 use Rattle.ent_desk.specs.declared.ticket.Receipt.{Receipt}
 use Rattle.ent_desk.specs.declared.ticket.Ticket.{Ticket}
 use Rattle.ent_desk.specs.Accounted.{HaveReceipts, IsAccounted}
-use Rattle.ent_desk.specs.Closed.{AreReceiptsOf, HasItsRuns, IsClosedBook, Numbered, all_receipts, all_tickets}
-use Rattle.ent_desk.specs.Closed.{entry_of, entries_from}
+use Rattle.ent_desk.specs.Closed.{AreReceiptsOf, HasItsRuns, IsClosedBook, IsWholeBook, Numbered, all_receipts}
+use Rattle.ent_desk.specs.Closed.{all_tickets, entry_of, entries_from}
 use Rattle.ent_desk.specs.Opened.{tickets_from}
 use Rattle.ent_desk.specs.Receipts.{receipt}
 use Rattle.ent_desk.specs.Seen.{SessionState}
@@ -136,4 +136,24 @@ closed core count sessions book h gathered reached done is fates legal tickets r
           ∙ sym (length-flat_map (λ (session : SessionState). session.tickets) sessions));
       receipts = exact_receipts core (all_receipts sessions) h.receipts
           (receipts ∙ sym (length-flat_map (λ (session : SessionState). session.receipts) sessions));
+    })
+
+-- a book that is given without sessions
+pub whole : (core : State) (count : ℕ) (book : Book Database) → IsGatheredAt resolved_forms count core
+    → IsReached resolved_forms core → CanClose core → book ≡ book_of core → HaveFates book → IsLegal book
+    → IsWholeBook book
+whole core count book gathered reached done is fates legal =
+    subst IsWholeBook (sym is)
+    (record {
+      count = count;
+      finished = record {
+        last = core;
+        finished = record { reached = reached; no_run = done.0; none_dormant = done.1 };
+        of_opening = refl;
+        of_scripts = refl;
+        is = refl;
+      };
+      gathered = gathered;
+      fates = subst HaveFates is fates;
+      legal = subst IsLegal is legal;
     })

@@ -22,7 +22,7 @@ use Rattle.ent_protocol.specs.Member.{Next, Ordinary, Asks, Commits, RollsBack, 
 use Rattle.ent_protocol.specs.PoolEvents.{Picks, JoinsOrIsStale, AnswersBy}
 use Rattle.ent_protocol.specs.Rollback.{Asked, rolled_back}
 use Rattle.ent_protocol.specs.Run.{Forms, Starts, StartsWith, BreaksIfAny, Ends, EndsWhileRunning, starting}
-use Rattle.ent_protocol.specs.Run.{SubmitsForm, SubmitsUnless}
+use Rattle.ent_protocol.specs.Run.{Recalls, SubmitsForm, SubmitsUnless}
 use Rattle.ent_protocol.specs.State.{State, Member, Dormant}
 use Rattle.ent_protocol.specs.Step.{Step}
 use Rattle.ent_protocol.specs.Uses.{blocker, entangled_uses, statement_uses}
@@ -173,6 +173,9 @@ module _ {F : Type 0} (old new : State) (reply : Reply F) where
 
   pub ends_none : Ends old reply new → Keeps old new
   ends_none h = ends_while old.running h
+
+  pub recalls_none : Recalls old reply new → Keeps old new
+  recalls_none h = same old _ new h.1 refl refl
 
 -- ---- a script that is taken
 

@@ -2,11 +2,11 @@
 use Rattle.std.proofs.Common.{◌≡◌, ◌+◌, ◌++◌, ◌∙◌, ℕ, suc, List, [], ◌∷◌, refl, ap, arith}
 use Rattle.std.proofs.Common.{Option, Some}
 use Rattle.ent_form.specs.declared.fault.FormFault.{FormFault}
-use Rattle.ent_protocol.specs.Event.{Event, Reply, Submit, Submitted}
+use Rattle.ent_protocol.specs.Event.{EndRun, Event, Reply, StartRun, Submit, Submitted}
 use Rattle.ent_protocol.specs.State.{State}
 use Rattle.ent_protocol.specs.Step.{Step}
 use Rattle.ent_core.specs.Passed.{resolved_forms}
-use Rattle.ent_desk.specs.Advance.{Advances, Makes}
+use Rattle.ent_desk.specs.Advance.{Advances, AdvancesInRun, EndsRun, Makes, StartsRun}
 use Rattle.ent_desk.specs.Kept.{IsKeptDesk}
 use Rattle.ent_desk.specs.Seen.{DeskState, GetsReceipts, LeadsOn, SessionState}
 use Rattle.ent_desk.specs.declared.advance.Advance.{Advance}
@@ -62,7 +62,7 @@ append_nil [] = refl
 append_nil (x ∷ xs) = ap (λ l. x ∷ l) (append_nil xs)
 
 -- what is made leads on
-makes_on : (event : Event) (told : Option Advance) (before after : DeskState) → Makes event before told after
+pub makes_on : (event : Event) (told : Option Advance) (before after : DeskState) → Makes event before told after
     → LeadsOn before after
 makes_on event told before after h =
     record { events = 1; leads = (before.core, event, h.reply, refl, h.step); count = h.count }
@@ -72,6 +72,24 @@ advances_on (advances.Lent job) before after h = makes_on h.0 (Some (advances.Le
 advances_on advances.Moved before after h = makes_on h.0 (Some advances.Moved) before after h.2
 advances_on advances.Idle before after h = none_on before after h.0
 advances_on advances.Done before after h = none_on before after h.0
+
+pub in_run_on : (told : Advance) (before after : DeskState) → AdvancesInRun before told after → LeadsOn before after
+in_run_on (advances.Lent job) before after h = makes_on h.0 (Some (advances.Lent job)) before after h.2
+in_run_on advances.Moved before after h = makes_on h.0 (Some advances.Moved) before after h.2
+in_run_on advances.Idle before after h = none_on before after h.0
+in_run_on advances.Done before after h = none_on before after h.0
+
+pub starts_on : (told : Advance) (before after : DeskState) → StartsRun before told after → LeadsOn before after
+starts_on (advances.Lent job) before after h = absurd h
+starts_on advances.Moved before after h = makes_on StartRun (Some advances.Moved) before after h
+starts_on advances.Idle before after h = none_on before after h.0
+starts_on advances.Done before after h = none_on before after h.0
+
+pub ends_on : (told : Advance) (before after : DeskState) → EndsRun before told after → LeadsOn before after
+ends_on (advances.Lent job) before after h = absurd h
+ends_on advances.Moved before after h = makes_on EndRun (Some advances.Moved) before after h
+ends_on advances.Idle before after h = none_on before after h.0
+ends_on advances.Done before after h = none_on before after h.0
 
 -- nothing was got
 pub gets_none : (old new : SessionState) → new ≡ old → GetsReceipts old new

@@ -8,5 +8,6 @@ pub mod Opened
 pub mod Accounting
 pub mod Drafting
 pub mod Receiving
+pub mod InJournal
 pub mod Standstill
 pub mod Advancing

@@ -88,7 +88,7 @@ module _ (s : State) (once : StandOnce s) where
       (map fated_tx s.fates) behind)
 
   -- who is among the fates stands with this one
-  fate_stands : (own : Fated) → In own s.fates → fate_in (standing s own.tx) ≡ Some own.fate
+  pub fate_stands : (own : Fated) → In own s.fates → fate_in (standing s own.tx) ≡ Some own.fate
   fate_stands own at =
       let only = one_passes fated_tx s.fates own own.tx fates_apart at refl in
       let there : Some own ≡ first_of (filter (λ (one : Fated). one.tx == own.tx) s.fates) = sym (ap first_of only) in

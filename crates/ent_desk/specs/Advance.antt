@@ -4,11 +4,11 @@ use Rattle.std.specs.List.{AllByRecursion}
 use Rattle.ent_core.specs.Pick.{NoneCanBePicked}
 use Rattle.ent_form.specs.declared.fault.FormFault.{FormFault}
 use Rattle.ent_core.specs.Passed.{resolved_forms}
-use Rattle.ent_protocol.specs.Event.{Event, Reply}
+use Rattle.ent_protocol.specs.Event.{Event, Reason, Reply}
 use Rattle.ent_protocol.specs.Event as events
 use Rattle.ent_protocol.specs.Lookup.{running_members}
 use Rattle.ent_protocol.specs.Play.{is_idle}
-use Rattle.ent_protocol.specs.Quiet.{CanMove, HasJobOut, NoneIs}
+use Rattle.ent_protocol.specs.Quiet.{CanMove, HasJobOut, IsReason, NoneIs}
 use Rattle.ent_protocol.specs.Reached.{CanClose, book_of}
 use Rattle.ent_protocol.specs.State.{State}
 use Rattle.ent_protocol.specs.Step.{Step}
@@ -29,6 +29,15 @@ abbrev pub advance_in : {F : Type 0} → Reply F → Option Advance
 advance_in (events.Lent job) = Some (advances.Lent job)
 advance_in other = moved_unless (is_idle other)
 
+-- members leave the run: they have their fates, or wait for another one
+abbrev pub is_leaving : {F : Type 0} → Reply F → Bool
+is_leaving (events.Committed entries) = true
+is_leaving (events.RolledBack group) = true
+is_leaving (events.Failed failure group) = true
+is_leaving (events.Broken cycle group) = true
+is_leaving (events.Ended members) = true
+is_leaving other = false
+
 -- ---- what comes next
 
 -- in the run nobody can begin, nothing can be picked, and there is no deadlock
@@ -48,6 +57,16 @@ IsNext s events.BreakCycle = NoneIs (CanMove s) × NoneCanBePicked s
 IsNext s events.EndRun = IsStill s
 IsNext s events.StartRun = IsStill s
 IsNext s other = ⊥
+
+-- the next one, which neither starts a run nor ends one
+abbrev pub IsNextInRun : State → Event → Type 0
+IsNextInRun s events.StartRun = ⊥
+IsNextInRun s events.EndRun = ⊥
+IsNextInRun s other = IsNext s other
+
+-- something in the run must come before its end
+abbrev pub HasReason : State → Type 0
+HasReason s = (reason : Reason) × IsReason s reason
 
 -- A run is on, a job is out, and nothing can move until it comes back.
 pub record AwaitsJob (s : State) : Type 0 where
@@ -82,7 +101,50 @@ Advances before advances.Idle after = (after ≡ before) × AwaitsJob before.cor
 Advances before advances.Done after = (after ≡ before) × IsDone before.core
 Advances before told after = (event : Event) × IsNext before.core event × Makes event before (Some told) after
 
+-- ---- what is made in a run
+
+-- the next event of the run is made, and tells of it
+abbrev pub MovesInRun : DeskState → Advance → DeskState → Type 0
+MovesInRun before told after =
+    (event : Event) × IsNextInRun before.core event × Makes event before (Some told) after
+
 -- the same of the members of the run; where none of them moves, all is as before
 abbrev pub BeginsUnless : DeskState → Option Advance → DeskState → Type 0
-BeginsUnless before (Some advance) after = Advances before advance after
+BeginsUnless before (Some told) after = MovesInRun before told after
 BeginsUnless before None after = (after ≡ before) × NoneIs (CanMove before.core)
+
+-- the same of the run; where nothing in it moves, all is as before
+abbrev pub MovesUnlessStill : DeskState → Option Advance → DeskState → Type 0
+MovesUnlessStill before (Some told) after = MovesInRun before told after
+MovesUnlessStill before None after = (after ≡ before) × IsStill before.core
+
+-- As Advances, but no run starts, and none ends. Idle: nothing in the run moves, and it is on, or somebody waits for
+-- one.
+abbrev pub AdvancesInRun : DeskState → Advance → DeskState → Type 0
+AdvancesInRun before advances.Idle after = (after ≡ before) × IsStill before.core × (¬ CanClose before.core)
+AdvancesInRun before advances.Done after = (after ≡ before) × IsDone before.core
+AdvancesInRun before told after = MovesInRun before told after
+
+-- ---- runs
+
+-- A run starts. Or all is as before: a run is on, or each script has its fate.
+abbrev pub StartsRun : DeskState → Advance → DeskState → Type 0
+StartsRun before advances.Moved after = Makes events.StartRun before (Some advances.Moved) after
+StartsRun before advances.Idle after = (after ≡ before) × (before.core.running ≡ true)
+StartsRun before advances.Done after = (after ≡ before) × IsDone before.core
+StartsRun before (advances.Lent job) after = ⊥
+
+-- The run ends. Or all is as before: something in the run must come first, or no run is on, and somebody waits for one;
+-- or each script has its fate.
+abbrev pub EndsRun : DeskState → Advance → DeskState → Type 0
+EndsRun before advances.Moved after = Makes events.EndRun before (Some advances.Moved) after
+EndsRun before advances.Idle after =
+    (after ≡ before) × (¬ CanClose before.core) × (before.core.running ≡ true → HasReason before.core)
+EndsRun before advances.Done after = (after ≡ before) × IsDone before.core
+EndsRun before (advances.Lent job) after = ⊥
+
+-- nothing is made: each script has its fate, or a run is on, or somebody waits for one
+abbrev pub RestsAs : State → Advance → Type 0
+RestsAs s advances.Idle = ¬ CanClose s
+RestsAs s advances.Done = IsDone s
+RestsAs s other = ⊥

@@ -63,6 +63,15 @@ pub record IsClosedBook (book : Book Database) (sessions : List SessionState) : 
   pub tickets : IsPermutation (tickets_from 1 book.scripts) (all_tickets sessions)
   pub receipts : AreReceiptsOf book (all_receipts sessions)
 
+-- A book that a manager gives without its sessions is finished and legal, over some opening and gathered at some count,
+-- and each script has a fate.
+pub record IsWholeBook (book : Book Database) : Type 0 where
+  pub count : ℕ
+  pub finished : IsFinishedBook resolved_forms book.opening book.scripts book
+  pub gathered : IsGatheredAt resolved_forms count finished.last
+  pub fates : HaveFates book
+  pub legal : IsLegal book
+
 -- A gathered finished book over an opening and scripts: all scripts were submitted, in order, before anything else, and
 -- events led from there to a state in which no run is on and nobody waits for one. Each script has a fate, and the book
 -- is legal.

@@ -1,8 +1,9 @@
 -- The receipts of journal entries.
-use Rattle.std.specs.Prelude.{◌≡◌, ℕ, suc, List, [], ◌∷◌, ◌++◌, Some, length}
+use Rattle.std.specs.Prelude.{◌≡◌, ◌≢◌, ℕ, suc, List, [], ◌∷◌, ◌++◌, Option, Some, None, length}
+use Rattle.std.specs.List.{AllByRecursion}
 use Rattle.ent_semantics.specs.declared.book.Entry.{Entry}
 use Rattle.ent_semantics.specs.declared.book.Fate.TheVariants.{Committed}
-use Rattle.ent_protocol.specs.Lookup.{standing}
+use Rattle.ent_protocol.specs.Lookup.{entry_at, standing}
 use Rattle.ent_protocol.specs.State.{State}
 use Rattle.ent_desk.specs.declared.ticket.Receipt.{Receipt}
 use Rattle.ent_desk.specs.Told.{fate_in}
@@ -35,3 +36,17 @@ pub record Receives (old new : State) (before after : List Receipt) : Type 0 whe
   pub entries : List Entry
   pub journal : new.journal ≡ old.journal ++ entries
   pub received : AreReceived new (suc (length old.journal)) entries before after
+
+-- ---- one transaction
+
+-- a receipt is that of the entry of a transaction, under the entry's number in the journal
+pub record IsJournalReceipt (core : State) (tx : ℕ) (got : Receipt) : Type 0 where
+  pub entry : Entry
+  pub at : entry_at core got.number ≡ Some entry
+  pub own : entry.tx ≡ tx
+  pub receipt : IsReceiptOf core got.number entry got
+
+-- what the journal has for a transaction: the receipt of its entry; none where no entry is its own
+abbrev pub IsInJournal : State → ℕ → Option Receipt → Type 0
+IsInJournal core tx (Some got) = IsJournalReceipt core tx got
+IsInJournal core tx None = AllByRecursion (λ entry. entry.tx ≢ tx) core.journal

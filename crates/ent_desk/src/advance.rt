@@ -1,7 +1,7 @@
 //! How far a session comes under the lock.
 ghost use Rattle.std.specs.Prelude.{◌≡◌};
 ghost use Rattle.ent_core.specs.Reply.{reply_seen};
-ghost use Rattle.ent_desk.specs.Advance.{advance_in, moved_unless};
+ghost use Rattle.ent_desk.specs.Advance.{advance_in, is_leaving, moved_unless};
 ghost use Rattle.ent_protocol.specs.Play.{is_idle};
 
 use ent_core::Reply;
@@ -35,6 +35,20 @@ fn is_idle(reply: &Reply) -> bool
         | Reply::Busy(_)
         | Reply::Full(_)
         | Reply::Faulty(..) => true,
+        _ => false,
+    }
+}
+
+/// Whether members leave the run: they have their fates, or wait for another one.
+pub(crate) fn is_leaving(reply: &Reply) -> bool
+    ensures { result ≡ is_leaving (reply_seen reply.now) }
+{
+    match reply {
+        Reply::Committed { .. }
+        | Reply::RolledBack(_)
+        | Reply::Failed(..)
+        | Reply::Broken(..)
+        | Reply::Ended(_) => true,
         _ => false,
     }
 }

@@ -42,7 +42,7 @@ pub struct NotClosed<L: Naming> {
 }
 
 /// Whether no run is on and nobody waits for one.
-fn can_close(core: &Core) -> bool
+pub(crate) fn can_close(core: &Core) -> bool
     ensures { IsTrue result ↔ CanClose core.now }
 {
     if core.running() {
@@ -109,6 +109,7 @@ impl<L: Naming> Desk<L> {
             count,
             mut scripts,
             mut entries,
+            left,
         } = self;
         core.is_reached();
         audit_all(sessions, &mut scripts, &mut entries);
@@ -120,6 +121,7 @@ impl<L: Naming> Desk<L> {
                     count,
                     scripts,
                     entries,
+                    left,
                 },
                 refusal: Refusal::Memory,
             }),

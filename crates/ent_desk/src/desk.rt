@@ -2,7 +2,7 @@
 ghost use Rattle.std.specs.Prelude.{◌≡◌, ◌≢◌, ◌↔◌, ◌<◌, ◌≤◌, [], None, IfErr, IfOk, OnErr, length, true, false};
 ghost use Rattle.ent_core.specs.Begin.{IsFreeMember};
 ghost use Rattle.ent_core.specs.Pick.{NoneCanBePicked};
-ghost use Rattle.ent_desk.specs.Advance.{Advances, BeginsUnless, IsStill, MakesUnless};
+ghost use Rattle.ent_desk.specs.Advance.{Advances, BeginsUnless, IsStill, MakesUnless, MovesUnlessStill};
 ghost use Rattle.ent_desk.specs.Drafts.{AreDraftedFor};
 ghost use Rattle.ent_desk.specs.Receipts.{Receives};
 ghost use Rattle.ent_desk.specs.Seen.{GetsReceipts, LeadsOn, with_ticket};
@@ -20,7 +20,7 @@ ghost use Rattle.ent_semantics.specs.Book.{IsLegal};
 ghost use Rattle.ent_tree.specs.declared.limits.TheConstants.{MOST_SCRIPTS};
 ghost use Rattle.ent_value.specs.declared.refusal.Refusal.TheVariants.{Fault};
 
-use crate::advance::{Advance, advance_told};
+use crate::advance::{Advance, advance_told, is_leaving};
 use crate::draft::{Draft, drafts_for, fate_of, keep_receipts};
 use crate::naming::Naming;
 use crate::session::Session;
@@ -32,7 +32,6 @@ use ent_group::{MOST_MEMBERS, Tx};
 use ent_protocol::refusals_change_nothing;
 use ent_protocol_laws::{members_stand_by_number, transactions_stand_once};
 use ent_semantics::Fate;
-use ent_termination::finished_scripts_have_fates;
 use ent_tree::{MOST_SCRIPTS, Script};
 use ent_value::Refusal;
 use std::alloc::{AllocError, AllocFailed, Global};
@@ -66,6 +65,8 @@ pub struct Desk<L: Naming> {
     pub(crate) count: usize,
     pub(crate) scripts: Book<L::Scripts>,
     pub(crate) entries: Book<L::Entries>,
+    /// Whether anybody left the run since that was last asked.
+    pub(crate) left: bool,
 }
 
 impl<L: Naming> Model for Desk<L> {
@@ -142,6 +143,7 @@ impl<L: Naming> Desk<L> {
             count,
             scripts,
             entries,
+            left: false,
         }
     }
 
@@ -207,37 +209,42 @@ impl<L: Naming> Desk<L> {
         ensures receipts { Receives self.old.core self.new.core session.old.receipts session.new.receipts }
         ensures err { OnErr result ((self.new ≡ self.old) × (session.new ≡ session.old)) }
     {
-        if let Some(begun) = self.begin_first(alloc, session)? {
-            return Ok(begun);
+        if let Some(moved) = self.move_in_run(alloc, session)? {
+            return Ok(moved);
         }
-        self.pick_or_go_on()
+        self.end_or_start()
     }
 
-    /// A component is picked; else what comes behind.
-    fn pick_or_go_on(&mut self) -> Result<Advance, AllocError>
+    /// The first of the run's events that moves is made; none where the run is still.
+    #[tactic(auto, using(crate::proofs::Receiving::receives_none))]
+    pub(crate) fn move_in_run(
+        &mut self,
+        alloc: Global,
+        session: &mut Session<L>,
+    ) -> Result<Option<Advance>, AllocError>
+        ensures ok { IfOk result (λ told. MovesUnlessStill self.old told self.new) }
+        ensures same { IfOk result (λ told. told ≡ None → session.new ≡ session.old) }
+        ensures session { GetsReceipts session.old session.new }
+        ensures receipts { Receives self.old.core self.new.core session.old.receipts session.new.receipts }
+        ensures err { OnErr result ((self.new ≡ self.old) × (session.new ≡ session.old)) }
+    {
+        if let Some(begun) = self.begin_first(alloc, session)? {
+            return Ok(Some(begun));
+        }
+        self.pick_or_break()
+    }
+
+    /// A component is picked; else a deadlock is broken.
+    fn pick_or_break(&mut self) -> Result<Option<Advance>, AllocError>
         requires nobody_moves { NoneIs (CanMove self.old.core) }
-        ensures ok { IfOk result (λ advance. Advances self.old advance self.new) }
+        ensures ok { IfOk result (λ told. MovesUnlessStill self.old told self.new) }
         ensures journal { self.new.core.journal ≡ self.old.core.journal }
         ensures err { OnErr result (self.new ≡ self.old) }
     {
         if let Some(picked) = self.pick()? {
-            return Ok(picked);
+            return Ok(Some(picked));
         }
-        self.break_or_go_on()
-    }
-
-    /// A deadlock is broken; else what comes behind.
-    fn break_or_go_on(&mut self) -> Result<Advance, AllocError>
-        requires nobody_moves { NoneIs (CanMove self.old.core) }
-        requires none_picked { NoneCanBePicked self.old.core }
-        ensures ok { IfOk result (λ advance. Advances self.old advance self.new) }
-        ensures journal { self.new.core.journal ≡ self.old.core.journal }
-        ensures err { OnErr result (self.new ≡ self.old) }
-    {
-        if let Some(broken) = self.break_cycle() {
-            return Ok(broken);
-        }
-        self.end_or_start()
+        Ok(self.break_cycle())
     }
 
     /// The run ends; where none is on one starts.
@@ -327,6 +334,7 @@ impl<L: Naming> Desk<L> {
         self.core.is_reached();
         let before = self.core.journal().len();
         let reply = self.core.begin_free(found)?;
+        self.left |= is_leaving(&reply);
         self.core.is_reached();
         let made = keep_receipts(&self.core, &mut session.receipts, before, drafts);
         self.entries.add(&mut session.committed, made as u64);
@@ -348,39 +356,9 @@ impl<L: Naming> Desk<L> {
         ensures ok { MakesUnless (NoDeadlock self.old.core) BreakCycle self.old result self.new }
         ensures journal { self.new.core.journal ≡ self.old.core.journal }
     {
-        advance_told(self.core.break_cycle())
-    }
-
-    /// The run ends. While another's job must come first, it is idle.
-    fn end_run(&mut self) -> Result<Advance, AllocError>
-        requires running { self.old.core.running ≡ true }
-        requires still { IsStill self.old.core }
-        ensures ok { IfOk result (λ advance. Advances self.old advance self.new) }
-        ensures journal { self.new.core.journal ≡ self.old.core.journal }
-        ensures err { OnErr result (self.new ≡ self.old) }
-    {
-        let reply = self.core.end_run()?;
-        if let Some(ended) = advance_told(reply) {
-            return Ok(ended);
-        }
-        Ok(Advance::Idle)
-    }
-
-    /// A run starts, where anybody waits for one; else every transaction has its fate.
-    fn start_run(&mut self) -> Result<Advance, AllocError>
-        requires no_run { self.old.core.running ≡ false }
-        requires still { IsStill self.old.core }
-        ensures ok { IfOk result (λ advance. Advances self.old advance self.new) }
-        ensures journal { self.new.core.journal ≡ self.old.core.journal }
-        ensures err { OnErr result (self.new ≡ self.old) }
-    {
-        finished_scripts_have_fates::<FormFault>();
-        self.core.is_reached();
-        let reply = self.core.start_run()?;
-        if let Some(started) = advance_told(reply) {
-            return Ok(started);
-        }
-        Ok(Advance::Done)
+        let reply = self.core.break_cycle();
+        self.left |= is_leaving(&reply);
+        advance_told(reply)
     }
 
     /// Takes the result of a job. One that isn't outstanding is dropped. Where memory runs out nothing changes, and the
@@ -403,7 +381,9 @@ impl<L: Naming> Desk<L> {
         ensures err { OnErr result (self.new ≡ self.old) }
         ensures returned { IfErr result (λ refused. refused.value ≡ done) }
     {
-        drop(self.core.finish(done)?);
+        let reply = self.core.finish(done)?;
+        self.left |= is_leaving(&reply);
+        drop(reply);
         Ok(())
     }
 
@@ -415,6 +395,16 @@ impl<L: Naming> Desk<L> {
     {
         drop(self.core.join_answer(done)?);
         Ok(())
+    }
+
+    /// Whether anybody left the run since this was last asked, and so may have a fate. It is for who wakes those that
+    /// wait for one; no contract says what it answers.
+    pub fn take_left(&mut self) -> bool
+        ensures { self.new ≡ self.old }
+    {
+        let left = self.left;
+        self.left = false;
+        left
     }
 
     /// The fate of a transaction that is finished.

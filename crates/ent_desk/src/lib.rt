@@ -15,8 +15,11 @@ mod desk;
 mod draft;
 mod naming;
 mod opening;
+mod receipt;
+mod runs;
 mod session;
 mod ticket;
+mod whole;
 
 pub use advance::Advance;
 pub use closing::{CloseFault, NotClosed};

@@ -1,7 +1,7 @@
 -- What a whole run gives, of sessions that hold the tickets that they were given.
 use Rattle.std.proofs.Common.{◌≡◌, ◌⊎◌, inl, inr, ℕ, zero, suc, ◌+◌, ◌<◌, List, [], ◌∷◌, ◌++◌, length, map, replicate}
 use Rattle.std.proofs.Common.{get_or, slice_get, refl, ap, sym, subst, ◌∙◌, arith, Option, Some, None, Result, Ok, Err}
-use Rattle.std.proofs.Common.{IfOk}
+use Rattle.std.proofs.Common.{◌==◌, IfOk, IfSome, append_assoc, find}
 use Rattle.std.specs.Prelude.{Contains, IsPermutation}
 use Rattle.std.specs.List.{flat_map}
 use Rattle.std.proofs.lemmas.List.{length-map}
@@ -10,16 +10,24 @@ use Rattle.ent_tree.specs.declared.declaration.Opening.{Opening}
 use Rattle.ent_tree.specs.declared.script.Script.{Script}
 use Rattle.ent_semantics.specs.Database.{Database}
 use Rattle.ent_semantics.specs.declared.book.Book.{Book}
+use Rattle.ent_semantics.specs.declared.book.Fate.{Fate}
 use Rattle.ent_protocol.specs.Reached.{IsGatheredAt, scripts_of}
 use Rattle.ent_protocol.specs.State.{State, Submitted}
 use Rattle.ent_desk.specs.Passed.{resolved_forms}
 use Rattle.ent_desk.specs.declared.ticket.First.{First}
+use Rattle.ent_desk.specs.declared.ticket.Receipt.{Receipt}
 use Rattle.ent_desk.specs.declared.ticket.Ticket.{Ticket}
 use Rattle.ent_desk.specs.Closed.{IsClosedBook, IsServed, all_tickets}
 use Rattle.ent_desk.specs.Opened.{first_over, first_session, other_session, tickets_from}
 use Rattle.ent_desk.specs.Seen.{GetsReceipts, SessionState, ticket}
+use Rattle.ent_desk.specs.Told.{fate_of}
 use Rattle.ent_desk.proofs.Exactness.{In, contains_in, in_contains}
+use Rattle.ent_serve.specs.Fates.{AgreesWith}
 use Rattle.ent_serve.specs.Seats.{KeepsSeats, SameSeats}
+
+append_nil : {X : Type 0} (xs : List X) → xs ++ [] ≡ xs
+append_nil [] = refl
+append_nil (x ∷ xs) = ap (λ l. x ∷ l) (append_nil xs)
 
 -- ---- seats
 
@@ -31,6 +39,32 @@ keeps_on one two three h k = record { tickets = k.tickets ∙ h.tickets; first =
 
 pub keeps_got : (one two : SessionState) → GetsReceipts one two → KeepsSeats one two
 keeps_got one two h = record { tickets = h.tickets; first = h.first }
+
+pub gets_on : (one two three : SessionState) → GetsReceipts one two → GetsReceipts two three → GetsReceipts one three
+gets_on one two three h k =
+    record {
+      tickets = k.tickets ∙ h.tickets;
+      first = k.first ∙ h.first;
+      receipts = (
+        h.receipts.0 ++ k.receipts.0,
+        k.receipts.1 ∙ ap (λ (l : List Receipt). l ++ k.receipts.0) h.receipts.1
+            ∙ append_assoc one.receipts h.receipts.0 k.receipts.0,
+      );
+    }
+
+pub gets_same : (one : SessionState) → GetsReceipts one one
+gets_same one = record { tickets = refl; first = refl; receipts = ([], sym (append_nil one.receipts)) }
+
+-- a fate that is told agrees with the receipt that tells of it
+pub agrees : (receipts : List Receipt) (tx : ℕ) (told : Option Fate) (fate : Fate) → told ≡ Some fate
+    → IfSome (find (λ receipt. receipt.tx == tx) receipts) (λ receipt. told ≡ Some (fate_of receipt))
+    → AgreesWith receipts tx fate
+agrees receipts tx told fate is h = by (find (λ receipt. receipt.tx == tx) receipts) h
+  where
+    by : (o : Option Receipt) → IfSome o (λ receipt. told ≡ Some (fate_of receipt))
+        → IfSome o (λ receipt. fate ≡ fate_of receipt)
+    by None h = tt
+    by (Some receipt) h = let both : Some fate ≡ Some (fate_of receipt) = sym is ∙ h in cc
 
 pub same_none : (s : List SessionState) → SameSeats s s
 same_none s = record { tickets = refl; first = refl }
@@ -70,10 +104,6 @@ flat_joined f (y ∷ ys) = ap (λ l. f y ++ l) (flat_joined f ys)
 no_tickets : (k : ℕ) → all_tickets (replicate k other_session) ≡ []
 no_tickets zero = refl
 no_tickets (suc k) = no_tickets k
-
-append_nil : {X : Type 0} (xs : List X) → xs ++ [] ≡ xs
-append_nil [] = refl
-append_nil (x ∷ xs) = ap (λ l. x ∷ l) (append_nil xs)
 
 -- the ticket of a place is there
 ticket_at : (n m i : ℕ) (script : Script) (scripts : List Script) → m ≡ n + i → slice_get scripts i ≡ Some script

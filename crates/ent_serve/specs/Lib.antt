@@ -1,3 +1,4 @@
 pub mod Seats
 pub mod Look
+pub mod Fates
 pub mod Passed

@@ -1,66 +1,91 @@
-//! Where idle workers wait.
+//! Where whoever finds nothing to do waits for what others do.
 use std::sync::{Condvar, Mutex, Wait};
+use std::time::{Clock, Duration};
 
-/// How many turns there were so far, wrapping, and whether all are to stop.
+/// How often something was done so far, wrapping, and how many clients wait for a fate.
 #[derive(Drop)]
-struct Turns {
+struct Rings {
     count: u64,
-    stopped: bool,
+    clients: u64,
 }
 
-/// Counts turns, and wakes whoever waits for one.
+/// Counts what was done, and wakes whoever waits for more. What there is to do and which fates stand is asked of the
+/// core, and never of the bell.
 #[derive(Drop)]
 pub(crate) struct Bell {
-    turns: Mutex<Turns>,
+    rings: Mutex<Rings>,
     rang: Condvar,
 }
 
 impl Bell {
     pub(crate) fn new() -> Self {
         Bell {
-            turns: Mutex::new(Turns {
+            rings: Mutex::new(Rings {
                 count: 0,
-                stopped: false,
+                clients: 0,
             }),
             rang: Condvar::new(),
         }
     }
 
-    /// Tells of a turn, and wakes one who waits for it. That is enough: whoever made the turn goes on, and whoever is
-    /// woken and finds something to do wakes the next one.
+    /// Tells that something was done, and wakes one who waits for it. That is enough: whoever did it goes on, and
+    /// whoever is woken and finds something to do wakes the next one.
     pub(crate) fn ring<R: Wait>(&self, rt: &R) {
-        let mut turns = self.turns.lock(rt);
-        turns.count = turns.count.wrapping_add(1);
+        let mut rings = self.rings.lock(rt);
+        rings.count = rings.count.wrapping_add(1);
         self.rang.notify_one();
     }
 
-    /// Tells of the last turn, and wakes all.
-    pub(crate) fn ring_out<R: Wait>(&self, rt: &R) {
-        let mut turns = self.turns.lock(rt);
-        turns.count = turns.count.wrapping_add(1);
-        self.rang.notify_all();
+    /// Tells that a fate may stand. Where clients wait for one, all are woken, since each waits for its own.
+    pub(crate) fn ring_fate<R: Wait>(&self, rt: &R) {
+        let mut rings = self.rings.lock(rt);
+        rings.count = rings.count.wrapping_add(1);
+        if rings.clients > 0 {
+            self.rang.notify_all();
+        } else {
+            self.rang.notify_one();
+        }
     }
 
-    /// Stops all who wait, and who will.
-    pub(crate) fn stop<R: Wait>(&self, rt: &R) {
-        let mut turns = self.turns.lock(rt);
-        turns.stopped = true;
+    /// Tells that nothing more is to be done, and wakes all.
+    pub(crate) fn ring_out<R: Wait>(&self, rt: &R) {
+        let mut rings = self.rings.lock(rt);
+        rings.count = rings.count.wrapping_add(1);
         self.rang.notify_all();
     }
 
     /// The count so far.
     pub(crate) fn count<R: Wait>(&self, rt: &R) -> u64 {
-        self.turns.lock(rt).count
+        self.rings.lock(rt).count
     }
 
-    pub(crate) fn is_stopped<R: Wait>(&self, rt: &R) -> bool {
-        self.turns.lock(rt).stopped
-    }
-
-    /// Waits for a turn since the one seen, or for the stop.
+    /// Waits until something was done since the count that was seen.
     pub(crate) fn wait_past<R: Wait>(&self, rt: &R, seen: u64) {
-        let _turns = self
+        let _rings = self
             .rang
-            .wait_while(rt, self.turns.lock(rt), |t| t.count == seen && !t.stopped);
+            .wait_while(rt, self.rings.lock(rt), |rings| rings.count == seen);
+    }
+
+    /// The same, as a client that waits for a fate.
+    pub(crate) fn wait_as_client<R: Wait>(&self, rt: &R, seen: u64) {
+        let mut rings = self.rings.lock(rt);
+        rings.clients = rings.clients.saturating_add(1);
+        let mut rings = self.rang.wait_while(rt, rings, |rings| rings.count == seen);
+        rings.clients = rings.clients.saturating_sub(1);
+    }
+
+    /// The same, for so long at most. A clock that can't be read ends the wait.
+    pub(crate) fn wait_as_client_at_most<R: Wait + Clock>(
+        &self,
+        rt: &R,
+        seen: u64,
+        most: Duration,
+    ) {
+        let mut rings = self.rings.lock(rt);
+        rings.clients = rings.clients.saturating_add(1);
+        let (mut rings, _) = self
+            .rang
+            .wait_timeout_while(rt, rings, most, |rings| rings.count == seen);
+        rings.clients = rings.clients.saturating_sub(1);
     }
 }

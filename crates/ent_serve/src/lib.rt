@@ -2,8 +2,9 @@
 //!
 //! A [`Manager`] keeps an [`ent_desk::Desk`] behind one lock, and gives out sessions, one for each client.
 //! [`Manager::submit`] takes a script, [`Manager::work`] makes the next step, whoever submitted the script,
-//! [`Manager::fate`] tells the fate of a transaction, [`Manager::look`] shows the core, and [`Manager::close`] gives
-//! the book. [`serve`] does all of this for one input and a number of workers.
+//! [`Manager::wait_for`] waits for the fate of a transaction, [`Manager::look`] shows the core, and [`Manager::close`]
+//! gives the book. A service that starts and ends its runs itself calls [`Manager::work_in_run`],
+//! [`Manager::start_run`] and [`Manager::end_run`]. [`serve`] does all of this for one input and a number of workers.
 //!
 //! Contracts promise that the core behind the lock is reached, and its book legal, each time a thread takes the lock;
 //! that sessions hold exactly what the manager was given and has committed; and that the book of [`serve`] is a
@@ -14,13 +15,15 @@ mod bell;
 mod fault;
 mod gate;
 mod manager;
+mod runs;
+mod waiting;
 mod workers;
 
 pub use ent_desk::{
     Blanks, Both, CloseFault, Core, First, Naming, NotSubmitted, PlayFault, Receipt, Seats,
-    Session, SubmitFault, Ticket, core_over,
+    Session, SubmitFault, Ticket, core_over, core_over,
 };
 pub use fault::ServeFault;
 pub use gate::{Gate, Open};
-pub use manager::{MOST_SESSIONS, Manager, NotClosed, Turn};
+pub use manager::{MOST_SESSIONS, Manager, NoBook, NotClosed, Turn};
 pub use workers::{serve, serve_input};

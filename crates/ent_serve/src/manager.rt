@@ -5,22 +5,24 @@ ghost use Rattle.std.specs.Prelude.{find, length, replicate, vec_len};
 ghost use Rattle.std.specs.Fn.{FnOnceReturnsAt, FnOnceTakesAt};
 ghost use Rattle.ent_book.specs.Tables.{book_seen};
 ghost use Rattle.ent_desk.specs.Passed.{input_fault};
-ghost use Rattle.ent_desk.specs.Closed.{IsClosedBook};
+ghost use Rattle.ent_desk.specs.Closed.{IsClosedBook, IsWholeBook};
 ghost use Rattle.ent_desk.specs.Opened.{first_session, other_session};
+ghost use Rattle.ent_desk.specs.Receipts.{IsInJournal};
 ghost use Rattle.ent_desk.specs.Seen.{GetsReceipts, with_ticket};
 ghost use Rattle.ent_desk.specs.Told.{fate_of};
-ghost use Rattle.ent_desk.specs.declared.closing.CloseFault.TheVariants.{SessionsOut};
+ghost use Rattle.ent_desk.specs.declared.closing.CloseFault.TheVariants.{NotDone, SessionsOut};
 ghost use Rattle.ent_form.specs.declared.fault.FormFault.{FormFault};
 ghost use Rattle.ent_protocol.specs.State.{State};
 ghost use Rattle.ent_serve.specs.Look.{IsBehindLock};
 ghost use Rattle.ent_serve.specs.declared.manager.TheConstants.{MOST_SESSIONS};
-ghost use Rattle.ent_value.specs.declared.refusal.Refusal.TheVariants.{Fault};
+ghost use Rattle.ent_value.specs.declared.refusal.Refusal.TheVariants.{Fault, Memory};
 
+use crate::bell::Bell;
 use crate::gate::Gate;
 use ent_book::NamedTable;
 use ent_desk::{
-    Advance, Blanks, CloseFault, Core, Desk, Naming, NotSubmitted, PlayFault, Seats, Session,
-    Stopped, open,
+    Advance, Blanks, CloseFault, Core, Desk, Naming, NotSubmitted, PlayFault, Receipt, Seats,
+    Session, Stopped, open,
 };
 use ent_eval::{Done, Job, evaluate};
 use ent_group::Tx;
@@ -47,8 +49,9 @@ pub enum Turn {
 /// One lock over a core, for several clients, each with a session of its own. `sessions` counts them.
 #[derive(Drop)]
 pub struct Manager<L: Naming, G: Gate> {
-    alloc: Global,
-    desk: Mutex<Desk<L>>,
+    pub(crate) alloc: Global,
+    pub(crate) desk: Mutex<Desk<L>>,
+    pub(crate) bell: Bell,
     gate: G,
     pub sessions: usize,
     ghost some: { 0 < sessions },
@@ -61,6 +64,13 @@ pub struct Manager<L: Naming, G: Gate> {
 pub struct NotClosed<L: Naming, G: Gate> {
     pub manager: Manager<L, G>,
     pub sessions: Vec<Session<L>>,
+    pub refusal: Refusal<CloseFault>,
+}
+
+/// A manager that gives no book yet, as it was, and why: E405, or memory ran out.
+#[derive(Drop)]
+pub struct NoBook<L: Naming, G: Gate> {
+    pub manager: Manager<L, G>,
     pub refusal: Refusal<CloseFault>,
 }
 
@@ -93,6 +103,7 @@ impl<L: Naming, G: Gate> Manager<L, G> {
         let manager = Manager {
             alloc,
             desk: Mutex::new(desk),
+            bell: Bell::new(),
             gate,
             sessions,
         };
@@ -112,7 +123,13 @@ impl<L: Naming, G: Gate> Manager<L, G> {
         ensures returned { IfErr result (λ refused. refused.script ≡ script) }
     {
         match script.copy(self.alloc) {
-            Ok(copy) => self.desk.lock(rt).submit(session, script, copy),
+            Ok(copy) => {
+                let submitted = self.desk.lock(rt).submit(session, script, copy);
+                if submitted.is_ok() {
+                    self.bell.ring(rt);
+                }
+                submitted
+            }
             Err(AllocError) => Err(NotSubmitted {
                 script,
                 refusal: Refusal::Memory,
@@ -128,9 +145,23 @@ impl<L: Naming, G: Gate> Manager<L, G> {
         ensures { GetsReceipts session.old session.new }
     {
         match session.take_stopped() {
-            Some(Stopped::Job(job)) => self.carry_out(rt, session, job),
-            Some(Stopped::Done(done)) => self.hand_in(rt, session, done),
+            Some(stopped) => self.resume(rt, session, stopped),
             None => self.advance(rt, session),
+        }
+    }
+
+    /// Goes on with what memory stopped.
+    pub(crate) fn resume<R: Wait>(
+        &self,
+        rt: &R,
+        session: &mut Session<L>,
+        stopped: Stopped,
+    ) -> Result<Turn, AllocError>
+        ensures { session.new ≡ session.old }
+    {
+        match stopped {
+            Stopped::Job(job) => self.carry_out(rt, session, job),
+            Stopped::Done(done) => self.hand_in(rt, session, done),
         }
     }
 
@@ -138,10 +169,41 @@ impl<L: Naming, G: Gate> Manager<L, G> {
     fn advance<R: Wait>(&self, rt: &R, session: &mut Session<L>) -> Result<Turn, AllocError>
         ensures { GetsReceipts session.old session.new }
     {
-        let advance = self.desk.lock(rt).advance(self.alloc, session)?;
+        let mut desk = self.desk.lock(rt);
+        let advance = desk.advance(self.alloc, session)?;
+        let left = desk.take_left();
+        drop(desk);
+        self.go_on(rt, session, advance, left)
+    }
+
+    /// Tells the bell that something moved, and whether somebody left the run, and so may have a fate.
+    pub(crate) fn tell<R: Wait>(&self, rt: &R, left: bool) {
+        if left {
+            self.bell.ring_fate(rt);
+        } else {
+            self.bell.ring(rt);
+        }
+    }
+
+    /// Rings where something moved, and does the job, where one is lent.
+    pub(crate) fn go_on<R: Wait>(
+        &self,
+        rt: &R,
+        session: &mut Session<L>,
+        advance: Advance,
+        left: bool,
+    ) -> Result<Turn, AllocError>
+        ensures { session.new ≡ session.old }
+    {
         match advance {
-            Advance::Lent(job) => self.carry_out(rt, session, job),
-            Advance::Moved => Ok(Turn::Moved),
+            Advance::Lent(job) => {
+                self.tell(rt, left);
+                self.carry_out(rt, session, job)
+            }
+            Advance::Moved => {
+                self.tell(rt, left);
+                Ok(Turn::Moved)
+            }
             Advance::Idle => Ok(Turn::Idle),
             Advance::Done => Ok(Turn::Done),
         }
@@ -175,9 +237,15 @@ impl<L: Naming, G: Gate> Manager<L, G> {
     ) -> Result<Turn, AllocError>
         ensures { session.new ≡ session.old }
     {
-        let handed = self.desk.lock(rt).hand_in(done);
+        let mut desk = self.desk.lock(rt);
+        let handed = desk.hand_in(done);
+        let left = desk.take_left();
+        drop(desk);
         match handed {
-            Ok(()) => Ok(Turn::Moved),
+            Ok(()) => {
+                self.tell(rt, left);
+                Ok(Turn::Moved)
+            }
             Err(refused) => {
                 session.keep_stopped(Stopped::Done(refused.value));
                 Err(AllocError)
@@ -195,6 +263,17 @@ impl<L: Naming, G: Gate> Manager<L, G> {
             Some(fate) => Some(fate),
             None => self.desk.lock(rt).fate(tx),
         }
+    }
+
+    /// What the journal has for a transaction, for whoever asks: its commit number, its runs, and copies of its answers,
+    /// which take memory; None where it hasn't committed by now.
+    pub fn receipt_of<R: Wait>(&self, rt: &R, tx: Tx) -> Result<Option<Receipt>, AllocError>
+        ensures { IfOk result (λ told. (core : State) × IsBehindLock core × IsInJournal core tx told) }
+    {
+        let desk = self.desk.lock(rt);
+        let _core = desk.core();
+        let told = desk.receipt_of(self.alloc, tx)?;
+        Ok(told)
     }
 
     /// What a closure tells of the core, which it sees with the lock held: a core to which events led from its own
@@ -227,6 +306,7 @@ impl<L: Naming, G: Gate> Manager<L, G> {
         let Manager {
             alloc,
             desk,
+            bell,
             gate,
             sessions: count,
         } = self;
@@ -235,6 +315,7 @@ impl<L: Naming, G: Gate> Manager<L, G> {
                 manager: Manager {
                     alloc,
                     desk,
+                    bell,
                     gate,
                     sessions: count,
                 },
@@ -248,10 +329,40 @@ impl<L: Naming, G: Gate> Manager<L, G> {
                 manager: Manager {
                     alloc,
                     desk: Mutex::new(refused.desk),
+                    bell,
                     gate,
                     sessions: count,
                 },
                 sessions,
+                refusal: refused.refusal,
+            }),
+        }
+    }
+
+    /// The book of all without the sessions, where every transaction has its fate: so a session that is lost loses no
+    /// book. Else the manager comes back, with the reason, E405 or want of memory. It waits for nobody.
+    pub fn into_book(self) -> Result<Book<Sequence<NamedTable>>, NoBook<L, G>>
+        ensures book { IfOk result (λ book. IsWholeBook (book_seen book)) }
+        ensures manager { IfErr result (λ refused. refused.manager.sessions ≡ self.sessions) }
+        ensures refusal { IfErr result (λ refused. refused.refusal ≢ Memory → refused.refusal ≡ Fault NotDone) }
+    {
+        let Manager {
+            alloc,
+            desk,
+            bell,
+            gate,
+            sessions,
+        } = self;
+        match desk.into_inner().into_book() {
+            Ok(book) => Ok(book),
+            Err(refused) => Err(NoBook {
+                manager: Manager {
+                    alloc,
+                    desk: Mutex::new(refused.desk),
+                    bell,
+                    gate,
+                    sessions,
+                },
                 refusal: refused.refusal,
             }),
         }

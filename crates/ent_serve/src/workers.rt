@@ -11,7 +11,6 @@ ghost use Rattle.ent_serve.specs.declared.fault.ServeFault.TheVariants.{Form};
 ghost use Rattle.ent_serve.specs.declared.manager.TheConstants.{MOST_SESSIONS};
 ghost use Rattle.ent_value.specs.declared.refusal.Refusal.TheVariants.{Fault};
 
-use crate::bell::Bell;
 use crate::fault::ServeFault;
 use crate::gate::Gate;
 use crate::manager::{Manager, NotClosed, Turn};
@@ -24,33 +23,35 @@ use ent_value::{Refusal, Sequence};
 use std::alloc::{AllocError, Global};
 use std::marker::Brand;
 use std::sync::Wait;
+use std::sync::atomic::{AtomicBool, Ordering};
 use std::sync::ledger::Blank;
 use std::thread;
 use std::thread::Threads;
 
-/// Works until every transaction has its fate, or somebody stops all. An idle worker waits for another's turn.
+/// Works until every transaction has its fate, or somebody stops all. An idle worker waits for what others do.
 fn work_on<L: Naming, G: Gate, R: Wait>(
     rt: &R,
     manager: &Manager<L, G>,
-    bell: &Bell,
+    stopped: &AtomicBool,
     mut session: Session<L>,
 ) -> Session<L>
     ensures { KeepsSeats session result }
 {
     for _ in rt.forever() {
-        let seen = bell.count(rt);
-        if bell.is_stopped(rt) {
+        let seen = manager.bell.count(rt);
+        if stopped.load(Ordering::SeqCst) {
             break;
         }
         match manager.work(rt, &mut session) {
-            Ok(Turn::Moved) => bell.ring(rt),
+            Ok(Turn::Moved) => {}
             Ok(Turn::Done) => {
-                bell.ring_out(rt);
+                manager.bell.ring_out(rt);
                 break;
             }
-            Ok(Turn::Idle) => bell.wait_past(rt, seen),
+            Ok(Turn::Idle) => manager.bell.wait_past(rt, seen),
             Err(AllocError) => {
-                bell.stop(rt);
+                stopped.store(true, Ordering::SeqCst);
+                manager.bell.ring_out(rt);
                 break;
             }
         }
@@ -63,7 +64,7 @@ fn work_on<L: Naming, G: Gate, R: Wait>(
 fn work_all<L: Naming + Send + Sync, G: Gate + Sync, R: Threads + Wait + Sync>(
     rt: &R,
     manager: &Manager<L, G>,
-    bell: &Bell,
+    stopped: &AtomicBool,
     sessions: Vec<Session<L>>,
 ) -> Result<Vec<Session<L>>, AllocError>
     ensures len { IfOk result (λ worked. vec_len worked ≡ vec_len sessions) }
@@ -72,7 +73,7 @@ fn work_all<L: Naming + Send + Sync, G: Gate + Sync, R: Threads + Wait + Sync>(
 {
     let work = |session: Session<L>| -> Session<L>
         ensures { KeepsSeats session result }
-    { work_on(rt, manager, bell, session) };
+    { work_on(rt, manager, stopped, session) };
     thread::map_vec(rt, sessions, &work)
 }
 
@@ -182,9 +183,9 @@ pub fn serve<L: Naming + Send + Sync, G: Gate + Sync, R: Threads + Wait + Sync>(
         Err(Refusal::Memory) => return Err(Refusal::Memory),
         Err(Refusal::Fault(fault)) => return Err(Refusal::Fault(ServeFault::Form(fault))),
     };
-    let bell = Bell::new();
-    let worked = work_all(rt, &manager, &bell, sessions)?;
-    if bell.is_stopped(rt) {
+    let stopped = AtomicBool::new(false);
+    let worked = work_all(rt, &manager, &stopped, sessions)?;
+    if stopped.load(Ordering::SeqCst) {
         return Err(Refusal::Memory);
     }
     close_all(rt, manager, worked)

@@ -7,11 +7,12 @@ use std::thread;
 /// How often a gate looks before it gives up.
 const MOST_POLLS: u64 = 10_000_000;
 
-/// Whether the first transaction may go on, and whether a gate gave up.
+/// Whether the first transaction may go on, whether a gate gave up, and whether its first job came.
 #[derive(Drop)]
 pub(crate) struct Flags {
     released: AtomicBool,
     gave_up: AtomicBool,
+    came: AtomicBool,
 }
 
 impl Flags {
@@ -19,6 +20,7 @@ impl Flags {
         Flags {
             released: AtomicBool::new(false),
             gave_up: AtomicBool::new(false),
+            came: AtomicBool::new(false),
         }
     }
 
@@ -28,6 +30,16 @@ impl Flags {
 
     pub(crate) fn gave_up(&self) -> bool {
         self.gave_up.load(Ordering::SeqCst)
+    }
+
+    /// Whether a gate is called for the first time.
+    fn is_first(&self) -> bool {
+        !self.came.swap(true, Ordering::SeqCst)
+    }
+
+    /// Whether a job has come to a gate that asks whether it is the first.
+    pub(crate) fn came(&self) -> bool {
+        self.came.load(Ordering::SeqCst)
     }
 
     fn wait(&self) {
@@ -75,6 +87,20 @@ impl<'a> Gate for Meet<'a> {
             self.flags.release();
         }
         if is_of(job, 1) {
+            self.flags.wait();
+        }
+    }
+}
+
+/// Holds the first job until it is released, and no other.
+#[derive(Drop)]
+pub(crate) struct HoldFirst<'a> {
+    pub(crate) flags: &'a Flags,
+}
+
+impl<'a> Gate for HoldFirst<'a> {
+    fn before(&self, _job: &Job) {
+        if self.flags.is_first() {
             self.flags.wait();
         }
     }

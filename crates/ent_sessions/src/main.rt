@@ -1,29 +1,34 @@
-//! Sessions of a manager, by their calls. Without an argument the program makes three runs, one after the other, each
+//! Sessions of a manager, by their calls. Without an argument the program makes four runs, one after the other, each
 //! of which prints the same for every schedule:
 //!
 //! - sessions of two threads, each held at a gate until the other has come far enough; a manager that called the gate
 //!   with the lock held would exceed the limit of polls. So a lent job waits at the gate with no lock held. A manager
-//!   that took the lock behind the gate, for the evaluation, would go through all of this;
+//!   that took the lock behind the gate, for the evaluation, would go through all of this. And a job that is held at
+//!   the gate is called back, and done by another session;
+//! - a service that starts and ends its runs itself, and whose clients come at different times and wait for their fates;
 //! - two friends who book through one session, in one thread, where each call that runs out of memory is made again:
 //!   once with their scripts submitted one by one, and once with a manager that is opened over them;
 //! - the load of an ordinary service: eight sessions in threads, each of which submits 50 scripts while all work. Each
 //!   call that runs out of memory is made again.
 //!
-//! With the word `memory` it makes the second run alone, and with `load [COUNT]` the third one, with so many scripts a
-//! session. `tools/check refusals --sessions` refuses the allocations of both in turn; of the third one, so, a call of
-//! one session in the midst of the others'. Standard error says which call was made again in the second run, and how
-//! many were in the third, if any was. If memory runs out outside the manager, while a text is read or a report is
-//! made, the program ends with status 1 and writes nothing. Of the third run standard error also says how long it took,
+//! With the word `memory` it makes the third run alone, and with `load [COUNT]` the last one, with so many scripts a
+//! session. `tools/check refusals --sessions` refuses the allocations of both in turn; of the last one, so, a call of
+//! one session in the midst of the others'. Standard error says which call was made again in the third run, and how
+//! many were in the last, if any was. If memory runs out outside the manager, while a text is read or a report is
+//! made, the program ends with status 1 and writes nothing. Of the last run standard error also says how long it took,
 //! and how long a submit waited at most.
 #![tactic(auto)]
 
 mod again;
 mod client;
 mod close;
+mod friends;
 mod gates;
 mod hold;
 mod load;
 mod meet;
+mod paced;
+mod recall;
 mod refused;
 
 use crate::again::Again;
@@ -33,6 +38,7 @@ use std::alloc::Global;
 use std::env;
 use std::sync::Wait;
 use std::thread::Threads;
+use std::time::Clock;
 
 /// How many scripts each session submits where the command line doesn't say.
 const FEW: usize = 50;
@@ -57,11 +63,15 @@ impl Wanted {
     }
 }
 
-/// Sessions that gates hold, and managers that are closed too early.
-fn held<R: Threads + Wait + Sync>(rt: &R, alloc: Global) -> Result<()> {
+/// Sessions that gates hold, managers that are closed too early, a job that is called back, and runs that a service
+/// starts and ends.
+fn held<R: Threads + Wait + Clock + Sync>(rt: &R, alloc: Global) -> Result<()> {
     hold::check(rt, alloc).context("one is held until the other has committed")?;
     meet::check(rt, alloc).context("two workers meet at the gate")?;
-    close::check(rt, alloc).context("closed too early")
+    close::check(rt, alloc).context("closed too early")?;
+    recall::check(rt, alloc).context("a job is called back")?;
+    paced::check(rt, alloc).context("runs that are started and ended")?;
+    friends::check(rt, alloc).context("friends who come at different times")
 }
 
 /// Two friends through one session: both reports, which are the same.
@@ -86,6 +96,9 @@ fn main(rt: HostRuntime) -> Result<()> {
         println!(rt; "one is held until the other has committed: ok")?;
         println!(rt; "two workers meet at the gate: ok")?;
         println!(rt; "closed too early: ok")?;
+        println!(rt; "a job is called back: ok")?;
+        println!(rt; "runs that are started and ended: ok")?;
+        println!(rt; "friends who come at different times: ok")?;
     }
     if part != Wanted::Load {
         let mut again = Again::default();

@@ -2,9 +2,9 @@ use Rattle.std.proofs.Common.{◌≡◌, ◌∙◌, ap, get_or, subst, sym}
 use Rattle.ent_protocol.specs.Event.{Begin}
 use Rattle.ent_protocol.specs.Lookup.{running_members}
 use Rattle.ent_protocol.specs.Quiet.{CanMove}
-use Rattle.ent_desk.specs.Advance.{Advances, IsNext}
+use Rattle.ent_desk.specs.Advance.{IsNextInRun, MovesInRun}
 use Rattle.ent_desk.specs.Seen.{DeskState, SessionState}
-use Rattle.ent_desk.proofs.Advancing.{moved, stayed}
+use Rattle.ent_desk.proofs.Advancing.{moved_in_run, stayed}
 use Rattle.ent_desk.proofs.Receiving.{receives_none}
 use Rattle.ent_desk.proofs.Standstill.{next_member, none_moves, one_more_stuck}
 use Rattle.ent_desk.proofs.desk.Desk.begin_first.Goals as goal
@@ -21,10 +21,10 @@ returns-in-Some-clause-ok g c =
     let tx = get_or items at 0 in
     let mid = c.loop-tx.self in
     let new = c.begin_ready.new.self in
-    let next = subst (λ (d : DeskState). IsNext d.core (Begin tx)) (sym now.desk)
+    let next = subst (λ (d : DeskState). IsNextInRun d.core (Begin tx)) (sym now.desk)
     (next_member old.core items at are c.loop-tx-test.true now.nobody_moves) in
-    subst (λ (d : DeskState). Advances d c.in-Some.begun new) now.desk
-    (moved (¬ CanMove mid.core tx) (Begin tx) mid new c.in_ok-begun.field-0 c.in-Some.begun next c.in-Some.is
+    subst (λ (d : DeskState). MovesInRun d c.in-Some.begun new) now.desk
+    (moved_in_run (¬ CanMove mid.core tx) (Begin tx) mid new c.in_ok-begun.field-0 c.in-Some.begun next c.in-Some.is
     c.in_ok-begun.ensures.ok)
 
 pub loop-tx-preserved : goal.loop-tx-preserved

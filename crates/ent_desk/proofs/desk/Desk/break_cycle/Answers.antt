@@ -12,22 +12,22 @@ use Rattle.ent_desk.proofs.desk.Desk.break_cycle.Goals as goal
 pub invariant_of-self : goal.invariant_of-self
 invariant_of-self g c =
     let i = c.self.inside in
-    let reply = reply_seen c.break_cycle.result in
-    let step = c.break_cycle.ensures.step in
-    kept_none i.count i.scripts.total i.entries.total i.core c.break_cycle.new.self BreakCycle reply c.self.invariant
+    let reply = reply_seen c.break_cycle-reply.result in
+    let step = c.break_cycle-reply.ensures.step in
+    kept_none i.count i.scripts.total i.entries.total i.core c.break_cycle-reply.new.self BreakCycle reply c.self.invariant
     step
-    (breaks_none i.core c.break_cycle.new.self reply step)
+    (breaks_none i.core c.break_cycle-reply.new.self reply step)
 
 pub returns : goal.returns
 returns g c =
     let i = c.self.inside in
-    let reply = reply_seen c.break_cycle.result in
-    let step = c.break_cycle.ensures.step in
-    let new : DeskState = record { core = c.break_cycle.new.self; count = i.count } in
+    let reply = reply_seen c.break_cycle-reply.result in
+    let step = c.break_cycle-reply.ensures.step in
+    let new : DeskState = record { core = c.break_cycle-reply.new.self; count = i.count } in
     record {
       ok = subst (λ (old : DeskState). MakesUnless (NoDeadlock old.core) BreakCycle old c.advance_told.result new)
           c.self.view_is
-          (break_made i.count i.core c.break_cycle.new.self reply c.advance_told.result c.advance_told.ensures step);
-      journal = subst (λ (old : DeskState). c.break_cycle.new.self.journal ≡ old.core.journal) c.self.view_is
-          (breaks_none i.core c.break_cycle.new.self reply step).journal;
+          (break_made i.count i.core c.break_cycle-reply.new.self reply c.advance_told.result c.advance_told.ensures step);
+      journal = subst (λ (old : DeskState). c.break_cycle-reply.new.self.journal ≡ old.core.journal) c.self.view_is
+          (breaks_none i.core c.break_cycle-reply.new.self reply step).journal;
     }

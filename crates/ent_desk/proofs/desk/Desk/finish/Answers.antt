@@ -10,8 +10,8 @@ use Rattle.ent_desk.proofs.desk.Desk.finish.Goals as goal
 pub invariant_of-self-2 : goal.invariant_of-self-2
 invariant_of-self-2 g c =
     let i = c.self.inside in
-    let reply = reply_seen c.in_ok-finish.field-0 in
-    let step = c.in_ok-finish.ensures.ok in
+    let reply = reply_seen c.in_ok-reply.reply in
+    let step = c.in_ok-reply.ensures.ok in
     kept_none i.count i.scripts.total i.entries.total i.core c.finish.new.self (Finish c.args.done) reply
     c.self.invariant step
     (finishes_none i.core c.finish.new.self reply c.args.done step)
@@ -19,17 +19,17 @@ invariant_of-self-2 g c =
 pub returns-clause-events : goal.returns-clause-events
 returns-clause-events g c =
     let i = c.self.inside in
-    let reply = reply_seen c.in_ok-finish.field-0 in
-    let step = c.in_ok-finish.ensures.ok in
+    let reply = reply_seen c.in_ok-reply.reply in
+    let step = c.in_ok-reply.ensures.ok in
     let new : DeskState = record { core = c.finish.new.self; count = i.count } in
     subst (λ (old : DeskState). LeadsOn old new) c.self.view_is
     (one_on i.count i.core c.finish.new.self (Finish c.args.done) reply step)
 
-pub returns-in_err-finish-clause-events : goal.returns-in_err-finish-clause-events
-returns-in_err-finish-clause-events g c =
+pub returns-in_err-reply-clause-events : goal.returns-in_err-reply-clause-events
+returns-in_err-reply-clause-events g c =
     let i = c.self.inside in
     let before : DeskState = record { core = i.core; count = i.count } in
     let new : DeskState = record { core = c.finish.new.self; count = i.count } in
     let same = ap (λ (core : State). let desk : DeskState = record { core = core; count = i.count } in desk)
-    c.in_err-finish.ensures.err in
+    c.in_err-reply.ensures.err in
     subst (λ (old : DeskState). LeadsOn old new) c.self.view_is (none_on before new same)

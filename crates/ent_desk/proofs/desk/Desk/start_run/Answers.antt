@@ -1,13 +1,13 @@
-use Rattle.std.proofs.Common.{◌≡◌, ◌∙◌, ap, subst, sym, false}
+use Rattle.std.proofs.Common.{◌≡◌, ◌∙◌, subst, sym, false}
 use Rattle.ent_core.specs.Reply.{reply_seen}
 use Rattle.ent_core.specs.Passed.{resolved_forms}
 use Rattle.ent_protocol.specs.Event.{StartRun}
-use Rattle.ent_desk.specs.Advance.{Advances, IsStill}
-use Rattle.ent_desk.specs.Seen.{DeskState}
+use Rattle.ent_desk.specs.Advance.{StartsRun}
+use Rattle.ent_desk.specs.Seen.{DeskState, LeadsOn}
 use Rattle.ent_desk.specs.declared.advance.Advance.TheVariants.{Done}
 use Rattle.ent_desk.proofs.Advancing.{all_done, started}
 use Rattle.ent_desk.proofs.Counting.{starts_none}
-use Rattle.ent_desk.proofs.Keeping.{kept_none}
+use Rattle.ent_desk.proofs.Keeping.{kept_none, starts_on}
 use Rattle.ent_desk.proofs.desk.Desk.start_run.Goals as goal
 
 pub invariant_of-self-2 : goal.invariant_of-self-2
@@ -31,17 +31,41 @@ returns-in-Some-clause-ok g c =
     let i = c.self.inside in
     let reply = reply_seen c.in_ok-reply.reply in
     let new : DeskState = record { core = c.start_run.new.self; count = i.count } in
-    let still = subst (λ (d : DeskState). IsStill d.core) (sym c.self.view_is) c.requires.still in
-    subst (λ (old : DeskState). Advances old c.in-Some.started new) c.self.view_is
-    (started i.count i.core c.start_run.new.self reply c.in-Some.started (sym c.in-Some.is ∙ c.advance_told.ensures) still
-    c.in_ok-reply.ensures.ok)
+    let off : i.core.running ≡ false = sym c.running.ensures ∙ c.if-running.false in
+    subst (λ (old : DeskState). StartsRun old c.in-Some.started new) c.self.view_is
+    (started i.count i.core c.start_run.new.self reply c.in-Some.started (sym c.in-Some.is ∙ c.advance_told.ensures)
+    off c.in_ok-reply.ensures.ok)
+
+pub returns-in-Some-clause-events : goal.returns-in-Some-clause-events
+returns-in-Some-clause-events g c =
+    let i = c.self.inside in
+    let reply = reply_seen c.in_ok-reply.reply in
+    let before : DeskState = record { core = i.core; count = i.count } in
+    let new : DeskState = record { core = c.start_run.new.self; count = i.count } in
+    let off : i.core.running ≡ false = sym c.running.ensures ∙ c.if-running.false in
+    subst (λ (old : DeskState). LeadsOn old new) c.self.view_is
+    (starts_on c.in-Some.started before new
+    (started i.count i.core c.start_run.new.self reply c.in-Some.started (sym c.in-Some.is ∙ c.advance_told.ensures)
+    off c.in_ok-reply.ensures.ok))
 
 pub returns-clause-ok : goal.returns-clause-ok
 returns-clause-ok g c =
     let i = c.self.inside in
     let reply = reply_seen c.in_ok-reply.reply in
     let new : DeskState = record { core = c.start_run.new.self; count = i.count } in
-    let still = subst (λ (d : DeskState). IsStill d.core) (sym c.self.view_is) c.requires.still in
-    let on : i.core.running ≡ false = ap (λ (d : DeskState). d.core.running) c.self.view_is ∙ c.requires.no_run in
-    subst (λ (old : DeskState). Advances old Done new) c.self.view_is
-    (all_done i.count i.core c.start_run.new.self reply (sym c.in_default.is ∙ c.advance_told.ensures) on c.in_ok-reply.ensures.ok c.is_reached.ensures.reached (c.finished_scripts_have_fates.ensures.book resolved_forms))
+    let off : i.core.running ≡ false = sym c.running.ensures ∙ c.if-running.false in
+    subst (λ (old : DeskState). StartsRun old Done new) c.self.view_is
+    (all_done i.count i.core c.start_run.new.self reply (sym c.in_default.is ∙ c.advance_told.ensures) off
+    c.in_ok-reply.ensures.ok c.is_reached.ensures.reached (c.finished_scripts_have_fates.ensures.book resolved_forms))
+
+pub returns-clause-events : goal.returns-clause-events
+returns-clause-events g c =
+    let i = c.self.inside in
+    let reply = reply_seen c.in_ok-reply.reply in
+    let before : DeskState = record { core = i.core; count = i.count } in
+    let new : DeskState = record { core = c.start_run.new.self; count = i.count } in
+    let off : i.core.running ≡ false = sym c.running.ensures ∙ c.if-running.false in
+    subst (λ (old : DeskState). LeadsOn old new) c.self.view_is
+    (starts_on Done before new
+    (all_done i.count i.core c.start_run.new.self reply (sym c.in_default.is ∙ c.advance_told.ensures) off
+    c.in_ok-reply.ensures.ok c.is_reached.ensures.reached (c.finished_scripts_have_fates.ensures.book resolved_forms)))

@@ -1,0 +1,90 @@
+//! A client waits for a fate.
+ghost use Rattle.std.specs.Prelude.{IfOk, IfSome};
+ghost use Rattle.ent_desk.specs.Seen.{GetsReceipts};
+ghost use Rattle.ent_serve.specs.Fates.{AgreesWith};
+
+use crate::gate::Gate;
+use crate::manager::{Manager, Turn};
+use ent_desk::{Naming, Session};
+use ent_group::Tx;
+use ent_semantics::Fate;
+use std::alloc::AllocError;
+use std::sync::Wait;
+use std::thread;
+use std::time::{Clock, Duration, Instant};
+
+/// What is left of a time since its start; none where it is over, or where a clock can't be read.
+fn left_of<R: Clock>(rt: &R, start: Option<Instant>, most: Duration) -> Option<Duration> {
+    most.checked_sub(start?.elapsed(rt).ok()?)
+}
+
+impl<L: Naming, G: Gate> Manager<L, G> {
+    /// Works in the run once, and tells the fate of a transaction, where it has one then; else how far the work came.
+    #[tactic(auto, using(crate::proofs::Serving::agrees))]
+    fn work_towards<R: Wait>(
+        &self,
+        rt: &R,
+        session: &mut Session<L>,
+        tx: Tx,
+    ) -> Result<Result<Fate, Turn>, AllocError>
+        ensures session { GetsReceipts session.old session.new }
+        ensures fate { IfOk result (λ told. IfOk told (AgreesWith session.new.receipts tx)) }
+    {
+        let turn = self.work_in_run(rt, session)?;
+        match self.fate(rt, session, tx) {
+            Some(fate) => Ok(Ok(fate)),
+            None => Ok(Err(turn)),
+        }
+    }
+
+    /// The fate of a transaction, as soon as it has one, whoever's step gives it. Meanwhile it works in the run, as
+    /// [`Manager::work_in_run`] does, and sleeps where nothing moves; it starts no run, and ends none, so another thread
+    /// is to do that. Where memory runs out it makes its call again, so that no job stays in the session. A number that
+    /// no script has yet waits for its script.
+    #[tactic(auto, using(crate::proofs::Serving::gets_on, crate::proofs::Serving::gets_same))]
+    pub fn wait_for<R: Wait>(&self, rt: &R, session: &mut Session<L>, tx: Tx) -> Fate
+        ensures session { GetsReceipts session.old session.new }
+        ensures fate { AgreesWith session.new.receipts tx result }
+    {
+        for _ in rt.forever() {
+            let seen = self.bell.count(rt);
+            match self.work_towards(rt, session, tx) {
+                Ok(Ok(fate)) => return fate,
+                Ok(Err(Turn::Moved)) => {}
+                Ok(Err(Turn::Idle | Turn::Done)) => self.bell.wait_as_client(rt, seen),
+                Err(AllocError) => thread::yield_now(),
+            }
+        }
+        unreachable!()
+    }
+
+    /// As [`Manager::wait_for`], for so long at most: None where the time is over first, or where the clock can't be
+    /// read. A call that is made is made to its end, also beyond the time.
+    #[tactic(auto, using(crate::proofs::Serving::gets_on, crate::proofs::Serving::gets_same))]
+    pub fn wait_for_at_most<R: Wait + Clock>(
+        &self,
+        rt: &R,
+        session: &mut Session<L>,
+        tx: Tx,
+        most: Duration,
+    ) -> Option<Fate>
+        ensures session { GetsReceipts session.old session.new }
+        ensures fate { IfSome result (AgreesWith session.new.receipts tx) }
+    {
+        let start = Instant::now(rt).ok();
+        for _ in rt.forever() {
+            let seen = self.bell.count(rt);
+            match self.work_towards(rt, session, tx) {
+                Ok(Ok(fate)) => return Some(fate),
+                Ok(Err(turn)) => {
+                    let left = left_of(rt, start, most)?;
+                    if turn != Turn::Moved {
+                        self.bell.wait_as_client_at_most(rt, seen, left);
+                    }
+                }
+                Err(AllocError) => thread::yield_now(),
+            }
+        }
+        unreachable!()
+    }
+}
