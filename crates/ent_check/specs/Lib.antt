@@ -7,6 +7,7 @@ pub mod Order
 pub mod Told
 pub mod Sorts
 pub mod Closed
+pub mod Evidence
 pub mod Alike
 pub mod Laws
 pub mod Alone

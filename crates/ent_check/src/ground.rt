@@ -1,5 +1,5 @@
 //! Groundings, tested.
-ghost use Rattle.std.specs.Prelude.{◌≡◌, ◌<◌, List, IfOk, length, map, slice_index_or};
+ghost use Rattle.std.specs.Prelude.{◌≡◌, ◌<◌, List, IfOk, is_none, length, map, slice_index_or};
 ghost use Rattle.std.specs.Arc.{arc_value};
 ghost use Rattle.std.specs.List.{AllByRecursion, list_all};
 ghost use Rattle.ent_lists.specs.Sets as set;
@@ -16,6 +16,7 @@ ghost use Rattle.ent_semantics.specs.Selection.{holds};
 ghost use Rattle.ent_tree.specs.declared.operand.Comparison.TheVariants.{Equal};
 ghost use Rattle.ent_value.specs.Value.{row_cmp};
 
+use crate::Evidence;
 use crate::term::{terms_row, test_holds};
 use ent_rel::{NumberedTable, Table};
 use ent_select::{all, table_at};
@@ -170,4 +171,74 @@ pub fn is_grounding(
         return Ok(false);
     }
     Ok(tests_hold(grounding, statement.tests.as_slice()))
+}
+
+/// The number of the first tuple that is no row of its sub-select's result, counted from 1.
+fn failing_membership(
+    alloc: Global,
+    tables: &[Arc<Table>],
+    grounding: &[Value],
+    memberships: &[Membership<Value>],
+) -> Result<Option<u64>, AllocError>
+    requires { AllByRecursion
+        (λ membership. AllByRecursion (λ number. number < length tables.now) membership.select.sources)
+        memberships.now }
+    ensures { IfOk result (λ failing. is_none failing
+        ≡ list_all (membership_holds itself (rows_in (map arc_value tables.now)) grounding.now) memberships.now) }
+{
+    let mut number: u64 = 1;
+    for membership in memberships {
+        if !membership_holds(alloc, tables, grounding, membership)? {
+            return Ok(Some(number));
+        }
+        number = number.saturating_add(1);
+    }
+    Ok(None)
+}
+
+/// The number of the first test between terms that isn't true, counted from 1.
+fn failing_test(grounding: &[Value], tests: &[Test<Term<Value>>]) -> Option<u64>
+    ensures { is_none result ≡ list_all (holds (term_worth itself grounding.now)) tests.now }
+{
+    let mut number: u64 = 1;
+    for test in tests {
+        if !test_holds(grounding, test) {
+            return Some(number);
+        }
+        number = number.saturating_add(1);
+    }
+    None
+}
+
+/// Why values are no grounding of a closed entangled statement over tables, in the order of their declaration: their
+/// number, else the first tuple that is no row of its sub-select's result, else the first test that isn't true; none
+/// where they are one.
+pub(crate) fn failing(
+    alloc: Global,
+    statement: &Entangled<Value>,
+    tables: &[Arc<Table>],
+    grounding: &[Value],
+) -> Result<Option<Evidence>, AllocError>
+    requires { AllByRecursion
+        (λ membership. AllByRecursion (λ number. number < length tables.now) membership.select.sources)
+        statement.now.atoms }
+    ensures { IfOk result (λ failing. is_none failing
+        ≡ is_form_grounding itself (rows_in (map arc_value tables.now)) statement.now grounding.now) }
+{
+    let wanted = statement.variables.len();
+    let told = grounding.len();
+    if told != wanted {
+        return Ok(Some(Evidence::Values {
+            wanted: wanted as u64,
+            told: told as u64,
+        }));
+    }
+    let atoms = statement.atoms.as_slice();
+    if let Some(number) = failing_membership(alloc, tables, grounding, atoms)? {
+        return Ok(Some(Evidence::Membership(number)));
+    }
+    match failing_test(grounding, statement.tests.as_slice()) {
+        Some(number) => Ok(Some(Evidence::Comparison(number))),
+        None => Ok(None),
+    }
 }

@@ -13,6 +13,7 @@
 
 mod alike;
 mod declared;
+mod evidence;
 mod facts;
 mod ground;
 mod groundings;
@@ -38,6 +39,7 @@ mod transaction;
 
 pub use alike::same_answer;
 pub use declared::Declared;
+pub use evidence::Evidence;
 pub use facts::{bindings_of, facts_of};
 pub use ground::{is_grounding, tables_of};
 pub use groundings::{Groundings, Seat};

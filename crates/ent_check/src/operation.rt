@@ -1,10 +1,13 @@
 //! One statement, run and compared.
-ghost use Rattle.std.specs.Prelude.{◌≡◌, ◌<◌, ◌++◌, [], Some, None, IfOk, length, map, slice_index_or};
+ghost use Rattle.std.specs.Prelude.{◌≡◌, ◌<◌, ◌++◌, [], Some, None, IfOk, IfSome, length, map};
+ghost use Rattle.std.specs.Prelude.{false, slice_index_or};
 ghost use Rattle.std.specs.Arc.{arc_value};
 ghost use Rattle.std.specs.List.{AllByRecursion};
 ghost use Rattle.std.specs.Option.{option_map};
 ghost use Rattle.ent_check.specs.Closed.{HasSeat, Leaves, answer_in, closed_findings, closed_offers};
 ghost use Rattle.ent_check.specs.Closed.{grounding_in, is_told};
+ghost use Rattle.ent_check.specs.Evidence.{outcome_of};
+ghost use Rattle.ent_check.specs.declared.evidence.Evidence.TheVariants as evidences;
 ghost use Rattle.ent_check.specs.Sorts.{CanRun};
 ghost use Rattle.ent_semantics.specs.Form.{closed_worth, form_meaning};
 ghost use Rattle.ent_semantics.specs.FormKinds.{tables_named};
@@ -16,9 +19,10 @@ ghost use Rattle.ent_history.specs.declared.finding.Rule.TheVariants as rules;
 ghost use Rattle.ent_history.specs.declared.finding.Thing.TheVariants as things;
 ghost use Rattle.ent_select.specs.Tables.{kinds_in, rows_in};
 
+use crate::ground::failing;
 use crate::replay_offer::offer_under;
 use crate::statement::carry_out;
-use crate::{Groundings, Offer, Seat, is_grounding, same_answer};
+use crate::{Evidence, Groundings, Offer, Seat, is_grounding, same_answer};
 use ent_closing::Environment;
 use ent_history::{Finding, Rule, Thing};
 use ent_rel::Table;
@@ -28,11 +32,12 @@ use std::alloc::{AllocError, Global};
 use std::sync::Arc;
 
 /// What scripts have made so far: the tables as they stand, in the order of their declaration, and what their entangled
-/// statements offered and demanded.
+/// statements offered and demanded; and what stands behind what is found.
 #[derive(Drop)]
 pub(crate) struct Stage {
     pub tables: Vec<Arc<Table>>,
     pub offers: Vec<Offer>,
+    pub evidence: Option<Evidence>,
 }
 
 /// A statement's place: the number of its transaction and its own number in the script, both counted from 1.
@@ -52,6 +57,18 @@ fn is_told(answer: &Answer, told: Option<&Answer>) -> bool
     }
 }
 
+/// Whether an answer is what is told. Where it isn't, it is noted.
+fn is_right(answer: Answer, told: Option<&Answer>, evidence: &mut Option<Evidence>) -> bool
+    ensures right { result ≡ is_told (Some answer) (option_map (λ told. told.now) told.entry) }
+    ensures noted { result ≡ false → evidence.new ≡ Some (evidences.Answer answer) }
+{
+    let right = is_told(&answer, told);
+    if !right {
+        *evidence = Some(Evidence::Answer(answer));
+    }
+    right
+}
+
 /// What is found of an answer: nothing where it is right.
 fn unless_right(right: bool, place: Place) -> Option<Finding>
     ensures { result ≡ first_of (unless right rules.Answer (things.Answer place.tx place.place)) }
@@ -69,7 +86,7 @@ fn unless_right(right: bool, place: Place) -> Option<Finding>
 }
 
 /// Runs a closed statement under a grounding, and compares its answer with what is told. Where that is right, the
-/// tables and the environment are as the statement leaves them.
+/// tables and the environment are as the statement leaves them; else what the statement comes to is noted.
 fn answer_finding(
     alloc: Global,
     place: Place,
@@ -78,6 +95,7 @@ fn answer_finding(
     told: Option<&Answer>,
     tables: &mut Vec<Arc<Table>>,
     environment: &mut Environment,
+    evidence: &mut Option<Evidence>,
 ) -> Result<Option<Finding>, AllocError>
     requires within { AllByRecursion (λ number. number < length tables.old.items) (tables_named statement.now) }
     requires fits { let kinds = kinds_in (map arc_value tables.old.items) in
@@ -93,17 +111,23 @@ fn answer_finding(
         → Leaves meaning (rows_in (map arc_value tables.new.items)) (environment_of environment.new)) }
     ensures kinds { IfOk result (λ finding. finding ≡ None
         → kinds_in (map arc_value tables.new.items) ≡ kinds_in (map arc_value tables.old.items)) }
+    ensures evidence { let meaning = form_meaning closed_worth statement.now grounding.now
+        (rows_in (map arc_value tables.old.items)) (environment_of environment.old) in
+        IfOk result (λ finding. IfSome finding (λ wrong. evidence.new ≡ outcome_of meaning)) }
 {
     match carry_out(alloc, statement, grounding, tables, environment) {
-        Ok(answer) => Ok(unless_right(is_told(&answer, told), place)),
-        Err(Refusal::Fault(_)) => Ok(unless_right(false, place)),
+        Ok(answer) => Ok(unless_right(is_right(answer, told, evidence), place)),
+        Err(Refusal::Fault(failure)) => {
+            *evidence = Some(Evidence::Fails(failure));
+            Ok(unless_right(false, place))
+        }
         Err(Refusal::Memory) => Err(AllocError),
     }
 }
 
 /// Runs a closed statement, an entangled one under the grounding of its seat, and finds what is wrong with it first:
 /// its grounding or its answer. Where nothing is, the tables and the environment are as it leaves them, and what it
-/// offers and demands stands behind the offers.
+/// offers and demands stands behind the offers; else what stands behind that is noted.
 pub(crate) fn operation_finding(
     alloc: Global,
     groundings: &Groundings<'_>,
@@ -141,6 +165,7 @@ pub(crate) fn operation_finding(
             told,
             &mut stage.tables,
             environment,
+            &mut stage.evidence,
         );
     };
     let Some(seat) = groundings.seat(place.tx, place.place) else {
@@ -148,6 +173,12 @@ pub(crate) fn operation_finding(
         unreachable!()
     };
     if !is_grounding(alloc, entangled, stage.tables.as_slice(), seat.grounding)? {
+        stage.evidence = failing(
+            alloc,
+            entangled,
+            stage.tables.as_slice(),
+            seat.grounding,
+        ).unwrap_or(None);
         return Ok(Some(ungrounded(&seat)));
     }
     let offer = offer_under(alloc, place.tx, place.place, entangled, seat.grounding)?;
@@ -160,6 +191,7 @@ pub(crate) fn operation_finding(
         told,
         &mut stage.tables,
         environment,
+        &mut stage.evidence,
     )
 }
 

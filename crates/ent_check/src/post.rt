@@ -1,5 +1,5 @@
 //! The rule of postconditions.
-ghost use Rattle.std.specs.Prelude.{◌≡◌, ◌++◌, ◌&&◌, ◌||◌, ◌==◌, ℕ, not, List, [], None, IfOk, map};
+ghost use Rattle.std.specs.Prelude.{◌≡◌, ◌++◌, ◌&&◌, ◌||◌, ◌==◌, ℕ, not, List, [], None, IfOk, is_none, map};
 ghost use Rattle.std.specs.BTreeMap.{BTreeMap};
 ghost use Rattle.std.specs.List.{list_all, list_any};
 ghost use Rattle.ent_check.specs.Heads.{has};
@@ -15,6 +15,7 @@ ghost use Rattle.ent_history.specs.Verdict.{first_of};
 ghost use Rattle.ent_semantics.specs.Book.{all_members};
 ghost use Rattle.ent_semantics.specs.Serial.{ReadView};
 
+use crate::Evidence;
 use crate::heads::{Heads, heads_of, is_head};
 use crate::joined::{Joined, joined_by, offers_of};
 use crate::offer::Offer;
@@ -66,11 +67,41 @@ fn are_met(alloc: Global, joined: &Joined, number: u64) -> Result<bool, AllocErr
     are_content(alloc, offers_of(joined, number))
 }
 
-/// The first joint answer that has a postcondition of a member that is no head of a member of it.
+/// The first of these facts that are demanded that is none of these heads.
+fn missing_head<'a>(heads: &Heads<'a>, posts: &'a [Fact]) -> Option<&'a Fact>
+    ensures { is_none result ≡ list_all (has heads.now) posts.now }
+{
+    for post in posts {
+        if !is_head(heads, post) {
+            return Some(post);
+        }
+    }
+    None
+}
+
+/// The first postcondition of these offers that is no head of one of them, with its statement.
+fn unmet(alloc: Global, offers: &[Offer]) -> Result<Option<Evidence>, AllocError> {
+    let heads = heads_of(alloc, offers)?;
+    for offer in offers {
+        if let Some(post) = missing_head(&heads, offer.posts.as_slice()) {
+            let relation = post.relation.copy(alloc)?;
+            let values = post.values.copy(alloc)?;
+            return Ok(Some(Evidence::Unmet {
+                tx: offer.tx,
+                place: offer.place,
+                demand: Fact { relation, values },
+            }));
+        }
+    }
+    Ok(None)
+}
+
+/// The first joint answer that has a postcondition of a member that is no head of a member of it. That is noted.
 fn first_unmet(
     alloc: Global,
     joint_answers: &[ToldJoint],
     joined: &Joined,
+    evidence: &mut Option<Evidence>,
 ) -> Result<Option<Finding>, AllocError>
     ensures { IfOk result (λ finding. (all : List Account) (run : List ReadView) (seats : BTreeMap (ℕ × ℕ) (ℕ × ℕ))
         → let answers = map joint_answer_of joint_answers.now in
@@ -83,6 +114,7 @@ fn first_unmet(
         let number = index as u64 + 1;
         let met = are_met(alloc, joined, number)?;
         if !met {
+            *evidence = unmet(alloc, offers_of(joined, number)).unwrap_or(None);
             return Ok(Some(Finding {
                 rule: Rule::Post,
                 thing: Thing::Joint(number),
@@ -94,12 +126,14 @@ fn first_unmet(
 
 /// The first joint answer that has a postcondition of a member that is no head of a member of it, where `seats` are
 /// those of `joint_answers`, `offers` those of a run in its order, and nothing breaks the rule of joint answers. It
-/// puts each offer to its joint answer, puts the heads there in order, and looks each postcondition up among them.
+/// puts each offer to its joint answer, puts the heads there in order, and looks each postcondition up among them. The
+/// first that isn't there is noted.
 pub fn post_finding(
     alloc: Global,
     seats: &Seats,
     joint_answers: &[ToldJoint],
     offers: Vec<Offer>,
+    evidence: &mut Option<Evidence>,
 ) -> Result<Option<Finding>, AllocError>
     requires { AreSeatsOf (placed (map joint_answer_of joint_answers.now)) seats.now }
     ensures { (all : List Account) (run : List ReadView) → let answers = map joint_answer_of joint_answers.now in
@@ -108,5 +142,5 @@ pub fn post_finding(
         → IfOk result (λ finding. finding ≡ first_of (post_findings run 1 answers)) }
 {
     let joined = joined_by(alloc, seats, offers)?;
-    first_unmet(alloc, joint_answers, &joined)
+    first_unmet(alloc, joint_answers, &joined, evidence)
 }

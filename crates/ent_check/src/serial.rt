@@ -22,7 +22,7 @@ ghost use Rattle.ent_semantics.specs.Database.{opening_database};
 use crate::declared::Declared;
 use crate::operation::Stage;
 use crate::transaction::transaction_finding;
-use crate::{Groundings, Offer, Seats, commit_order};
+use crate::{Evidence, Groundings, Offer, Seats, commit_order};
 use ent_form_laws::opening_tables_are_kinded;
 use ent_history::{Finding, History, Told};
 use ent_loading::load_tables;
@@ -31,11 +31,12 @@ use ent_tree::{Opening, Script};
 use std::alloc::{AllocError, Global};
 use std::sync::Arc;
 
-/// What is found first of transactions that are run alone, and what they leave where nothing is: the tables, in the
-/// order of their declaration, and what their entangled statements offer and demand, in order.
+/// What is found first of transactions that are run alone, and what stands behind it; and what they leave where nothing
+/// is: the tables, in the order of their declaration, and what their entangled statements offer and demand, in order.
 #[derive(Drop)]
 pub struct Replayed {
     pub finding: Option<Finding>,
+    pub evidence: Option<Evidence>,
     pub tables: Vec<Arc<Table>>,
     pub offers: Vec<Offer>,
 }
@@ -55,6 +56,7 @@ fn opened(alloc: Global, declared: &Declared<'_>, opening: &Opening) -> Result<S
     Ok(Stage {
         tables,
         offers: Vec::new(alloc),
+        evidence: None,
     })
 }
 
@@ -181,9 +183,14 @@ pub fn replay(alloc: Global, history: &History, seats: &Seats) -> Result<Replaye
         order.as_slice(),
         &mut stage,
     )?;
-    let Stage { tables, offers } = stage;
+    let Stage {
+        tables,
+        offers,
+        evidence,
+    } = stage;
     Ok(Replayed {
         finding,
+        evidence,
         tables,
         offers,
     })

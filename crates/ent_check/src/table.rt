@@ -7,12 +7,13 @@ ghost use Rattle.ent_history.specs.Table.{tables_findings};
 ghost use Rattle.ent_history.specs.Verdict.{first_of};
 ghost use Rattle.ent_select.specs.Tables.{no_table, rows_in};
 
+use crate::Evidence;
 use crate::alike::same_rows;
 use ent_history::{Finding, Rule, Shown, Thing};
 use ent_rel::Table;
 use ent_select::table_at;
 use ent_tree::Create;
-use ent_value::{Name, Row};
+use ent_value::{Name, Row, Sequence};
 use std::alloc::{AllocError, Global};
 use std::sync::Arc;
 
@@ -46,12 +47,14 @@ fn rows_named(
     Ok(Vec::new(alloc))
 }
 
-/// The first table that isn't shown as it stands. Tables are given in the order of their declaration.
+/// The first table that isn't shown as it stands. Its rows are noted. Tables are given in the order of their
+/// declaration.
 pub fn tables_finding(
     alloc: Global,
     creates: &[Create],
     tables: &[Arc<Table>],
     shown: &[Shown],
+    evidence: &mut Option<Evidence>,
 ) -> Result<Option<Finding>, AllocError>
     requires { length tables.now ≡ length creates.now }
     ensures { IfOk result (λ finding. finding ≡ first_of
@@ -61,6 +64,7 @@ pub fn tables_finding(
         let rows = rows_named(alloc, creates, tables, &one.name)?;
         let alike = same_rows(one.rows.as_slice(), rows.as_slice());
         if !alike {
+            *evidence = Some(Evidence::Rows(Sequence::from_vec(rows)));
             return Ok(Some(Finding {
                 rule: Rule::Table,
                 thing: Thing::Table(index as u64 + 1),

@@ -1,5 +1,5 @@
 -- What a check of a text answers.
-use Rattle.std.specs.Prelude.{◌≡◌, ◌⊎◌, ℕ, List, Some, None}
+use Rattle.std.specs.Prelude.{◌≡◌, ◌⊎◌, ℕ, Bool, true, false, List, Some, None}
 use Rattle.std.specs.Str.{IsUtf8}
 use Rattle.ent_history.specs.declared.history.History.{History}
 use Rattle.ent_history.specs.Fault.{IsNoReport}
@@ -24,3 +24,8 @@ abbrev pub IsVerdict : List ℕ → Verdict → Type 0
 IsVerdict text verdict =
     ((line : ℕ) × IsNoReport text line × (verdict ≡ No line Form))
     ⊎ (IsUtf8 text × (history : History) × Tells text history × IsVerdictOn history verdict)
+
+-- a rule is broken
+abbrev pub is_no : Verdict → Bool
+is_no Yes = false
+is_no (No line rule) = true

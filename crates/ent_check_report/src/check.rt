@@ -28,8 +28,9 @@ use std::io::Read;
 /// The most bytes that a report has.
 pub const MOST_REPORT_BYTES: usize = 1_099_511_627_776;
 
-/// Reads to the end, in any pieces that the reader gives.
-fn read_text<R: Read>(alloc: Global, reader: &mut Watched<R>) -> Result<Vec<u8>, CheckFault>
+/// Reads a report whole, in any pieces that the reader gives. The bytes are counted while they come, and none beyond
+/// [`MOST_REPORT_BYTES`] is kept.
+pub fn read_text<R: Read>(alloc: Global, reader: &mut Watched<R>) -> Result<Vec<u8>, CheckFault>
     requires unmarked { IsUnmarked reader.old }
     ensures whole { IfOk result (λ text. IfSome (R.remaining reader.old.inner) (λ all. text.items ≡ all)) }
     ensures limit { IfOk result (λ text. length text.items ≤ MOST_REPORT_BYTES) }

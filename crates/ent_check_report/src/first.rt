@@ -17,17 +17,19 @@ ghost use Rattle.ent_semantics.specs.Book.{all_members};
 ghost use Rattle.ent_semantics.specs.Database.{opening_database};
 
 use ent_check::{
-    Replayed, Seats, joint_finding, journal_finding, post_finding, replay, seats_of, tables_finding,
+    Evidence, Replayed, Seats, joint_finding, journal_finding, post_finding, replay, seats_of,
+    tables_finding,
 };
 use ent_history::{Finding, History};
 use std::alloc::{AllocError, Global};
 
 /// What breaks the rules of groundings and answers, of postconditions and of tables first, where nothing breaks those
-/// of the journal and of joint answers, and `seats` are those of the joint answers.
+/// of the journal and of joint answers, and `seats` are those of the joint answers. What stands behind it is noted.
 fn run_finding(
     alloc: Global,
     history: &History,
     seats: &Seats,
+    evidence: &mut Option<Evidence>,
 ) -> Result<Option<Finding>, AllocError>
     requires formed { opening_fault history.now.opening ≡ None }
     requires resolved { AllByRecursion (IsResolved history.now.opening.tables) history.now.scripts }
@@ -47,14 +49,16 @@ fn run_finding(
 {
     let Replayed {
         finding,
+        evidence: behind,
         tables,
         offers,
     } = replay(alloc, history, seats)?;
+    *evidence = behind;
     if finding.is_some() {
         return Ok(finding);
     }
     let joints = history.joint_answers.as_slice();
-    let post = post_finding(alloc, seats, joints, offers)?;
+    let post = post_finding(alloc, seats, joints, offers, evidence)?;
     if post.is_some() {
         return Ok(post);
     }
@@ -63,13 +67,17 @@ fn run_finding(
         history.opening.tables.as_slice(),
         tables.as_slice(),
         history.tables.as_slice(),
+        evidence,
     )
 }
 
-/// What breaks the rules of a report first: of the rules in their order, and of each rule from the top; none where the
-/// history keeps them all. Neither the opening nor a script has a fault of form, as the text of a history tells. Each
-/// script runs once, alone, and no grounding is searched for.
-pub fn first_finding(alloc: Global, history: &History) -> Result<Option<Finding>, AllocError>
+/// The finding of [`first_finding`]. What stands behind it is noted, where the rule is that of groundings, of answers,
+/// of postconditions or of tables.
+pub(crate) fn first_noted(
+    alloc: Global,
+    history: &History,
+    evidence: &mut Option<Evidence>,
+) -> Result<Option<Finding>, AllocError>
     requires formed { opening_fault history.now.opening ≡ None }
     requires resolved { AllByRecursion (IsResolved history.now.opening.tables) history.now.scripts }
     ensures { IfOk result (λ finding. finding ≡ first_finding history.now) }
@@ -86,5 +94,17 @@ pub fn first_finding(alloc: Global, history: &History) -> Result<Option<Finding>
     if joint.is_some() {
         return Ok(joint);
     }
-    run_finding(alloc, history, &seats)
+    run_finding(alloc, history, &seats, evidence)
+}
+
+/// What breaks the rules of a report first: of the rules in their order, and of each rule from the top; none where the
+/// history keeps them all. Neither the opening nor a script has a fault of form, as the text of a history tells. Each
+/// script runs once, alone, and no grounding is searched for.
+pub fn first_finding(alloc: Global, history: &History) -> Result<Option<Finding>, AllocError>
+    requires formed { opening_fault history.now.opening ≡ None }
+    requires resolved { AllByRecursion (IsResolved history.now.opening.tables) history.now.scripts }
+    ensures { IfOk result (λ finding. finding ≡ first_finding history.now) }
+{
+    let mut evidence = None;
+    first_noted(alloc, history, &mut evidence)
 }

@@ -6,12 +6,21 @@
 #![tactic(auto)]
 
 mod check;
+mod evidence_told;
+mod explain;
+mod explanation;
 mod fault;
 mod first;
+mod form_told;
+mod joint_told;
+mod journal_told;
 mod law;
+mod page;
 mod verdict;
 
-pub use check::{MOST_REPORT_BYTES, check_report, check_text};
+pub use check::{MOST_REPORT_BYTES, check_report, check_text, read_text};
+pub use explain::{Explained, explain_text};
+pub use explanation::Explanation;
 pub use fault::{CheckFault, status_of};
 pub use first::first_finding;
 pub use law::reports_that_are_right_tell_of_legal_books;

@@ -6,7 +6,7 @@ use crate::running::run;
 use crate::words::{Asked, asked_of, command};
 use clap::Error;
 use clap::error::ErrorKind;
-use ent_check_report::check_report;
+use ent_check_report::{CheckFault, Explained, check_report, explain_text, read_text};
 use ent_engine::{FaultLine, RunFault};
 use ent_value::Watched;
 use std::alloc::Global;
@@ -36,9 +36,9 @@ where
             say_what_is_read(rt, is_terminal, "tables, rows and scripts");
             run(rt, threads, asked)
         }
-        Ok(Asked::Check) => {
+        Ok(Asked::Check { is_explained }) => {
             say_what_is_read(rt, is_terminal, "a report of version 2");
-            said(rt, check(rt))
+            said(rt, checked(rt, is_explained))
         }
         Ok(Asked::Arrange) => {
             say_what_is_read(rt, is_terminal, "tables, rows and scripts");
@@ -125,6 +125,39 @@ fn show_command_line<R: Print + Eprint>(rt: &R, fault: &Error) -> Ending {
     } else {
         Ending::Done
     }
+}
+
+/// Checks the report of standard input, and says of it what is asked for.
+fn checked<R: AllocGlobal + Input + Print + Eprint>(rt: &R, is_explained: bool) -> Ending {
+    if !is_explained {
+        return check(rt);
+    }
+    match explained(rt) {
+        Ok(explained) => tell_explained(rt, explained),
+        Err(fault) => Ending::Faulty(RunFault::Check(fault)),
+    }
+}
+
+/// Reads the report of standard input whole, and checks it.
+fn explained<R: AllocGlobal + Input>(rt: &R) -> Result<Explained, CheckFault> {
+    let mut reader = Watched::new(rt.reader());
+    let text = read_text(rt.alloc(), &mut reader)?;
+    explain_text(rt.alloc(), text.as_slice())
+}
+
+/// Prints the verdict in a line, and says on standard error what was expected and what was found.
+fn tell_explained<R: Print + Eprint>(rt: &R, explained: Explained) -> Ending {
+    let Explained {
+        verdict,
+        explanation,
+    } = explained;
+    if println!(rt; "{verdict}").is_err() {
+        return Ending::Faulty(RunFault::WriteFault);
+    }
+    if let Some(explanation) = explanation {
+        let _ = eprint!(rt; "{explanation}");
+    }
+    Ending::from(verdict)
 }
 
 /// Checks the report of standard input, and prints the verdict in a line.

@@ -20,7 +20,7 @@ const EXAMPLE: &str = "Example:
 
 /// What stands below what the check is for.
 const CHECK_EXAMPLE: &str = "Example:
-  entangle run --report 2 < friends.sql | entangle check";
+  entangle run --report 2 < friends.sql | entangle check --explain";
 
 /// What stands below what a picture is for.
 const DRAW_EXAMPLE: &str = "Example:
@@ -32,7 +32,7 @@ const ARRANGE_EXAMPLE: &str = "Example:
   entangle arrange < friends.sql | entangle run";
 
 /// The program's words: the subcommand `run` with its options, each a whole number in its range but for `--trace`
-/// and `--explain`; `check`; `arrange`; and `draw`, with the transactions whose lanes are wanted.
+/// and `--explain`; `check`, with `--explain`; `arrange`; and `draw`, with the transactions whose lanes are wanted.
 pub(crate) fn command<'a>(alloc: Global) -> Result<Command<'a>, AllocError> {
     let run = Command::new(alloc, "run")
         .about(
@@ -49,6 +49,7 @@ pub(crate) fn command<'a>(alloc: Global) -> Result<Command<'a>, AllocError> {
             "Reads a report of version 2 from standard input and prints `yes` where it tells of a legal book, \
              else `no`, a line and the rule that is broken there",
         )
+        .arg(explain_check(alloc))?
         .after_help(CHECK_EXAMPLE);
     let arrange = Command::new(alloc, "arrange")
         .about(
@@ -134,13 +135,23 @@ fn explain<'a>(alloc: Global) -> Arg<'a> {
         )
 }
 
+fn explain_check<'a>(alloc: Global) -> Arg<'a> {
+    Arg::new(alloc, "explain")
+        .long("explain")
+        .action(ArgAction::SetTrue)
+        .help("Says on standard error what was expected, and what was found, where it prints `no`")
+}
+
 /// What the words ask for.
 #[derive(Drop)]
 pub(crate) enum Asked {
     /// A run of the scripts of standard input.
     Run(AskedRun),
     /// A check of the report of standard input.
-    Check,
+    Check {
+        /// Whether it says what was expected and what was found.
+        is_explained: bool,
+    },
     /// The input of standard input with its scripts in another order.
     Arrange,
     /// A picture of the trace of standard input; where transactions are picked, of these and those that they met.
@@ -182,8 +193,10 @@ fn picked<'a>(alloc: Global, draw: &ArgMatches<'a>) -> Result<Vec<u64>, AllocErr
 
 /// What the words ask for, where that is no picture.
 fn asked_without_picture<'a>(matches: &ArgMatches<'a>) -> Asked {
-    if matches.subcommand_matches("check").is_some() {
-        return Asked::Check;
+    if let Some(check) = matches.subcommand_matches("check") {
+        return Asked::Check {
+            is_explained: check.get_flag("explain"),
+        };
     }
     if matches.subcommand_matches("arrange").is_some() {
         return Asked::Arrange;

@@ -12,6 +12,11 @@ is_grounding-requires c =
     tables_there c.as_slice.result.now c.args.stage.now.tables.items c.args.statement.now c.in-Entangled.entangled
     c.as_slice.ensures.value c.in-Entangled.is c.requires.within
 
+pub failing-requires : goal.failing-requires
+failing-requires c =
+    tables_there c.as_slice-then-not-branch.result.now c.args.stage.now.tables.items c.args.statement.now
+    c.in-Entangled.entangled c.as_slice-then-not-branch.ensures.value c.in-Entangled.is c.requires.within
+
 pub returns-clause-finding : goal.returns-clause-finding
 returns-clause-finding c =
     let tx = c.args.place.tx in

@@ -12,7 +12,7 @@ use Rattle.ent_semantics.specs.Book.{all_members}
 use Rattle.ent_semantics.specs.Database.{opening_database}
 use Rattle.ent_check.proofs.Numbers.{first_none}
 use Rattle.ent_check_report.proofs.Rules.{found_here, nothing_found}
-use Rattle.ent_check_report.proofs.first.first_finding.Goals as goal
+use Rattle.ent_check_report.proofs.first.first_noted.Goals as goal
 
 pub returns-then-is_some-2 : goal.returns-then-is_some-2
 returns-then-is_some-2 c =
