@@ -21,7 +21,7 @@ mod workers;
 
 pub use ent_desk::{
     Blanks, Both, CloseFault, Core, First, Naming, NotSubmitted, PlayFault, Receipt, Seats,
-    Session, SubmitFault, Ticket, core_over, core_over,
+    Session, SubmitFault, Ticket, core_over,
 };
 pub use fault::ServeFault;
 pub use gate::{Gate, Open};
