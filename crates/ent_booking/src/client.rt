@@ -23,7 +23,7 @@ enum Submitted {
     Refused,
 }
 
-fn submitted(told: Result<u64, NotSubmitted>) -> Submitted {
+fn outcome_of(told: Result<u64, NotSubmitted>) -> Submitted {
     match told {
         Ok(tx) => Submitted::Taken(tx),
         Err(refused) if refused.refusal == Refusal::Memory => Submitted::Again(refused.script),
@@ -40,7 +40,7 @@ fn submit<L: Naming, G: Gate, R: Wait>(
 ) -> Option<u64> {
     let mut next = script;
     for _ in rt.forever() {
-        match submitted(manager.submit(rt, session, next)) {
+        match outcome_of(manager.submit(rt, session, next)) {
             Submitted::Taken(tx) => return Some(tx),
             Submitted::Again(script) => next = script,
             Submitted::Refused => return None,

@@ -77,8 +77,8 @@ impl<L: Naming> Desk<L> {
         Ok(Advance::Idle)
     }
 
-    /// Lends no job any more, whoever has one: each is to be lent again, and a result that still comes is dropped. Nobody
-    /// leaves the run, and it takes no memory.
+    /// Lends no job any more, whoever has one: each is to be lent again, and a result that still comes is dropped. It
+    /// takes no memory, and nobody leaves the run.
     pub fn recall(&mut self)
         ensures step { Step resolved_forms self.old.core Recall Recalled self.new.core }
         ensures events { LeadsOn self.old self.new }

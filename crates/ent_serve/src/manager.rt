@@ -265,8 +265,8 @@ impl<L: Naming, G: Gate> Manager<L, G> {
         }
     }
 
-    /// What the journal has for a transaction, for whoever asks: its commit number, its runs, and copies of its answers,
-    /// which take memory; None where it hasn't committed by now.
+    /// What the journal has for a transaction, for whoever asks: its commit number, its runs, and copies of its
+    /// answers, which take memory; None where it hasn't committed by now.
     pub fn receipt_of<R: Wait>(&self, rt: &R, tx: Tx) -> Result<Option<Receipt>, AllocError>
         ensures { IfOk result (λ told. (core : State) × IsBehindLock core × IsInJournal core tx told) }
     {

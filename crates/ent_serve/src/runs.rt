@@ -49,9 +49,9 @@ impl<L: Naming, G: Gate> Manager<L, G> {
         Ok(self.told(rt, &started, left))
     }
 
-    /// Ends the run; each member that is left waits for another one, or gives up: Moved. Idle: something in the run must
-    /// come first, or no run is on, and somebody waits for one. Done: every transaction has its fate. At both, and where
-    /// memory runs out, nothing changes.
+    /// Ends the run; each member that is left waits for another one, or gives up: Moved. Idle: something in the run
+    /// must come first, or no run is on, and somebody waits for one. Done: every transaction has its fate. At both, and
+    /// where memory runs out, nothing changes.
     pub fn end_run<R: Wait>(&self, rt: &R) -> Result<Turn, AllocError> {
         let mut desk = self.desk.lock(rt);
         let ended = desk.end_run()?;

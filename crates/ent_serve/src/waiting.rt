@@ -38,9 +38,9 @@ impl<L: Naming, G: Gate> Manager<L, G> {
     }
 
     /// The fate of a transaction, as soon as it has one, whoever's step gives it. Meanwhile it works in the run, as
-    /// [`Manager::work_in_run`] does, and sleeps where nothing moves; it starts no run, and ends none, so another thread
-    /// is to do that. Where memory runs out it makes its call again, so that no job stays in the session. A number that
-    /// no script has yet waits for its script.
+    /// [`Manager::work_in_run`] does, and sleeps where nothing moves; it starts no run, and ends none, so another
+    /// thread is to do that. Where memory runs out it makes its call again, so that no job stays in the session. A
+    /// number that no script has yet waits for its script.
     #[tactic(auto, using(crate::proofs::Serving::gets_on, crate::proofs::Serving::gets_same))]
     pub fn wait_for<R: Wait>(&self, rt: &R, session: &mut Session<L>, tx: Tx) -> Fate
         ensures session { GetsReceipts session.old session.new }

@@ -5,7 +5,8 @@
 //!   with the lock held would exceed the limit of polls. So a lent job waits at the gate with no lock held. A manager
 //!   that took the lock behind the gate, for the evaluation, would go through all of this. And a job that is held at
 //!   the gate is called back, and done by another session;
-//! - a service that starts and ends its runs itself, and whose clients come at different times and wait for their fates;
+//! - a service that starts and ends its runs itself, and whose clients come at different times and wait for their
+//!   fates;
 //! - two friends who book through one session, in one thread, where each call that runs out of memory is made again:
 //!   once with their scripts submitted one by one, and once with a manager that is opened over them;
 //! - the load of an ordinary service: eight sessions in threads, each of which submits 50 scripts while all work. Each
