@@ -17,17 +17,18 @@ use Rattle.ent_protocol.specs.State.{State}
 use Rattle.ent_waiting.specs.Waiter.{is_idle}
 use Rattle.ent_waiting.specs.WaitingList.{Onward, UpdatesAt, WaitingList, is_stationed, moved, waiter_of, waits_idle}
 use Rattle.ent_waiting.specs.declared.queues.Station.TheVariants.{Batch}
-use Rattle.ent_waiting.specs.declared.waiter.Place.{Place}
-use Rattle.ent_waiting.specs.declared.waiter.Place.TheVariants.{Chosen, Queued, Resting, Submitted}
+use Rattle.ent_waiting.specs.declared.waiter.WaitingPlace.{WaitingPlace}
+use Rattle.ent_waiting.specs.declared.waiter.WaitingPlace.TheVariants.{Chosen, Queued, Resting, Submitted}
 use Rattle.ent_waiting.specs.declared.waiter.Waiter.{Waiter}
 use Rattle.ent_waiting.specs.Queues.{stands_in}
+use Rattle.ent_waiting.proofs.Keeping.{idle}
 use Rattle.ent_admission.specs.Acts.{Acts, Advances, LeadsOn, OnlyShifts, Plans, Turns}
 use Rattle.ent_admission.specs.Admission.{Admission, IsAllTold, IsAtRest, IsOver, endings_due}
 use Rattle.ent_admission.specs.Moves.{Chain, Goes, Moves, Runs, TellsCommits, TellsEndings}
 use Rattle.ent_admission.proofs.Appending.{appends_nowhere, appends_on, appends_same, goes_append}
 use Rattle.ent_admission.proofs.Changes.{onward_nowhere, onward_on}
 use Rattle.ent_admission.proofs.Going.{goes_on, goes_once, joined}
-use Rattle.ent_admission.proofs.Calls.{idle, still}
+use Rattle.ent_admission.proofs.Calls.{still}
 
 leads_on : (first between last : Admission) → LeadsOn first between → LeadsOn between last → LeadsOn first last
 leads_on first between last one two = joined Acts one.0 two.0 first between last one.1 two.1
@@ -131,19 +132,19 @@ shifts_advance old new shifts =
     }
 
 -- in no batch is who waits idle
-idle_place : (place : Place) → is_idle place ≡ true → stands_in Batch place ≡ false
+idle_place : (place : WaitingPlace) → is_idle place ≡ true → stands_in Batch place ≡ false
 idle_place Resting e = refl
 idle_place (Queued rank) e = refl
 idle_place Chosen e = absurd cc
 idle_place (Submitted s) e = absurd cc
 
-either : (here : Bool) (place : Place) (waiter : Waiter) (found : Option Waiter) → is_idle place ≡ true
+either : (here : Bool) (place : WaitingPlace) (waiter : Waiter) (found : Option Waiter) → is_idle place ≡ true
     → is_stationed Batch found ≡ false
     → is_stationed Batch (cond here (Some (record waiter { place = place })) found) ≡ false
 either true place waiter found e none = idle_place place e
 either false place waiter found e none = none
 
-module _ (a : Admission) (list : WaitingList) (ticket : ℕ) (place : Place) (free : is_idle place ≡ true)
+module _ (a : Admission) (list : WaitingList) (ticket : ℕ) (place : WaitingPlace) (free : is_idle place ≡ true)
     (is : list ≡ moved ticket place a.list)
     (updates : (waiter : Waiter) → waiter_of a.list ticket ≡ Some waiter → is_idle waiter.place ≡ true
     → UpdatesAt ticket (Some (record waiter { place = place })) a.list.waiters list.waiters)
@@ -265,10 +266,6 @@ goes_still first last same = (zero, same)
 pub one_due : (news : List EndedTicket) → 0 < length news → endings_due news ≡ 1
 one_due [] some = absurd (omega (arith, some))
 one_due (one ∷ more) some = refl
-
-pub none_of : {X : Type 0} (xs : List X) → length xs ≡ 0 → xs ≡ []
-none_of [] e = refl
-none_of (x ∷ xs) e = absurd (omega (arith, e))
 
 -- ---- groups that are kept no longer
 

@@ -2,19 +2,12 @@
 use Rattle.std.proofs.Common.{◌≡◌, ◌∙◌, ◌+◌, ◌++◌, ◌∷◌, [], ℕ, zero, suc, List, refl, sym, ap, subst, arith, ⊎_elim}
 use Rattle.std.proofs.Common.{append_assoc, append-nil}
 use Rattle.ent_feed.specs.Feed.{Feed}
-use Rattle.ent_feed.specs.Group.{AreNumbered}
 use Rattle.ent_feed.specs.declared.group.Group.{Group}
+use Rattle.ent_feed.proofs.Numbers.{numbered_joined}
 use Rattle.ent_admission.specs.Admission.{Admission}
 use Rattle.ent_admission.specs.Groups.{Appends}
 use Rattle.ent_admission.specs.Moves.{Chain, Chooses, Enters, Goes, Moves, Runs, Settles, Tells, TellsCommits, TellsEndings}
 use Rattle.ent_admission.specs.Moves.{endings_group}
-
--- those that count on from others
-pub numbered_joined : (first between last : ℕ) (some more : List Group) → AreNumbered first some between
-    → AreNumbered between more last → AreNumbered first (some ++ more) last
-numbered_joined first between last [] more one two = subst (λ (n : ℕ). AreNumbered n more last) (sym one) two
-numbered_joined first between last (group ∷ some) more one two =
-    (one.0, numbered_joined (suc first) between last some more one.1 two)
 
 pub appends_nowhere : (feed : Feed) → Appends feed feed
 appends_nowhere feed = record { groups = []; kept = sym (append-nil feed.groups); numbered = refl }

@@ -22,13 +22,13 @@ use Rattle.ent_waiting.specs.Waiter.{back_in, is_idle, is_over, newcomer, with_b
 use Rattle.ent_waiting.specs.WaitingList.{StandsAt, UpdatesAt, WaitingList, back_or_gone, changed, is_stationed, moved, moved_with, waiter_of, waits_idle}
 use Rattle.ent_waiting.specs.declared.queues.Rank.{Rank}
 use Rattle.ent_waiting.specs.declared.waiter.Patience.{Patience}
-use Rattle.ent_waiting.specs.declared.waiter.Place.{Place}
-use Rattle.ent_waiting.specs.declared.waiter.Place.TheVariants.{Chosen, Queued, Resting, Submitted}
+use Rattle.ent_waiting.specs.declared.waiter.WaitingPlace.{WaitingPlace}
+use Rattle.ent_waiting.specs.declared.waiter.WaitingPlace.TheVariants.{Chosen, Queued, Resting, Submitted}
 use Rattle.ent_waiting.specs.declared.waiter.Submission.{Submission}
 use Rattle.ent_waiting.specs.declared.waiter.Waiter.{Waiter}
 use Rattle.ent_admission.specs.Admission.{Admission, HasRoomFor, IsFormed, IsIndexed, IsKept, fresh, is_before, parties_of, party_of_ticket}
 use Rattle.ent_admission.specs.Admission.{is_chosen, waits_before}
-use Rattle.ent_admission.proofs.Keeping.{Changed, at, here, indexed_at, indexed_same, kept_changed, party_in}
+use Rattle.ent_admission.proofs.Keeping.{Changed, indexed_at, indexed_same, kept_changed, party_in}
 use Rattle.ent_admission.specs.Admission.{IsAtRest, IsBatch, waits_chosen}
 use Rattle.ent_admission.specs.Moves.{WaitsAgain, ended_with, news_of, submission_at, submission_in}
 use Rattle.ent_waiting.specs.declared.ended.Ending.TheVariants.{GaveUp}
@@ -41,23 +41,21 @@ use Rattle.ent_tree.specs.declared.declaration.Create.{Create}
 use Rattle.ent_tree.specs.declared.limits.TheConstants.{MOST_SCRIPTS}
 use Rattle.ent_waiting.specs.Queues.{stands_in}
 use Rattle.ent_waiting.specs.declared.queues.Station.TheVariants.{Batch}
+use Rattle.ent_waiting.proofs.Keeping.{idle, at, here}
 
-pub idle : (found : Option Waiter) → waits_idle found ≡ true → (waiter : Waiter) × (found ≡ Some waiter) × (is_idle waiter.place ≡ true)
-idle (Some waiter) e = (waiter, refl, e)
-idle None e = absurd cc
-
-pub still : (found : Option Waiter) (ticket : ℕ) (place : Place) (list : WaitingList) → waits_idle found ≡ false
+pub still : (found : Option Waiter) (ticket : ℕ) (place : WaitingPlace) (list : WaitingList) → waits_idle found ≡ false
     → moved_with found ticket place list ≡ list
 still None ticket place list e = refl
 still (Some waiter) ticket place list e =
     ap (λ (b : Bool). if b then changed ticket (record waiter { place = place }) list else list) e
 
-no_submission : (place : Place) (submission : Submission) → is_before place ≡ true → place ≡ Submitted submission → ⊥
+no_submission : (place : WaitingPlace) (submission : Submission) → is_before place ≡ true
+    → place ≡ Submitted submission → ⊥
 no_submission place submission before is = absurd (let e = sym before ∙ ap is_before is in cc)
 
 -- somebody who is in no batch comes to another place, which is in the batch only for who is to come
-module _ (a : Admission) (index : Waiting) (kept : IsKept a index) (list : WaitingList) (ticket : ℕ) (place : Place)
-    (before : is_before place ≡ true) (is : list ≡ moved ticket place a.list)
+module _ (a : Admission) (index : Waiting) (kept : IsKept a index) (list : WaitingList) (ticket : ℕ)
+    (place : WaitingPlace) (before : is_before place ≡ true) (is : list ≡ moved ticket place a.list)
     (updates : (waiter : Waiter) → waiter_of a.list ticket ≡ Some waiter → is_idle waiter.place ≡ true
     → UpdatesAt ticket (Some (record waiter { place = place })) a.list.waiters list.waiters)
     (comes : is_chosen place ≡ true → contains nat_cmp a.coming ticket ≡ true) where
@@ -315,7 +313,7 @@ kept_fresh number opening next next_group most_waiters most_ended =
 
 -- ---- who is ready
 
-before_busy : (place : Place) → is_before place ≡ true → is_idle place ≡ false → place ≡ Chosen
+before_busy : (place : WaitingPlace) → is_before place ≡ true → is_idle place ≡ false → place ≡ Chosen
 before_busy Chosen before busy = refl
 before_busy Resting before busy = absurd cc
 before_busy (Queued rank) before busy = absurd cc
@@ -385,8 +383,9 @@ kept_unput a first between last ticket party kept absent one two =
 -- ---- who is in the batch
 
 chosen_or : (a : Admission) (index : Waiting) → IsKept a index → ((t : ℕ) → contains nat_cmp a.coming t ≡ false)
-    → (ticket : ℕ) (waiter : Waiter) (place : Place) → waiter_of a.list ticket ≡ Some waiter → waiter.place ≡ place
-    → stands_in Batch place ≡ true → (submission : Submission) × StandsAt a.list ticket (Submitted submission)
+    → (ticket : ℕ) (waiter : Waiter) (place : WaitingPlace) → waiter_of a.list ticket ≡ Some waiter
+    → waiter.place ≡ place → stands_in Batch place ≡ true
+    → (submission : Submission) × StandsAt a.list ticket (Submitted submission)
 chosen_or a index kept none ticket waiter Resting waits is batch = absurd cc
 chosen_or a index kept none ticket waiter (Queued rank) waits is batch = absurd cc
 chosen_or a index kept none ticket waiter Chosen waits is batch =
@@ -457,7 +456,7 @@ idle_before : (found : Option Waiter) → waits_idle found ≡ true → waits_be
 idle_before None e = absurd cc
 idle_before (Some waiter) e = by waiter.place e
   where
-    by : (place : Place) → is_idle place ≡ true → is_before place ≡ true
+    by : (place : WaitingPlace) → is_idle place ≡ true → is_before place ≡ true
     by Resting e = refl
     by (Queued rank) e = refl
     by Chosen e = refl
@@ -467,7 +466,7 @@ chosen_busy : (found : Option Waiter) → waits_chosen found ≡ true → is_sta
 chosen_busy None e = absurd cc
 chosen_busy (Some waiter) e = by waiter.place e
   where
-    by : (place : Place) → is_chosen place ≡ true → stands_in Batch place ≡ true
+    by : (place : WaitingPlace) → is_chosen place ≡ true → stands_in Batch place ≡ true
     by Chosen e = refl
     by Resting e = absurd cc
     by (Queued rank) e = absurd cc

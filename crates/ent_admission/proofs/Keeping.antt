@@ -1,8 +1,7 @@
 -- What an admission keeps, where the script of one ticket changes.
 use Rattle.std.proofs.Common.{◌≡◌, ◌∙◌, ◌⊎◌, ℕ, Bool, true, false, cond, Option, Some, length, refl, sym, ap, subst}
-use Rattle.std.proofs.Common.{arith, inl, inr, ⊎_elim, option_map}
+use Rattle.std.proofs.Common.{⊎_elim, option_map}
 use Rattle.std.proofs.lemmas.Bool.{cases_Bool}
-use Rattle.std.proofs.lemmas.Grind.{common_steps}
 use Rattle.std.specs.BTreeMap.{is_at}
 use Rattle.std.specs.BTreeSet.{contains}
 use Rattle.std.specs.Ordering.{nat_cmp}
@@ -13,17 +12,12 @@ use Rattle.ent_semantics.specs.Serial.{numbered}
 use Rattle.ent_tree.specs.declared.declaration.Opening.{Opening}
 use Rattle.ent_tree.specs.declared.script.Script.{Script}
 use Rattle.ent_waiting.specs.WaitingList.{UpdatesAt, waiter_of}
-use Rattle.ent_waiting.specs.declared.waiter.Place.TheVariants.{Submitted}
+use Rattle.ent_waiting.specs.declared.waiter.WaitingPlace.TheVariants.{Submitted}
 use Rattle.ent_waiting.specs.declared.waiter.Submission.{Submission}
 use Rattle.ent_waiting.specs.declared.waiter.Waiter.{Waiter}
+use Rattle.ent_waiting.proofs.Keeping.{at, either}
 use Rattle.ent_admission.specs.Admission.{Admission, HasRoomFor, IsFormed, IsIndexed, IsKept, waits_before}
 use Rattle.ent_admission.specs.Admission.{waits_chosen}
-
-pub at : (ticket t : ℕ) → is_at (nat_cmp ticket) t ≡ true → ticket ≡ t
-at ticket t e = grind (arith, common_steps)
-
-pub here : (ticket : ℕ) → is_at (nat_cmp ticket) ticket ≡ true
-here ticket = grind (arith, common_steps)
 
 abbrev pub party_in : Option Waiter → Option Party
 party_in found = option_map (λ waiter. party_of waiter.script) found
@@ -43,11 +37,6 @@ pub record Changed (a new : Admission) (ticket : ℕ) (value : Option Waiter) : 
   pub before : contains nat_cmp new.coming ticket ≡ true → waits_before value ≡ true
   pub chosen : waits_chosen value ≡ true → contains nat_cmp new.coming ticket ≡ true
   pub room : (t : ℕ) → contains nat_cmp new.coming t ≡ true → HasRoomFor new.epoch (length new.coming.keys)
-
-either : (here : Bool) (value found : Option Waiter) (waiter : Waiter) → cond here value found ≡ Some waiter
-    → ((here ≡ true) × (value ≡ Some waiter)) ⊎ ((here ≡ false) × (found ≡ Some waiter))
-either true value found waiter e = inl (refl, e)
-either false value found waiter e = inr (refl, e)
 
 module _ (a new : Admission) (ticket : ℕ) (value : Option Waiter) (c : Changed a new ticket value) where
   found : (t : ℕ) (waiter : Waiter) → waiter_of new.list t ≡ Some waiter

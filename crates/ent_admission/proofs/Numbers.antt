@@ -1,5 +1,5 @@
 -- Numbers of lists, and keys of sets.
-use Rattle.std.proofs.Common.{◌≡◌, ◌∙◌, ◌++◌, ◌∷◌, [], ℕ, zero, suc, true, List, Some, All, length, refl, sym, ap}
+use Rattle.std.proofs.Common.{◌≡◌, ◌∙◌, ◌++◌, ◌∷◌, [], ℕ, zero, suc, true, List, Some, All, length, sym, ap}
 use Rattle.std.proofs.Common.{subst}
 use Rattle.std.proofs.lemmas.List.Elements.{All-contains}
 use Rattle.std.specs.BTreeMap.{is_at}
@@ -7,8 +7,9 @@ use Rattle.std.specs.BTreeSet.{BTreeSet, contains}
 use Rattle.std.specs.List.{list_any, slice_get}
 use Rattle.std.specs.Ordering.{nat_cmp}
 use Rattle.ent_lists.specs.Elements.{any_some, in_contains}
+use Rattle.ent_lists.proofs.Lists.{got_last}
 use Rattle.ent_semantics.specs.Serial.{numbered}
-use Rattle.ent_admission.proofs.Keeping.{at}
+use Rattle.ent_waiting.proofs.Keeping.{at}
 
 get_kept : {X : Type 0} (xs : List X) (x : X) (i : ℕ) (y : X) → slice_get xs i ≡ Some y → slice_get (xs ++ x ∷ []) i ≡ Some y
 get_kept [] x i y e = absurd cc
@@ -19,12 +20,8 @@ pub numbered_kept : {X : Type 0} (xs : List X) (x : X) (n : ℕ) (y : X) → num
 numbered_kept xs x zero y e = absurd cc
 numbered_kept xs x (suc n) y e = get_kept xs x n y e
 
-get_last : {X : Type 0} (xs : List X) (x : X) → slice_get (xs ++ x ∷ []) (length xs) ≡ Some x
-get_last [] x = refl
-get_last (z ∷ zs) x = get_last zs x
-
 pub numbered_last : {X : Type 0} (xs : List X) (x : X) (n : ℕ) → n ≡ suc (length xs) → numbered (xs ++ x ∷ []) n ≡ Some x
-numbered_last xs x n e = ap (numbered (xs ++ x ∷ [])) e ∙ get_last xs x
+numbered_last xs x n e = ap (numbered (xs ++ x ∷ [])) e ∙ got_last xs x
 
 pub all_keys : (P : ℕ → Type 0) (set : BTreeSet ℕ) (t : ℕ) → All P set.keys → contains nat_cmp set t ≡ true → P t
 all_keys P set t all has =

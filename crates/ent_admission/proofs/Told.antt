@@ -8,7 +8,7 @@ use Rattle.std.specs.Prelude.{unwrap_or}
 use Rattle.ent_tree.specs.declared.declaration.Opening.{Opening}
 use Rattle.ent_tree.specs.declared.script.Script.{Script}
 use Rattle.ent_semantics.specs.Book.{IsLegal}
-use Rattle.ent_semantics.specs.Database.{Database, opening_database}
+use Rattle.ent_semantics.specs.Database.{opening_database}
 use Rattle.ent_semantics.specs.Serial.{Runs as SerialRuns, Turn, numbered, scripts_run}
 use Rattle.ent_semantics.specs.declared.book.Entry.{Entry}
 use Rattle.ent_form.specs.OpeningFault.{opening_fault}
@@ -23,18 +23,20 @@ use Rattle.ent_protocol.specs.Step.{Step}
 use Rattle.ent_protocol_laws.specs.Standing.{GoesOn}
 use Rattle.ent_epoch.specs.Epoch.{Epoch, Publishes, Takes, begun, for_one_run}
 use Rattle.ent_epoch.specs.OneRun.{MakesRun}
+use Rattle.ent_epoch.proofs.Told.{groups_both}
 use Rattle.ent_feed.specs.Feed.{Feed}
-use Rattle.ent_feed.specs.Group.{AreNumbered, after_changes, after_groups}
+use Rattle.ent_feed.specs.Group.{AreNumbered, after_groups}
 use Rattle.ent_feed.specs.Telling.{AreTold, all_commits, commits_of, settled_database}
 use Rattle.ent_feed.specs.declared.group.Commit.{Commit}
 use Rattle.ent_feed.specs.declared.group.Group.{Group}
+use Rattle.ent_feed.proofs.Numbers.{numbered_joined}
+use Rattle.ent_feed.proofs.Told.{commits-append}
 use Rattle.ent_waiting.specs.declared.waiter.Submission.{Submission}
 use Rattle.ent_admission.specs.Acts.{Acts, Asks, Happens, Plans, Shifts, Turns}
 use Rattle.ent_admission.specs.Admission.{Admission}
 use Rattle.ent_admission.specs.Groups.{HasTold, told_database, told_journal}
 use Rattle.ent_admission.specs.Moves.{Chain, Chooses, Enters, Moves, Runs, Settles, Tells, TellsCommits, TellsEndings}
 use Rattle.ent_admission.specs.Moves.{endings_group}
-use Rattle.ent_admission.proofs.Appending.{numbered_joined}
 use Rattle.ent_admission.proofs.Numbers.{numbered_kept}
 
 -- the laws of lower crates
@@ -106,28 +108,11 @@ module _ (laws : Laws) where
 
 -- ---- commits
 
-commits_joined : (tickets : List ℕ) (number : ℕ) (entries more : List Entry)
-    → commits_of tickets number (entries ++ more)
-    ≡ commits_of tickets number entries ++ commits_of tickets (number + length entries) more
-commits_joined tickets number [] more = ap (λ (n : ℕ). commits_of tickets n more) (omega arith)
-commits_joined tickets number (entry ∷ entries) more =
-    let next : suc number + length entries ≡ number + length (entry ∷ entries) = omega arith in
-    let first : Commit =
-    record { ticket = unwrap_or (numbered tickets entry.tx) 0; number = number; answers = entry.answers } in
-    ap (λ (commits : List Commit). first ∷ commits)
-    (commits_joined tickets (suc number) entries more
-    ∙ ap (λ (n : ℕ). commits_of tickets (suc number) entries ++ commits_of tickets n more) next)
-
 groups_joined : (some more : List Group) → all_commits (some ++ more) ≡ all_commits some ++ all_commits more
 groups_joined [] more = refl
 groups_joined (group ∷ some) more =
     ap (λ (commits : List Commit). group.commits ++ commits) (groups_joined some more)
     ∙ sym (append_assoc group.commits (all_commits some) (all_commits more))
-
-after_joined : (some more : List Group) (database : Database)
-    → after_groups (some ++ more) database ≡ after_groups more (after_groups some database)
-after_joined [] more database = refl
-after_joined (group ∷ some) more database = after_joined some more (after_changes group.changes database)
 
 -- who has a ticket keeps it
 tickets_kept : (tickets : List ℕ) (ticket : ℕ) (entries : List Entry) → HaveTickets tickets entries
@@ -308,7 +293,7 @@ module _ (laws : Laws) (start : Feed) where
 
     tables_on : after_groups (told.groups ++ published.groups) (opening_database old.core.opening) ≡ told_database present
     tables_on =
-        after_joined told.groups published.groups (opening_database old.core.opening)
+        groups_both told.groups published.groups (opening_database old.core.opening)
         ∙ ap (after_groups published.groups) (told.tables
         ∙ (λ i. named_tables (table_names (opening i)) (rest.told_to.tables i)))
         ∙ laws.tables old.tickets rest.first rest.behind published.groups rest.told
@@ -327,7 +312,7 @@ module _ (laws : Laws) (start : Feed) where
         ∙ (λ i. commits_of old.tickets 1 (told_first i)
         ++ commits_of old.tickets (suc (length rest.first.journal)) since.0)
         ∙ ap (λ (n : ℕ). commits_of old.tickets 1 rest.first.journal ++ commits_of old.tickets n since.0) next
-        ∙ sym (commits_joined old.tickets 1 rest.first.journal since.0)
+        ∙ sym (commits-append old.tickets 1 rest.first.journal since.0)
         ∙ ap (commits_of old.tickets 1) (sym whole)
         ∙ ap (commits_of old.tickets 1) (sym all_of_it)
 
@@ -373,7 +358,7 @@ module _ (laws : Laws) (start : Feed) where
             ∙ sym (append_assoc told.settled_first old.feed.groups (group ∷ []))
             ∙ ap (λ (gs : List Group). gs ++ group ∷ []) told.kept
             ∙ append_assoc start.groups told.groups (group ∷ []);
-        tables = after_joined told.groups (group ∷ []) (opening_database old.epoch.core.opening) ∙ told.tables;
+        tables = groups_both told.groups (group ∷ []) (opening_database old.epoch.core.opening) ∙ told.tables;
         commits = groups_joined told.groups (group ∷ []) ∙ append-nil (all_commits told.groups) ∙ told.commits;
       })
 

@@ -6,7 +6,7 @@ use Rattle.ent_epoch.specs.Passed.{IsRenewed}
 use Rattle.ent_semantics.specs.Database.{Name}
 use Rattle.ent_waiting.specs.Waiter.{is_idle}
 use Rattle.ent_waiting.specs.WaitingList.{Onward, moved}
-use Rattle.ent_waiting.specs.declared.waiter.Place.{Place}
+use Rattle.ent_waiting.specs.declared.waiter.WaitingPlace.{WaitingPlace}
 use Rattle.ent_admission.specs.Admission.{Admission, IsAtRest, IsBatch}
 use Rattle.ent_admission.specs.Groups.{Appends}
 use Rattle.ent_admission.specs.Moves.{Chain, Moves}
@@ -20,7 +20,7 @@ pub record Plans (old new : Admission) : Type 0 where
 -- who is in no batch comes into a queue, or leaves all
 pub record Shifts (old new : Admission) : Type 0 where
   pub ticket : ℕ
-  pub place : Place
+  pub place : WaitingPlace
   pub idle : is_idle place ≡ true
   pub is : new ≡ record old { list = moved ticket place old.list }
 

@@ -24,8 +24,8 @@ use Rattle.ent_epoch.specs.Epoch.{Epoch, begun, for_one_run}
 use Rattle.ent_waiting.specs.WaitingList.{WaitingList, is_stationed, nobody, waiter_of, waits_idle}
 use Rattle.ent_waiting.specs.declared.queues.Rank.TheVariants.{Woken}
 use Rattle.ent_waiting.specs.declared.queues.Station.TheVariants.{Batch}
-use Rattle.ent_waiting.specs.declared.waiter.Place.{Place}
-use Rattle.ent_waiting.specs.declared.waiter.Place.TheVariants.{Chosen, Submitted}
+use Rattle.ent_waiting.specs.declared.waiter.WaitingPlace.{WaitingPlace}
+use Rattle.ent_waiting.specs.declared.waiter.WaitingPlace.TheVariants.{Chosen, Submitted}
 use Rattle.ent_waiting.specs.declared.waiter.Submission.{Submission}
 use Rattle.ent_waiting.specs.declared.waiter.Waiter.{Waiter}
 use Rattle.ent_admission.specs.declared.batch.Again.{Again}
@@ -111,7 +111,7 @@ LacksNumbers a = 2 ^ 64 ≤ a.feed.next + groups_due a.epoch.telling + endings_d
 -- ---- what an admission keeps
 
 -- who wasn't submitted
-abbrev pub is_before : Place → Bool
+abbrev pub is_before : WaitingPlace → Bool
 is_before (Submitted submission) = false
 is_before other = true
 
@@ -119,7 +119,7 @@ abbrev pub waits_before : Option Waiter → Bool
 waits_before None = false
 waits_before (Some waiter) = is_before waiter.place
 
-abbrev pub is_chosen : Place → Bool
+abbrev pub is_chosen : WaitingPlace → Bool
 is_chosen Chosen = true
 is_chosen other = false
 

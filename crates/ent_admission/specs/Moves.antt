@@ -19,8 +19,8 @@ use Rattle.ent_waiting.specs.Waiter.{is_over, with_batch}
 use Rattle.ent_waiting.specs.WaitingList.{WaitingList, StandsAt, UpdatesAt, back, back_or_gone, changed, ending_as, moved}
 use Rattle.ent_waiting.specs.declared.ended.Ending.{Ending}
 use Rattle.ent_waiting.specs.declared.ended.Ending.TheVariants.{Committed, Failed, GaveUp, RolledBack, Withdrawn}
-use Rattle.ent_waiting.specs.declared.waiter.Place.{Place}
-use Rattle.ent_waiting.specs.declared.waiter.Place.TheVariants.{Chosen, Submitted}
+use Rattle.ent_waiting.specs.declared.waiter.WaitingPlace.{WaitingPlace}
+use Rattle.ent_waiting.specs.declared.waiter.WaitingPlace.TheVariants.{Chosen, Submitted}
 use Rattle.ent_waiting.specs.declared.waiter.Submission.{Submission}
 use Rattle.ent_waiting.specs.declared.waiter.Waiter.{Waiter}
 use Rattle.ent_admission.specs.Admission.{Admission}
@@ -79,7 +79,7 @@ pub record WaitsAgain (again : Again) (ticket : ℕ) (waiter : Waiter) (old new 
   pub updates : UpdatesAt ticket (back_or_gone again.rank again.counts again.alone waiter) old.waiters new.waiters
 
 -- the transaction that a script is at its place
-abbrev pub submission_in : Place → Option Submission
+abbrev pub submission_in : WaitingPlace → Option Submission
 submission_in (Submitted submission) = Some submission
 submission_in other = None
 

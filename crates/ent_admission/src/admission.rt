@@ -11,7 +11,7 @@ use ent_form::FormFault;
 use ent_meetings::Index;
 use ent_tree::Opening;
 use ent_value::Refusal;
-use ent_waiting::{Limits, Place, Rank, Station, Ticket, WaitingList};
+use ent_waiting::{Limits, Rank, Station, Ticket, WaitingList, WaitingPlace};
 use std::alloc::Global;
 use std::collections::BTreeSet;
 use std::marker::Model;
@@ -150,7 +150,10 @@ impl Admission {
             return true;
         }
         match self.list.waiter(ticket) {
-            Some(waiter) => matches!(waiter.place, Place::Chosen | Place::Submitted(_)),
+            Some(waiter) => matches!(
+                waiter.place,
+                WaitingPlace::Chosen | WaitingPlace::Submitted(_)
+            ),
             None => false,
         }
     }

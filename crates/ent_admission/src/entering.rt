@@ -6,7 +6,7 @@ ghost use Rattle.ent_admission.specs.Admission.{HasRoomFor, IsFormed};
 ghost use Rattle.ent_admission.specs.Moves.{Chooses, Enters, Goes};
 ghost use Rattle.ent_epoch.specs.Epoch.{AddsOne, Takes};
 ghost use Rattle.ent_waiting.specs.WaitingList.{Onward, StandsAt};
-ghost use Rattle.ent_waiting.specs.declared.waiter.Place.TheVariants.{Chosen};
+ghost use Rattle.ent_waiting.specs.declared.waiter.WaitingPlace.TheVariants.{Chosen};
 
 use crate::admission::Admission;
 use ent_epoch::Epoch;

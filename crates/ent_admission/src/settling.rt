@@ -22,7 +22,7 @@ use ent_feed::{EndedTicket, NoNumber, OtherEnding};
 use ent_meetings::Index;
 use ent_semantics::Fate;
 use ent_value::Refusal;
-use ent_waiting::{Ending, Place, Station, Submission, Ticket, WaitingList};
+use ent_waiting::{Ending, Station, Submission, Ticket, WaitingList, WaitingPlace};
 use std::alloc::AllocError;
 
 /// How a script ends with the fate of its transaction. Who only gave up the one run waits again.
@@ -97,7 +97,7 @@ impl Admission {
         ensures { result ≡ submission_at (waiter_of self.now.list ticket) }
     {
         match self.list.waiter(ticket)?.place {
-            Place::Submitted(submission) => Some(submission),
+            WaitingPlace::Submitted(submission) => Some(submission),
             _ => None,
         }
     }

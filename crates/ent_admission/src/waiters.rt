@@ -9,7 +9,7 @@ ghost use Rattle.ent_waiting.specs.Waiter.{newcomer};
 ghost use Rattle.ent_waiting.specs.WaitingList.{IsFull, IsIdle, IsInBatch, IsUsed, MayComeBack, Onward, admitted, ending_as, moved, waiter_of};
 ghost use Rattle.ent_waiting.specs.declared.ended.Ending.TheVariants.{Withdrawn};
 ghost use Rattle.ent_waiting.specs.declared.waiter.Waiter.{Waiter as WaiterSeen};
-ghost use Rattle.ent_waiting.specs.declared.waiter.Place.TheVariants.{Queued, Resting};
+ghost use Rattle.ent_waiting.specs.declared.waiter.WaitingPlace.TheVariants.{Queued, Resting};
 ghost use Rattle.ent_waiting.specs.declared.waiting_list.Full.{Full as FullSeen};
 ghost use Rattle.ent_waiting.specs.declared.waiting_list.NotRestored.TheVariants.{NoRoom, Used};
 ghost use Rattle.ent_waiting.specs.declared.waiting_list.NotWithdrawn.TheVariants.{Absent, InBatch};

@@ -17,22 +17,12 @@ use Rattle.ent_semantics.specs.Database.{Name, Database, row_of, opening_databas
 use Rattle.ent_semantics.specs.Joint.{IsGood, IsGrounded, IsOffered, StandsIn, member_of, read_view_heads}
 use Rattle.ent_semantics.specs.Joint.{read_view_posts}
 use Rattle.ent_semantics.specs.Serial.{ReadView, Turn, numbered, scripts_run, scripts_read_views}
-use Rattle.ent_lists.specs.Elements.{contains_in, in_contains, of_map, to_map}
+use Rattle.ent_lists.proofs.Contained.{of_mapped, to_mapped}
 use Rattle.ent_answer_laws.specs.Unplaced.{unplaced_book, unplaced_create, unplaced_opening, unplaced_row}
 use Rattle.ent_answer_laws.specs.Unplaced.{unplaced_read_view, unplaced_turn}
 use Rattle.ent_answer_laws.proofs.Through.{map_through, numbered_through}
 use Rattle.ent_answer_laws.proofs.Entangled.{heads_same, posts_same, grounding_same}
 use Rattle.ent_answer_laws.proofs.UnplacedRuns.{scripts_run_same, scripts_read_views_are}
-
--- ---- elements of lists that lost their places
-
-of_mapped : {X Y : Type 0} (f : X → Y) (xs : List X) (y : Y) → Contains (map f xs) y
-    → (x : X) × Contains xs x × (y ≡ f x)
-of_mapped f xs y there =
-    let r = of_map f xs y (contains_in (map f xs) y there) in (r.0, in_contains xs r.0 r.1, r.2)
-
-to_mapped : {X Y : Type 0} (f : X → Y) (xs : List X) (x : X) → Contains xs x → Contains (map f xs) (f x)
-to_mapped f xs x there = in_contains (map f xs) (f x) (to_map f xs x (contains_in xs x there))
 
 -- ---- the opening
 

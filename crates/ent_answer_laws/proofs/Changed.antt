@@ -1,5 +1,6 @@
 -- The rows that an UPDATE makes have values with the property.
 use Rattle.std.proofs.Common.{◌≡◌, ℤ, Bool, true, false, not, List, [], ◌∷◌, Option, Some, None, refl, subst}
+use Rattle.std.proofs.lemmas.Option.{same_Some}
 use Rattle.std.specs.Prelude.{is_some, if◌then◌else◌}
 use Rattle.std.specs.List.{AllByRecursion, list_all, filter_map, cons_option}
 use Rattle.ent_lists.specs.Sets as set
@@ -12,7 +13,6 @@ use Rattle.ent_semantics.specs.Change.{assigned_value, assigned_values, image, m
 use Rattle.ent_semantics.specs.Database.{Rows, same_name}
 use Rattle.ent_semantics.specs.Term.{SourceColumn, Worth, expression_value}
 use Rattle.ent_semantics.proofs.EachRow.{EachRow, each_all_inserted, each_retained, to_ascending}
-use Rattle.ent_form_laws.proofs.Known.{one_value}
 use Rattle.ent_answer_laws.specs.Values.{IsWritten}
 use Rattle.ent_answer_laws.proofs.Worth.{all_there_have, expression_has}
 
@@ -36,7 +36,7 @@ module _ (P : Value → Type 0) (numbers : (number : ℤ) → P (Int number)) (a
       (each : (operand : Operand) → AllByRecursion (IsWritten P) (operand_spelling operand) → P (worth operand)) where
     assigned_has : (all : List Assignment) → AreAssigned all → (column : SourceColumn) (value : Value) → P value
         → HasWhereThere (assigned_value worth all column value)
-    assigned_has [] writes column value has given e = subst P (one_value value given e) has
+    assigned_has [] writes column value has given e = subst P (same_Some value given e) has
     assigned_has (assignment ∷ more) writes column value has given e =
         by (same_name assignment.column.name column.column) e (assigned_has more writes.1 column value has given)
       where

@@ -1,6 +1,8 @@
 -- The rows that an UPDATE makes can be told.
 use Rattle.std.proofs.Common.{◌≡◌, Bool, true, false, not, List, [], ◌∷◌, length, Option, Some, None, refl}
 use Rattle.std.proofs.Common.{sym, ap, subst, ◌∙◌, arith, suc}
+use Rattle.std.proofs.lemmas.List.{nil_from_length}
+use Rattle.std.proofs.lemmas.Option.{same_Some}
 use Rattle.std.specs.Prelude.{is_some, if◌then◌else◌}
 use Rattle.std.specs.List.{AllByRecursion, list_all, filter_map, cons_option}
 use Rattle.ent_lists.specs.Sets as set
@@ -13,7 +15,6 @@ use Rattle.ent_semantics.specs.Database.{Rows, same_name}
 use Rattle.ent_semantics.specs.Term.{SourceColumn, Worth, expression_value}
 use Rattle.ent_semantics.proofs.EachRow.{EachRow, each_all_inserted, each_retained, to_ascending}
 use Rattle.ent_history.specs.Parts.{IsRow, IsValue}
-use Rattle.ent_form_laws.proofs.Known.{one_value}
 use Rattle.ent_answer_laws.proofs.Read.{AreRead}
 use Rattle.ent_answer_laws.proofs.Values.{AreValues, all_there_are, expression_is_value}
 
@@ -28,7 +29,7 @@ module _ (worth : Operand → Value) (each : (operand : Operand) → AreRead (op
       → AllByRecursion (λ (assignment : Assignment). AreRead (assignment_spelling assignment)) assignments
       → (column : SourceColumn) (value : Value) → IsValue value
       → IsValueWhereThere (assigned_value worth assignments column value)
-  assigned_is_value [] can column value is given e = subst IsValue (one_value value given e) is
+  assigned_is_value [] can column value is given e = subst IsValue (same_Some value given e) is
   assigned_is_value (assignment ∷ more) can column value is given e =
       by (same_name assignment.column.name column.column) e
       (assigned_is_value more can.1 column value is given)
@@ -59,10 +60,6 @@ module _ (worth : Operand → Value) (each : (operand : Operand) → AreRead (op
   assigned_as_many assignments (column ∷ columns) (value ∷ row) l =
       ap (λ n. suc n) (assigned_as_many assignments columns row (omega (arith, l)))
 
-nothing_of_none : (row : List Value) → length row ≡ 0 → row ≡ []
-nothing_of_none [] l = refl
-nothing_of_none (value ∷ row) l = absurd (omega (arith, l))
-
 -- a row of a table: as many values as it has columns
 abbrev pub IsRowUnder : List SourceColumn → List Value → Type 0
 IsRowUnder columns row = IsRow row × (length row ≡ length columns)
@@ -81,7 +78,7 @@ module _ (worth : Worth Operand) (assignments : List Assignment) (columns : List
       let all = all_there_are there values
       (assigned_are_values worth_here (each row is.0.1) assignments can columns row is.0.1) e in
       let many = assigned_as_many worth_here (each row is.0.1) assignments columns row is.1 in
-      ((λ none. is.0.0 (nothing_of_none row (sym (all.1 ∙ many) ∙ ap length none))), all.0)
+      ((λ none. is.0.0 (nil_from_length row (sym (all.1 ∙ many) ∙ ap length none))), all.0)
 
   images_are_rows : (rows : List (List Value)) → AllByRecursion (IsRowUnder columns) rows
       → AllByRecursion IsRow (filter_map image_of rows)

@@ -1,6 +1,7 @@
 -- What statements that run one after the other see, leave and answer has the property.
 use Rattle.std.proofs.Common.{◌≡◌, ℕ, suc, ℤ, false, List, [], ◌∷◌, ◌++◌, refl, sym, subst, inl, inr, Some, Ok, Err}
 use Rattle.std.proofs.Common.{Result}
+use Rattle.std.proofs.lemmas.Option.{same_Some}
 use Rattle.std.specs.List.{AllByRecursion}
 use Rattle.ent_value.specs.declared.value.Value.{Value}
 use Rattle.ent_value.specs.declared.value.Value.TheVariants.{Int}
@@ -19,7 +20,6 @@ use Rattle.ent_semantics.specs.Statement.{statement_meaning}
 use Rattle.ent_form.specs.Catalogue.{schemas_of}
 use Rattle.ent_history.proofs.Operations.{mapped_some}
 use Rattle.ent_lists.specs.Elements.{In, in_either, in_first, in_second}
-use Rattle.ent_answer_laws.proofs.Runs.{one_run}
 use Rattle.ent_answer_laws.proofs.Walking.{TakesNone, trees_of}
 use Rattle.ent_answer_laws.specs.Values.{AnswersValues, BindsValues, HoldsValues, LeavesValues, WritesValues}
 use Rattle.ent_answer_laws.proofs.CharacterGrounding.{IsFaultless, grounding_has}
@@ -137,7 +137,7 @@ module _ (P : Value → Type 0) (numbers : (number : ℤ) → P (Int number)) (d
       let still : Run = record { database = database; environment = environment; answers = [] } in
       record {
         sees = λ read_view nowhere. absurd nowhere;
-        leaves = λ over e. subst IsLeft (one_run still over e) (holds, tt);
+        leaves = λ over e. subst IsLeft (same_Some still over e) (holds, tt);
       }
   run_keeps tx place (operation ∷ more) none ready database holds environment binds grounded =
       let meaning = statement_meaning declared operation.statement operation.valuation database environment in

@@ -43,11 +43,12 @@ use Rattle.ent_form.specs.declared.catalogue.TableSchema.{TableSchema}
 use Rattle.ent_form.specs.declared.fault.FormFault.{FormFault}
 use Rattle.ent_form.specs.declared.fault.FormFault.TheVariants.{Arity}
 use Rattle.ent_form.specs.declared.script.Plain.{Plain}
+use Rattle.ent_form.proofs.Heads.{found_of}
 use Rattle.ent_plan.specs.Ranged.{is_variable, stands_in}
 use Rattle.ent_sql_laws.specs.Fits.{ConditionFits, Each, EntangledFits, SelectFits}
 use Rattle.ent_form_laws.specs.Tables.{database_of}
 use Rattle.ent_history.specs.Parts.{IsRow, IsValue}
-use Rattle.ent_form_laws.proofs.Steps.{bound_given, demand_given, one_answer}
+use Rattle.ent_form_laws.proofs.Steps.{demand_given, one_answer}
 use Rattle.ent_lists.specs.Elements.{all_first, all_joined, all_second, and_both, or_cases, same_number}
 use Rattle.ent_semantics.proofs.EachRow.{EachRow}
 use Rattle.ent_answer_laws.specs.Held.{HoldsValuesOf}
@@ -116,9 +117,9 @@ module _ (schemas : List TableSchema) (bound : Bound) where
         → IsOfSelect found.0
     unfolding membership_in
     membership_is demanded tuple select found told e =
-        let inner = bound_given (select_in schemas bound select) _ found e in
+        let inner = found_of (select_in schemas bound select) _ found e in
         let kept = demand_given (length tuple.terms == length inner.0.1) (Arity tuple.place) _ found inner.2 in
-        let members = bound_given (members_from names bound [] demanded inner.0.1 tuple.terms) _ found kept.1 in
+        let members = found_of (members_from names bound [] demanded inner.0.1 tuple.terms) _ found kept.1 in
         subst (λ (f : Membership Known × Bound). IsOfSelect f.0)
         (one_answer (record { terms = members.0.0; select = inner.0.0 }, members.0.1) found members.2)
         (select, inner.0.1, told, inner.1)
@@ -131,7 +132,7 @@ module _ (schemas : List TableSchema) (bound : Bound) where
         subst (λ (f : List (Membership Known) × Bound). AllByRecursion IsOfSelect f.0)
         (one_answer {E = FormFault} (made, demanded) found e) so
     memberships_are (conditions.InSelect tuple select ∷ more) made demanded found told so e =
-        let w = bound_given (membership_in schemas bound names demanded tuple select) _ found e in
+        let w = found_of (membership_in schemas bound names demanded tuple select) _ found e in
         memberships_are more (made ++ w.0.0 ∷ []) w.0.1 found told.1
         (all_joined IsOfSelect made (w.0.0 ∷ []) so (membership_is demanded tuple select w.0 told.0 w.1, tt)) w.2
     memberships_are (conditions.InAnswer tuple relation ∷ more) made demanded found told so e =
@@ -145,10 +146,10 @@ module _ (schemas : List TableSchema) (bound : Bound) where
   unfolding entangled_in
   atoms_are entangled found told e =
       let names = variables_of entangled in
-      let body = bound_given (memberships_from schemas bound names [] none_bound entangled.conditions) _ found e in
-      let offer = bound_given (offer_from names body.0.1 bound no_offer entangled.items) _ found body.2 in
-      let heads = bound_given (heads_from offer.0.terms [] [] entangled.relations) _ found offer.2 in
-      let others = bound_given (others_from names body.0.1 bound [] [] entangled.conditions) _ found heads.2 in
+      let body = found_of (memberships_from schemas bound names [] none_bound entangled.conditions) _ found e in
+      let offer = found_of (offer_from names body.0.1 bound no_offer entangled.items) _ found body.2 in
+      let heads = found_of (heads_from offer.0.terms [] [] entangled.relations) _ found offer.2 in
+      let others = found_of (others_from names body.0.1 bound [] [] entangled.conditions) _ found heads.2 in
       subst (λ (f : Entangled Known × Bound). AllByRecursion IsOfSelect f.0.atoms) (one_answer _ found others.2)
       (memberships_are names entangled.conditions [] none_bound body.0 told tt body.1)
 

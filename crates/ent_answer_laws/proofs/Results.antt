@@ -20,6 +20,7 @@ use Rattle.ent_text.specs.declared.symbol.Symbol.TheVariants as symbols
 use Rattle.ent_history.specs.Parts.{IsRow, IsValue}
 use Rattle.ent_sql_laws.specs.Fits.{ItemsFit, SelectFits}
 use Rattle.ent_lists.specs.Elements.{In, all_first, all_filtered, all_joined, to_all, of_map, of_all, in_flat}
+use Rattle.ent_lists.proofs.Lists.{all_mapped}
 use Rattle.ent_semantics.proofs.EachRow.{EachRow, each_listed, to_ascending}
 use Rattle.ent_answer_laws.proofs.Read.{AreRead, separated_are_read}
 use Rattle.ent_answer_laws.proofs.Values.{AreValues, HoldsValues, mapped_are_values, operand_is_value}
@@ -67,11 +68,6 @@ combined_rows (rows ∷ more) some all =
 pub some_mapped : {A B : Type 0} (f : A → B) (xs : List A) → 1 ≤ length xs → map f xs ≢ []
 some_mapped f [] some e = absurd (omega (arith, some))
 some_mapped f (x ∷ xs) some e = cc (e)
-
-all_mapped : {A B : Type 0} (P : A → Type 0) (Q : B → Type 0) (f : A → B) (xs : List A)
-    → ((x : A) → P x → Q (f x)) → AllByRecursion P xs → AllByRecursion Q (map f xs)
-all_mapped P Q f [] each all = tt
-all_mapped P Q f (x ∷ xs) each all = (each x all.0, all_mapped P Q f xs each all.1)
 
 module _ (declared : List Create) (database : Database) (environment : Environment) (rows : HoldsRows database)
     (held : HoldsValues environment) where

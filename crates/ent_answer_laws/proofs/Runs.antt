@@ -1,6 +1,7 @@
 -- What a script answers and sees from a statement on can be told.
 use Rattle.std.proofs.Common.{◌≡◌, ℕ, suc, true, false, List, [], ◌∷◌, ◌++◌, refl, sym, ap, subst}
 use Rattle.std.proofs.Common.{◌∙◌, inl, inr, Option, Some, None, Ok, Err, Result, slice_get}
+use Rattle.std.proofs.lemmas.Option.{same_Some}
 use Rattle.std.specs.List.{AllByRecursion}
 use Rattle.std.specs.Option.{option_map}
 use Rattle.ent_tree.specs.declared.declaration.Create.{Create}
@@ -45,13 +46,10 @@ use Rattle.ent_check.proofs.Along.{Resolves}
 use Rattle.ent_answer_laws.proofs.Walking.{Behind, IsReadViewTold, TakesNone, entangled_form}
 use Rattle.ent_answer_laws.proofs.Walking.{first_behind, next_behind, trees_of}
 
-pub one_run : (x y : Run) → Some x ≡ Some y → x ≡ y
-one_run x y e = cc
-
 -- what a run leaves
 left_by : (answer : Answer) (rest : Option Run) (left : Run) → option_map (answered_first answer) rest ≡ Some left
     → (others : Run) × (rest ≡ Some others) × (answered_first answer others ≡ left)
-left_by answer (Some others) left e = (others, refl, one_run (answered_first answer others) left e)
+left_by answer (Some others) left e = (others, refl, same_Some (answered_first answer others) left e)
 left_by answer None left e = cc (e)
 
 module _ (laws : Laws) (declared : List Create) (none : declarations_fault [] declared ≡ None) (tx : ℕ)
@@ -253,8 +251,8 @@ module _ (laws : Laws) (declared : List Create) (none : declarations_fault [] de
       let still : Run = record { database = database; environment = environment; answers = [] } in
       record {
         sees = λ read_view nowhere. absurd nowhere;
-        leaves = λ over e. subst (λ (r : Run). IsStored declared r.database) (one_run still over e) stored;
-        tells = λ over e counted. subst (λ (r : Run). AreAnswersTo [] r.answers) (one_run still over e) tt;
+        leaves = λ over e. subst (λ (r : Run). IsStored declared r.database) (same_Some still over e) stored;
+        tells = λ over e counted. subst (λ (r : Run). AreAnswersTo [] r.answers) (same_Some still over e) tt;
       }
   runs_on n bound (operation ∷ more) [] left database stored environment held grounded = absurd left.resolves
   runs_on n bound (operation ∷ more) (form ∷ own) left database stored environment held grounded =

@@ -5,6 +5,7 @@ use Rattle.std.specs.Prelude.{◌+ℤ◌, ◌-ℤ◌, nat_lt, if◌then◌else�
 use Rattle.std.specs.List.{AllByRecursion}
 use Rattle.std.specs.Option.{option_and_then, option_map}
 use Rattle.std.proofs.lemmas.Bool.Decides.{nat_tests}
+use Rattle.std.proofs.lemmas.Option.{same_Some}
 use Rattle.ent_value.specs.declared.value.Value.{Value}
 use Rattle.ent_value.specs.declared.value.Value.TheVariants.{Int}
 use Rattle.ent_tree.specs.declared.operand.ColumnReference.{ColumnReference}
@@ -21,7 +22,6 @@ use Rattle.ent_semantics.specs.Database.{Environment, Name, with_value, with_val
 use Rattle.ent_semantics.specs.Term.{SourceColumn, column_value, expression_value, in_64_bits, is_64_bits, known_value}
 use Rattle.ent_semantics.specs.Term.{no_value, number_of, operand_value, refers_to}
 use Rattle.ent_history.specs.Parts.{IsValue}
-use Rattle.ent_form_laws.proofs.Known.{one_value}
 use Rattle.ent_answer_laws.proofs.Read.{AreRead, literal_is_value}
 
 -- host variables have values that can be told
@@ -47,7 +47,7 @@ within_is_value : (number : ℤ) (value : Value) → in_64_bits number ≡ Some 
 within_is_value number value e = by (is_64_bits number) refl e
   where
     by : (b : Bool) → is_64_bits number ≡ b → (if b then Some (Int number) else None) ≡ Some value → IsValue value
-    by true fits is = subst IsValue (one_value (Int number) value is) (number_fits number fits)
+    by true fits is = subst IsValue (same_Some (Int number) value is) (number_fits number fits)
     by false fits is = cc (is)
 
 -- an expression over terms whose values can be told
@@ -56,7 +56,7 @@ pub expression_is_value : {A : Type 0} (worth : A → Value) (spelling : A → L
     → AreRead (expression_spelling spelling expression) → (value : Value)
     → expression_value worth expression ≡ Some value → IsValue value
 expression_is_value worth spelling each (Single term) can value e =
-    subst IsValue (one_value (worth term) value e) (each term can)
+    subst IsValue (same_Some (worth term) value e) (each term can)
 expression_is_value worth spelling each (Sum left right) can value e =
     within_is_value (number_of (worth left) +ℤ number_of (worth right)) value e
 expression_is_value worth spelling each (Difference left right) can value e =
@@ -100,7 +100,7 @@ module _ (environment : Environment) (held : HoldsValues environment) where
   bound_is_held variable value is name other e = by (same_name variable name) e
     where
       by : (b : Bool) → (if b then Some value else environment name) ≡ Some other → IsValue other
-      by true here = subst IsValue (one_value value other here) is
+      by true here = subst IsValue (same_Some value other here) is
       by false before = held name other before
 
 -- one after the other

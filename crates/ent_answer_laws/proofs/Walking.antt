@@ -1,6 +1,7 @@
 -- A script's statements, the answers of the oracle to them, and what is there behind each.
 use Rattle.std.proofs.Common.{◌≡◌, ℕ, suc, ◌+◌, Bool, true, false, List, [], ◌∷◌, map, refl, sym, ap}
 use Rattle.std.proofs.Common.{subst, ◌∙◌, arith, Option, Some, None, Ok, slice_get}
+use Rattle.std.proofs.lemmas.Option.{same_Some}
 use Rattle.std.specs.List.{AllByRecursion}
 use Rattle.ent_tree.specs.declared.entangled.Entangled.{Entangled as TreeEntangled}
 use Rattle.ent_tree.specs.declared.script.Script.{Script}
@@ -19,7 +20,8 @@ use Rattle.ent_form.specs.Kinds.{Bound}
 use Rattle.ent_form.specs.declared.catalogue.TableSchema.{TableSchema}
 use Rattle.ent_form.specs.declared.fault.FormFault.{FormFault}
 use Rattle.ent_form.specs.declared.script.Plain.{Plain}
-use Rattle.ent_form_laws.proofs.Steps.{bound_given, one_answer}
+use Rattle.ent_form.proofs.Heads.{found_of}
+use Rattle.ent_form_laws.proofs.Steps.{one_answer}
 use Rattle.ent_lists.specs.Elements.{clash}
 use Rattle.ent_answer_laws.proofs.Grounding.{IsAnswered}
 
@@ -32,9 +34,6 @@ trees_of operations = map (λ (operation : Operation). operation.statement) oper
 abbrev pub TakesNone : Operation → Type 0
 TakesNone operation = is_entangled operation.statement ≡ false → operation.valuation ≡ []
 
-one_list : (x y : List Operation) → Some x ≡ Some y → x ≡ y
-one_list x y e = cc
-
 abbrev AreOperationsOf : List TreeStatement → List Operation → Type 0
 AreOperationsOf statements operations = (trees_of operations ≡ statements) × AllByRecursion TakesNone operations
 
@@ -46,13 +45,13 @@ operation_put : (statement : TreeStatement) (valuation : Valuation) (statements 
 operation_put statement valuation statements (Some others) operations so none e =
     let behind = so others refl in
     subst (λ (all : List Operation). AreOperationsOf (statement ∷ statements) all)
-    (one_list (record { statement = statement; valuation = valuation } ∷ others) operations e)
+    (same_Some (record { statement = statement; valuation = valuation } ∷ others) operations e)
     (ap (λ (all : List TreeStatement). statement ∷ all) behind.0, (none, behind.1))
 operation_put statement valuation statements None operations so none e = cc (e)
 
 pub operations_so : (statements : List TreeStatement) (oracle : List Valuation) (operations : List Operation)
     → operations_of statements oracle ≡ Some operations → AreOperationsOf statements operations
-operations_so [] [] operations e = subst (λ (all : List Operation). AreOperationsOf [] all) (one_list [] operations e)
+operations_so [] [] operations e = subst (λ (all : List Operation). AreOperationsOf [] all) (same_Some [] operations e)
     (refl, tt)
 operations_so [] (valuation ∷ oracle) operations e = cc (e)
 operations_so (statement ∷ more) oracle operations e =
@@ -96,7 +95,7 @@ pub entangled_form : (schemas : List TableSchema) (bound after : Bound) (entangl
     → (own : Entangled Known) × (form ≡ forms.Entangled own) × (entangled_in schemas bound entangled ≡ Ok (own, after))
 unfolding statement_in
 entangled_form schemas bound after entangled form e =
-    let w = bound_given (entangled_in schemas bound entangled) _ (form, after) e in
+    let w = found_of (entangled_in schemas bound entangled) _ (form, after) e in
     let same = one_answer {E = FormFault} (forms.Entangled w.0.0, w.0.1) (form, after) w.2 in (
       w.0.0,
       sym (ap (λ (f : Statement Known × Bound). f.0) same),

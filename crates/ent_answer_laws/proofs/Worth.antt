@@ -1,6 +1,7 @@
 -- What operands and expressions are worth has the property, where what is written and what is bound has.
 use Rattle.std.proofs.Common.{◌≡◌, ℤ, pos, Bool, true, false, List, [], ◌∷◌, map, Option, Some, None, refl}
 use Rattle.std.proofs.Common.{subst}
+use Rattle.std.proofs.lemmas.Option.{same_Some}
 use Rattle.std.specs.Prelude.{◌+ℤ◌, ◌-ℤ◌, if◌then◌else◌, unwrap_or}
 use Rattle.std.specs.List.{AllByRecursion}
 use Rattle.std.specs.Option.{option_and_then, option_map}
@@ -19,7 +20,6 @@ use Rattle.ent_semantics.specs.Change.{all_there}
 use Rattle.ent_semantics.specs.Database.{Environment, Name, same_name, with_value, with_values}
 use Rattle.ent_semantics.specs.Term.{SourceColumn, column_value, expression_value, in_64_bits, is_64_bits, known_value}
 use Rattle.ent_semantics.specs.Term.{no_value, number_of, operand_value, refers_to}
-use Rattle.ent_form_laws.proofs.Known.{one_value}
 use Rattle.ent_answer_laws.specs.Values.{BindsValues, IsWritten}
 
 module _ (P : Value → Type 0) (numbers : (number : ℤ) → P (Int number)) where
@@ -42,7 +42,7 @@ module _ (P : Value → Type 0) (numbers : (number : ℤ) → P (Int number)) wh
   in_range_has number value e = by (is_64_bits number) e
     where
       by : (b : Bool) → (if b then Some (Int number) else None) ≡ Some value → P value
-      by true is = subst P (one_value (Int number) value is) (numbers number)
+      by true is = subst P (same_Some (Int number) value is) (numbers number)
       by false is = cc (is)
 
   -- an expression over terms that have it
@@ -50,7 +50,7 @@ module _ (P : Value → Type 0) (numbers : (number : ℤ) → P (Int number)) wh
       → ((x : A) → AreWritten (spelling x) → P (worth x)) → (expression : Expression A)
       → AreWritten (expression_spelling spelling expression) → HasWhereThere (expression_value worth expression)
   expression_has worth spelling each (Single term) writes value e =
-      subst P (one_value (worth term) value e) (each term writes)
+      subst P (same_Some (worth term) value e) (each term writes)
   expression_has worth spelling each (Sum left right) writes value e =
       in_range_has (number_of (worth left) +ℤ number_of (worth right)) value e
   expression_has worth spelling each (Difference left right) writes value e =
@@ -94,7 +94,7 @@ module _ (P : Value → Type 0) (numbers : (number : ℤ) → P (Int number)) wh
     bound_has variable value is name other e = by (same_name variable name) e
       where
         by : (b : Bool) → (if b then Some value else environment name) ≡ Some other → P other
-        by true here = subst P (one_value value other here) is
+        by true here = subst P (same_Some value other here) is
         by false before = binds name other before
 
   -- one after the other

@@ -1,5 +1,5 @@
 -- Inputs with their scripts in another order have no fault of form where the input has none.
-use Rattle.std.proofs.Common.{◌≡◌, List, [], ◌∷◌, map, Some, None, Result, Ok, Err, ap, sym, ◌∙◌, refl, subst}
+use Rattle.std.proofs.Common.{◌≡◌, List, [], ◌∷◌, map, None, Result, Ok, Err, ap, sym, ◌∙◌, refl, subst}
 use Rattle.std.specs.List.{AllByRecursion}
 use Rattle.std.specs.Result.{result_err}
 use Rattle.std.proofs.lemmas.List.Sorted.{Contains-permutation, IsPermutation-sym}
@@ -13,29 +13,19 @@ use Rattle.ent_tree.specs.Places.{unplaced_script}
 use Rattle.ent_form.specs.AllFaults.{fault_of, head_of}
 use Rattle.ent_form.specs.Catalogue.{schemas_of}
 use Rattle.ent_form.specs.Form.{script_in}
-use Rattle.ent_form.specs.OpeningFault.{Check, ◌before◌, first_of, opening_fault}
+use Rattle.ent_form.specs.OpeningFault.{Check, first_of, opening_fault}
 use Rattle.ent_form.specs.ScriptFaults.{script_faults}
 use Rattle.ent_form.specs.declared.catalogue.TableSchema.{TableSchema}
 use Rattle.ent_form.specs.declared.fault.FormFault.{FormFault}
+use Rattle.ent_form.proofs.FirstFault.{headless}
 use Rattle.ent_headline.specs.Resolved.{resolved_forms}
 use Rattle.ent_sched.specs.Play.{input_fault, scripts_fault}
 use Rattle.ent_answer_laws.specs.Faults.{unplaced_fault}
 use Rattle.ent_answer_laws.specs.Unplaced.{unplaced_create}
+use Rattle.ent_form_laws.proofs.Steps.{nothing_first, nothing_later, both_nothing}
 use Rattle.ent_arrange.specs.Arranged.{IsArranged}
 
 -- ---- checks
-
-none_first : (one other : Check) → (one before other) ≡ None → one ≡ None
-none_first None other e = refl
-none_first (Some fault) other e = e
-
-none_second : (one other : Check) → (one before other) ≡ None → other ≡ None
-none_second None other e = e
-none_second (Some fault) other e = cc
-
-both_none : (one other : Check) → one ≡ None → other ≡ None → (one before other) ≡ None
-both_none None other e f = f
-both_none (Some fault) other e f = e
 
 module _ {A : Type 0} (check : A → Check) where
   all_pass : (xs : List A) → first_of check xs ≡ None → (x : A) → In x xs → check x ≡ None
@@ -43,17 +33,14 @@ module _ {A : Type 0} (check : A → Check) where
     where
       passed : (ys : List A) → first_of check ys ≡ None → AllByRecursion (λ y. check y ≡ None) ys
       passed [] e = tt
-      passed (y ∷ ys) e = (none_first (check y) (first_of check ys) e, passed ys (none_second (check y) (first_of check ys) e))
+      passed (y ∷ ys) e =
+          (nothing_first (check y) (first_of check ys) e, passed ys (nothing_later (check y) (first_of check ys) e))
 
   none_fails : (xs : List A) → AllByRecursion (λ x. check x ≡ None) xs → first_of check xs ≡ None
   none_fails [] all = refl
-  none_fails (x ∷ xs) all = both_none (check x) (first_of check xs) all.0 (none_fails xs all.1)
+  none_fails (x ∷ xs) all = both_nothing (check x) (first_of check xs) all.0 (none_fails xs all.1)
 
 -- ---- scripts
-
-no_head : (faults : List FormFault) → head_of faults ≡ None → faults ≡ []
-no_head [] e = refl
-no_head (fault ∷ more) e = cc
 
 no_image : (faults : List FormFault) → map unplaced_fault faults ≡ [] → faults ≡ []
 no_image [] e = refl
@@ -92,7 +79,8 @@ module _ (first : FirstIsFirst) (unplaced : PlacesMakeNoFault) (opening : Openin
       (sym (unplaced opening.tables other)
       ∙ ap (script_faults (schemas_of (map unplaced_create opening.tables))) same
       ∙ unplaced opening.tables script
-      ∙ ap (map unplaced_fault) (no_head (script_faults (schemas_of opening.tables) script) (sym (refused script) ∙ none))))
+      ∙ ap (map unplaced_fault)
+      (headless (script_faults (schemas_of opening.tables) script) (sym (refused script) ∙ none))))
 
 -- ---- inputs
 
@@ -101,8 +89,8 @@ module _ (first : FirstIsFirst) (unplaced : PlacesMakeNoFault) (input again : In
       → input_fault again.opening again.scripts ≡ None
   still_formed arranged none =
       subst (λ (opening : Opening). input_fault opening again.scripts ≡ None) (sym arranged.opening)
-      (both_none (opening_fault input.opening) (scripts_fault input.opening again.scripts)
-      (none_first (opening_fault input.opening) (scripts_fault input.opening input.scripts) none)
+      (both_nothing (opening_fault input.opening) (scripts_fault input.opening again.scripts)
+      (nothing_first (opening_fault input.opening) (scripts_fault input.opening input.scripts) none)
       (none_fails (refusal input.opening) again.scripts
       (to_all (λ (s : Script). refusal input.opening s ≡ None) again.scripts each)))
     where
@@ -119,4 +107,4 @@ module _ (first : FirstIsFirst) (unplaced : PlacesMakeNoFault) (input again : In
           (contains_in (map unplaced_script input.scripts) (unplaced_script script) moved) in
           alike first unplaced input.opening own.0 script own.2
           (all_pass (refusal input.opening) input.scripts
-          (none_second (opening_fault input.opening) (scripts_fault input.opening input.scripts) none) own.0 own.1)
+          (nothing_later (opening_fault input.opening) (scripts_fault input.opening input.scripts) none) own.0 own.1)

@@ -1,11 +1,13 @@
 -- Scripts that are printed alike are one script, places aside.
-use Rattle.std.proofs.Common.{◌≡◌, ℕ, List, [], ◌∷◌, map, length, Result, Ok, Err, ap, sym, ◌∙◌, refl, subst}
+use Rattle.std.proofs.Common.{◌≡◌, ℕ, List, [], ◌∷◌, map, length, Result, Ok, Err, ap, sym, ◌∙◌, subst}
 use Rattle.std.specs.Prelude.{Contains}
-use Rattle.std.specs.List.{range_with_len, AllByRecursion}
+use Rattle.std.specs.List.{range_with_len}
 use Rattle.std.specs.List.Sorted.{IsPermutation}
 use Rattle.std.proofs.lemmas.List.{length-map}
 use Rattle.std.proofs.lemmas.List.Sorted.{IsPermutation-map}
+use Rattle.std.proofs.lemmas.Simd.{map-map}
 use Rattle.ent_lists.specs.Elements.{In, to_all, in_contains}
+use Rattle.ent_lists.proofs.Lists.{map_same}
 use Rattle.ent_tree.specs.declared.script.End.TheVariants.{Commit}
 use Rattle.ent_tree.specs.declared.script.Input.{Input}
 use Rattle.ent_tree.specs.declared.script.Script.{Script}
@@ -33,14 +35,6 @@ said (Err fault) = nothing
 abbrev first_of : List ℕ → Script
 first_of text = said (reading text)
 
-map_alike : {X Y : Type 0} (f g : X → Y) (xs : List X) → AllByRecursion (λ x. f x ≡ g x) xs → map f xs ≡ map g xs
-map_alike f g [] same = refl
-map_alike f g (x ∷ xs) same = λ i. same.0 i ∷ map_alike f g xs same.1 i
-
-map_map : {X Y Z : Type 0} (f : Y → Z) (g : X → Y) (xs : List X) → map f (map g xs) ≡ map (λ x. f (g x)) xs
-map_map f g [] = refl
-map_map f g (x ∷ xs) = ap (λ rest. f (g x) ∷ rest) (map_map f g xs)
-
 -- a printed script is read as that script
 abbrev Rereads : Type 0
 Rereads = (text : List ℕ) (input : Input) (script : Script) → reading text ≡ Ok input → Contains input.scripts script
@@ -56,8 +50,8 @@ module _ (law : Rereads) where
   all_themselves : (input : Input) → WasRead input
       → map first_of (map script_text input.scripts) ≡ map unplaced_script input.scripts
   all_themselves input read =
-      map_map first_of script_text input.scripts
-      ∙ map_alike (λ (s : Script). first_of (script_text s)) unplaced_script input.scripts
+      map-map first_of script_text input.scripts
+      ∙ map_same (λ (s : Script). first_of (script_text s)) unplaced_script input.scripts
       (to_all (λ (s : Script). first_of (script_text s) ≡ unplaced_script s) input.scripts (itself input read))
 
   -- scripts that are printed as those of an input, each once, are these in another order

@@ -13,7 +13,7 @@ ghost use Rattle.ent_arrange.specs.Written.{Arranges, WritesArranged, WritesBegi
 use crate::again::is_arranged;
 use crate::cut::Cut;
 use crate::order::order;
-use crate::told::Told;
+use crate::told::ArrangementSummary;
 use crate::write::write_whole;
 use ent_answer_laws::faults_are_the_same_without_places;
 use ent_book::WriteFault;
@@ -40,7 +40,7 @@ pub fn arrange<'a, W: Write>(
     alloc: Global,
     bytes: &'a [u8],
     writer: &mut Watched<W>,
-) -> Result<Told<'a>, RunFault>
+) -> Result<ArrangementSummary<'a>, RunFault>
     requires limit { length bytes.now ≤ MOST_BYTES }
     requires unmarked { IsUnmarked writer.old }
     ensures written { OnOk result
@@ -63,7 +63,7 @@ pub fn arrange<'a, W: Write>(
 #[derive(Drop)]
 struct Arranged<'a> {
     text: Vec<u8>,
-    told: Told<'a>,
+    told: ArrangementSummary<'a>,
 }
 
 /// The text of an input with its scripts in another order, or the input's first fault.
@@ -78,7 +78,7 @@ fn text_and_told<'a>(alloc: Global, bytes: &'a [u8]) -> Result<Arranged<'a>, Run
     let text = valid_text(bytes);
     let scripts = input.scripts.as_slice();
     let arrangement = order(alloc, scripts)?;
-    let told = Told::of(alloc, text, scripts, &arrangement)?;
+    let told = ArrangementSummary::of(alloc, text, scripts, &arrangement)?;
     let order = arrangement.order.as_slice();
     let arranged = in_order(alloc, &Cut::of(alloc, text)?, order)?;
     let is_right = is_right(alloc, &input, order, arranged.as_slice())?;

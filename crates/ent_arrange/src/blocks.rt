@@ -40,7 +40,7 @@ struct Blocks<'a> {
     placed: Vec<bool>,
     /// The meetings before this one have theirs.
     first: usize,
-    /// Those of which scripts stand in the present block.
+    /// The meetings that have scripts in the present block.
     block: Vec<&'a Meeting>,
     /// Of each meeting the latest block where one stands that it may meet, as far as that was asked.
     barred: Vec<Option<usize>>,

@@ -18,4 +18,4 @@ mod waiting;
 mod write;
 
 pub use arranging::arrange;
-pub use told::Told;
+pub use told::ArrangementSummary;

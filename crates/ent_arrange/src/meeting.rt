@@ -3,7 +3,7 @@ use ent_meetings::{Party, Pattern};
 
 /// A script, by its place in the input, from 0, with what it offers and demands.
 #[derive(Drop)]
-pub(crate) struct Member {
+pub(crate) struct MeetingMember {
     pub(crate) script: usize,
     pub(crate) party: Party,
 }
@@ -11,7 +11,7 @@ pub(crate) struct Member {
 /// Scripts of which each demand may be met by one of them, in order.
 #[derive(Drop)]
 pub(crate) struct Meeting {
-    pub(crate) members: Vec<Member>,
+    pub(crate) members: Vec<MeetingMember>,
 }
 
 impl Meeting {

@@ -4,7 +4,7 @@ ghost use Rattle.std.specs.List.{range_with_len};
 ghost use Rattle.std.specs.List.Sorted.{IsPermutation};
 
 use crate::blocks::in_blocks;
-use crate::meeting::Member;
+use crate::meeting::MeetingMember;
 use crate::waiting::Waiting;
 use ent_tree::Script;
 use std::alloc::{AllocError, Global};
@@ -19,9 +19,9 @@ pub(crate) struct Arrangement {
     /// How many scripts the largest of them has; 0 where there is none.
     pub(crate) largest: usize,
     /// Whoever stands in no set of these scripts, without those of meetings, in which each demand may be met.
-    pub(crate) lonely: Vec<Member>,
-    /// Whoever may stand in one, of which none of a run's size was found.
-    pub(crate) unmet: Vec<Member>,
+    pub(crate) lonely: Vec<MeetingMember>,
+    /// Scripts that may stand in a meeting, but for which none of a run's size was found.
+    pub(crate) unmet: Vec<MeetingMember>,
 }
 
 /// The order of scripts: whole meetings, each begun by its first script, its members in order; then those who are in no

@@ -55,7 +55,7 @@ impl Sizes {
         self.counts.get(size).copied().unwrap_or(0)
     }
 
-    /// Of which sizes there are meetings, each of which fills this room exactly with others.
+    /// For each size, whether meetings of that size and of others fill this room exactly.
     pub(crate) fn filling(&self, room: usize) -> [bool; MOST_MEMBERS + 1]
         requires { room ≤ MOST_MEMBERS }
     {

@@ -1,5 +1,5 @@
 //! What is told of an arrangement.
-use crate::meeting::Member;
+use crate::meeting::MeetingMember;
 use crate::order::Arrangement;
 use ent_excerpt::{Excerpt, Line, Place};
 use ent_fault_text::Explanation;
@@ -16,7 +16,7 @@ const MOST_TOLD: usize = 20;
 /// ones a demand that nobody meets, and where it stands in the input. Printed it is lines, the first of which has the
 /// numbers.
 #[derive(Drop)]
-pub struct Told<'a> {
+pub struct ArrangementSummary<'a> {
     meetings: usize,
     largest: usize,
     lonely: usize,
@@ -24,7 +24,7 @@ pub struct Told<'a> {
     demands: Vec<Explanation<'a>>,
 }
 
-impl<'a> Told<'a> {
+impl<'a> ArrangementSummary<'a> {
     /// What is told of an arrangement of these scripts, which this text says.
     pub(crate) fn of(
         alloc: Global,
@@ -40,7 +40,7 @@ impl<'a> Told<'a> {
                 }
             }
         }
-        Ok(Told {
+        Ok(ArrangementSummary {
             meetings: arrangement.meetings,
             largest: arrangement.largest,
             lonely: arrangement.lonely.len(),
@@ -50,7 +50,7 @@ impl<'a> Told<'a> {
     }
 }
 
-impl fmt::Display for Told<'_> {
+impl fmt::Display for ArrangementSummary<'_> {
     fn fmt<W: fmt::Write>(&self, f: &mut fmt::Formatter<W>) -> fmt::Result {
         let meetings = self.meetings;
         let largest = self.largest;
@@ -85,7 +85,7 @@ enum Lack {
 
 impl Lack {
     /// The first demand of the former kind, else the first of the latter.
-    fn of(member: &Member, arrangement: &Arrangement) -> Option<Self> {
+    fn of(member: &MeetingMember, arrangement: &Arrangement) -> Option<Self> {
         let lonely = arrangement.lonely.as_slice();
         let unmet = arrangement.unmet.as_slice();
         let demands = member.party.demands.as_slice();
@@ -108,7 +108,7 @@ impl Lack {
 }
 
 /// Whether one of these may offer what is demanded.
-fn may_offer(members: &[Member], demand: &Pattern) -> bool {
+fn may_offer(members: &[MeetingMember], demand: &Pattern) -> bool {
     members.iter().any(|member| member.party.offers(demand))
 }
 
@@ -117,7 +117,7 @@ fn explain<'a>(
     alloc: Global,
     text: &'a str,
     script: &Script,
-    member: &Member,
+    member: &MeetingMember,
     arrangement: &Arrangement,
 ) -> Result<Option<Explanation<'a>>, AllocError> {
     let Some(lack) = Lack::of(member, arrangement) else {

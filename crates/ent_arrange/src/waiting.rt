@@ -4,7 +4,7 @@ ghost use Rattle.ent_meetings.specs.Waiting.{Waits};
 ghost use Rattle.ent_arrange.specs.Doubts.{work_of};
 
 use crate::doubts::Doubts;
-use crate::meeting::{Meeting, Member};
+use crate::meeting::{Meeting, MeetingMember};
 use ent_group::MOST_MEMBERS;
 use ent_meetings::{Found, Index, Party, Search, widen};
 use ent_tree::Script;
@@ -34,7 +34,7 @@ pub(crate) struct Waiting {
     /// Those who may get into one. A ticket is the script's place in the input.
     index: Index,
     /// Those who get into none.
-    left: Vec<Member>,
+    left: Vec<MeetingMember>,
     /// Those who may get into one, and may demand what nobody may offer of these.
     doubts: Doubts,
     /// How much the searches weigh that found no meeting.
@@ -57,7 +57,7 @@ impl Waiting {
         let mut waiting = Waiting::new(alloc);
         for (place, script) in scripts.iter().enumerate() {
             let party = Party::of(alloc, script)?;
-            waiting.add(Member {
+            waiting.add(MeetingMember {
                 script: place,
                 party,
             })?;
@@ -66,7 +66,7 @@ impl Waiting {
     }
 
     /// One more waits, unless it does already.
-    fn add(&mut self, member: Member) -> Result<(), AllocError> {
+    fn add(&mut self, member: MeetingMember) -> Result<(), AllocError> {
         let ticket = member.script as u64;
         if self.index.contains(ticket) {
             return Ok(());
@@ -134,7 +134,7 @@ impl Waiting {
         self,
         alloc: Global,
         scripts: usize,
-    ) -> Result<(Vec<Member>, Vec<Member>), AllocError> {
+    ) -> Result<(Vec<MeetingMember>, Vec<MeetingMember>), AllocError> {
         let Waiting { index, left, .. } = self;
         let mut rest = Waiting::new(alloc);
         for member in left {
@@ -193,7 +193,7 @@ impl Waiting {
     }
 
     /// This one waits no more, and those get doubtful who demand what it offers.
-    fn remove(&mut self, ticket: u64) -> Result<Option<Member>, AllocError>
+    fn remove(&mut self, ticket: u64) -> Result<Option<MeetingMember>, AllocError>
         ensures work { OnOk result (work_of self.new.doubts ≤ work_of self.old.doubts) }
     {
         let Some(party) = self.index.remove(ticket) else {
@@ -203,16 +203,20 @@ impl Waiting {
             self.doubts.add_demanders(&self.index, offer)?;
         }
         let script = ticket as usize;
-        Ok(Some(Member { script, party }))
+        Ok(Some(MeetingMember { script, party }))
     }
 }
 
 /// Those of an index, of so many scripts, in order.
-fn members(alloc: Global, mut index: Index, scripts: usize) -> Result<Vec<Member>, AllocError> {
+fn members(
+    alloc: Global,
+    mut index: Index,
+    scripts: usize,
+) -> Result<Vec<MeetingMember>, AllocError> {
     let mut members = Vec::new(alloc);
     for script in 0..scripts {
         if let Some(party) = index.remove(script as u64) {
-            members.push(Member { script, party })?;
+            members.push(MeetingMember { script, party })?;
         }
     }
     Ok(members)

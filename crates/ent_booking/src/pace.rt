@@ -1,5 +1,5 @@
 //! When runs start and end.
-use ent_serve::{Gate, Manager, Naming, Turn};
+use ent_serve::{Gate, Headway, Manager, Naming};
 use std::sync::Wait;
 use std::sync::atomic::{AtomicBool, Ordering};
 use std::thread;
@@ -28,7 +28,7 @@ pub(crate) fn pace<L: Naming, G: Gate, R: Wait + Clock>(
 /// Ends the last run, in which nobody is left.
 pub(crate) fn end_last_run<L: Naming, G: Gate, R: Wait>(rt: &R, manager: &Manager<L, G>) {
     for _ in rt.forever() {
-        if let Ok(Turn::Done) = manager.end_run(rt) {
+        if let Ok(Headway::Done) = manager.end_run(rt) {
             break;
         }
     }

@@ -12,7 +12,7 @@ use Rattle.ent_c.specs.Calls.{HandsOut}
 use Rattle.ent_c.specs.Looks.{HandsRoom}
 use Rattle.ent_c.specs.Rooms.{Held, InRoom, OfRoom, OfStay, TellsDone, TellsNumber, TellsRoom, TurnsIn}
 use Rattle.ent_c.specs.Told.{told_of_text}
-use Rattle.ent_c.specs.declared.told.Told.{Told}
+use Rattle.ent_c.specs.declared.told.CallTold.{CallTold}
 use Rattle.ent_c.proofs.Statuses.{of_signed}
 
 -- a room is there, and the call does this with it
@@ -37,8 +37,8 @@ of_stay number Misused Does stay status small is does =
     subst (λ (s : ℤ). OfStay number (Misused s) (Does s)) (sym (of_signed status small)) (inr (stay, is, does))
 
 -- what a turn answers is told
-pub turned : {A : Type 0} (answer : Result A RoomFault) (bytes : List ℕ) (old new : Room) (refusal : ℕ) (told : Told)
-    (status : ℤ) → OnOk answer (Turns bytes old new) → OnErr answer (new ≡ old) →
+pub turned : {A : Type 0} (answer : Result A RoomFault) (bytes : List ℕ) (old new : Room) (refusal : ℕ)
+    (told : CallTold) (status : ℤ) → OnOk answer (Turns bytes old new) → OnErr answer (new ≡ old) →
     IfErr answer (λ fault. IsNotTurned bytes old fault) → OnOk answer (TellsDone refusal status) →
     OnOk answer (told ≡ told_of_text 0) → IfErr answer (λ fault. TellsNumber fault refusal status) →
     IfErr answer (λ fault. TellsRoom fault bytes told) → TurnsIn bytes old new refusal told status
@@ -48,7 +48,7 @@ turned (Err fault) bytes old new refusal told status _ same why _ _ number where
 
 -- a text of a room is handed out, or the fault is told for which there is none
 pub hands : {A : Type 0} (answer : Result A RoomFault) (bytes_of : A → List ℕ) (IsText : List ℕ → Type 0)
-    (IsFault : RoomFault → Type 0) (given old new : List ℕ) (told : Told) (status : ℤ) → mag status < 2 ^ 31 →
+    (IsFault : RoomFault → Type 0) (given old new : List ℕ) (told : CallTold) (status : ℤ) → mag status < 2 ^ 31 →
     IfOk answer (λ text. IsText (bytes_of text)) → IfErr answer IsFault →
     IfOk answer (λ text. HandsOut (bytes_of text) old new told × (status ≡ pos 0)) →
     IfErr answer (λ fault. (new ≡ old) × TellsRoom fault given told × (status ≡ pos (fault_status fault))) →

@@ -17,35 +17,35 @@ use Rattle.ent_driver.specs.Fault.{status as refusal_status}
 use Rattle.ent_driver.specs.declared.fault.DriverFault.{DriverFault}
 use Rattle.ent_c.specs.Text.{laid_over, IsReport, IsSaidOf, verdict_status}
 use Rattle.ent_c.specs.Told.{told_of_text, TellsFault, TellsRefusal}
-use Rattle.ent_c.specs.declared.told.Told.{Told}
+use Rattle.ent_c.specs.declared.told.CallTold.{CallTold}
 
 -- the buffer is as it was, no fault is told, and the status is 2
-abbrev pub IsMisused : List ℕ → List ℕ → Told → ℤ → Type 0
+abbrev pub IsMisused : List ℕ → List ℕ → CallTold → ℤ → Type 0
 IsMisused old new told status = (status ≡ pos 2) × (new ≡ old) × (told ≡ told_of_text 0)
 
 -- a text is handed out as far as the buffer reaches, and no fault is told
-abbrev pub HandsOut : List ℕ → List ℕ → List ℕ → Told → Type 0
+abbrev pub HandsOut : List ℕ → List ℕ → List ℕ → CallTold → Type 0
 HandsOut text old new told = (new ≡ laid_over old text) × (told ≡ told_of_text (length text))
 
 -- a fault of these bytes is told, by its status too, and nothing is handed out
-abbrev pub Refuses : RunFault → List ℕ → List ℕ → List ℕ → Told → ℤ → Type 0
+abbrev pub Refuses : RunFault → List ℕ → List ℕ → List ℕ → CallTold → ℤ → Type 0
 Refuses fault bytes old new told status =
     (status ≡ pos (fault_status fault)) × (new ≡ old) × TellsFault fault bytes 0 told
 
 -- the same of a call that a driver refuses
-abbrev pub Declines : DriverFault → List ℕ → List ℕ → List ℕ → Told → ℤ → Type 0
+abbrev pub Declines : DriverFault → List ℕ → List ℕ → List ℕ → CallTold → ℤ → Type 0
 Declines fault bytes old new told status =
     (status ≡ pos (refusal_status fault)) × (new ≡ old) × TellsRefusal fault bytes told
 
 -- the report of an input is handed out, or the fault is told for which it is refused
-abbrev pub Reports : ReportVersion → List ℕ → List ℕ → List ℕ → Told → ℤ → Type 0
+abbrev pub Reports : ReportVersion → List ℕ → List ℕ → List ℕ → CallTold → ℤ → Type 0
 Reports version bytes old new told status =
     ((report : List ℕ) × IsReport version bytes report × HandsOut report old new told × (status ≡ pos 0))
     ⊎ ((fault : RunFault) × IsRefused bytes fault × Refuses fault bytes old new told status)
 
 -- the input has a report, and nothing is handed out; or what is said of the fault is, for which it is refused; where
 -- memory runs out for that, this is what is told
-abbrev pub Explains : List ℕ → List ℕ → List ℕ → Told → ℤ → Type 0
+abbrev pub Explains : List ℕ → List ℕ → List ℕ → CallTold → ℤ → Type 0
 Explains bytes old new told status =
     ((report : List ℕ) × IsReport One bytes report × (status ≡ pos 0) × (new ≡ old) × (told ≡ told_of_text 0))
     ⊎ (((fault : RunFault) × (text : List ℕ) × IsRefused bytes fault × IsSaidOf fault text
@@ -53,7 +53,7 @@ Explains bytes old new told status =
     ⊎ Refuses Memory bytes old new told status)
 
 -- the verdict on a report is handed out, or a fault is told for which there is none
-abbrev pub Checks : List ℕ → List ℕ → List ℕ → Told → ℤ → Type 0
+abbrev pub Checks : List ℕ → List ℕ → List ℕ → CallTold → ℤ → Type 0
 Checks report old new told status =
     ((verdict : Verdict) × IsVerdict report verdict × HandsOut (verdict_text verdict) old new told
     × (status ≡ pos (verdict_status verdict)))

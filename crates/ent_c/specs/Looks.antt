@@ -36,7 +36,7 @@ use Rattle.ent_c.specs.Text.{IsSaidOf, laid_over}
 use Rattle.ent_c.specs.Told.{told_of_text}
 use Rattle.ent_c.specs.declared.ticket_state.Submission.{Submission}
 use Rattle.ent_c.specs.declared.ticket_state.TicketState.{TicketState}
-use Rattle.ent_c.specs.declared.told.Told.{Told}
+use Rattle.ent_c.specs.declared.told.CallTold.{CallTold}
 
 -- ---- how a ticket stands, in numbers
 
@@ -92,7 +92,7 @@ TellsSubmission ticket place room before submission status =
 -- ---- texts
 
 -- a text with this property is handed out; or nothing, for a fault with that one, of the bytes that were handed in
-abbrev pub HandsRoom : (List ℕ → Type 0) → (RoomFault → Type 0) → List ℕ → List ℕ → List ℕ → Told → ℤ → Type 0
+abbrev pub HandsRoom : (List ℕ → Type 0) → (RoomFault → Type 0) → List ℕ → List ℕ → List ℕ → CallTold → ℤ → Type 0
 HandsRoom IsText IsFault bytes old new told status =
     ((text : List ℕ) × IsText text × HandsOut text old new told × (status ≡ pos 0))
     ⊎ ((fault : RoomFault) × IsFault fault × (new ≡ old) × TellsRoom fault bytes told
@@ -111,14 +111,14 @@ IsSaid variables (Form fault) text = IsSaidOf (run_faults.Form fault) text
 IsSaid variables (Binding fault) text = text ≡ binding_line variables fault
 
 -- the fault is told, for which the script wouldn't be put with these values, and what is said of it is handed out
-abbrev pub HandsFault : List BoundVariable → PrepareFault → List ℕ → List ℕ → List ℕ → Told → ℤ → Type 0
+abbrev pub HandsFault : List BoundVariable → PrepareFault → List ℕ → List ℕ → List ℕ → CallTold → ℤ → Type 0
 HandsFault variables fault bytes old new told status =
     (text : List ℕ) × IsSaid variables fault text × (new ≡ laid_over old text)
     × TellsBeside (Faulty fault) bytes (length text) told × (status ≡ pos (fault_status (Faulty fault)))
 
 -- the script could be put with these values, and nothing is handed out; or what is said of the first fault is; or
 -- memory ran out for that
-abbrev pub ExplainsPut : Room → List ℕ → List BoundVariable → List ℕ → List ℕ → Told → ℤ → Type 0
+abbrev pub ExplainsPut : Room → List ℕ → List BoundVariable → List ℕ → List ℕ → CallTold → ℤ → Type 0
 ExplainsPut room bytes variables old new told status =
     (HasScript room.admission bytes variables × HandsNothing old new told status)
     ⊎ (((fault : PrepareFault) × IsFirstFault (tables_of room.admission) bytes variables fault
@@ -126,13 +126,13 @@ ExplainsPut room bytes variables old new told status =
     ⊎ ((new ≡ old) × TellsRoom Memory bytes told × (status ≡ pos (fault_status Memory))))
 
 -- the report of the epoch that ended last, whose book is legal, is handed out, and the epoch's number is told
-abbrev pub HandsReport : ReportVersion → Room → ℕ → List ℕ → List ℕ → Told → ℤ → Type 0
+abbrev pub HandsReport : ReportVersion → Room → ℕ → List ℕ → List ℕ → CallTold → ℤ → Type 0
 HandsReport version room epoch old new told status =
     (last : EpochBook) × (room.last ≡ Some last) × IsLegal (book_seen last.book) × (epoch ≡ last.epoch)
     × HandsOut (text_of version (book_seen last.book)) old new told × (status ≡ pos 0)
 
 -- the same; or no epoch has ended; or memory ran out
-abbrev pub ReportsOf : ReportVersion → Room → ℕ → ℕ → List ℕ → List ℕ → Told → ℤ → Type 0
+abbrev pub ReportsOf : ReportVersion → Room → ℕ → ℕ → List ℕ → List ℕ → CallTold → ℤ → Type 0
 ReportsOf version room before epoch old new told status =
     HandsReport version room epoch old new told status
     ⊎ ((epoch ≡ before) × (new ≡ old)

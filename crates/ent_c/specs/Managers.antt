@@ -19,7 +19,7 @@ use Rattle.ent_c.specs.Calls.{HandsOut, Declines}
 use Rattle.ent_c.specs.Position.{position_of}
 use Rattle.ent_c.specs.Told.{told_of_text, TellsFault, TellsRefusal}
 use Rattle.ent_c.specs.declared.position.Position.{Position}
-use Rattle.ent_c.specs.declared.told.Told.{Told}
+use Rattle.ent_c.specs.declared.told.CallTold.{CallTold}
 
 -- what a handle holds: nothing where it is null
 abbrev pub Held : Type 0
@@ -32,7 +32,7 @@ behind (Some driver) = driver
 
 -- a handle that was null has a manager over the input, or the fault is told for which there is none; one that wasn't
 -- null is misused, and as it was
-abbrev pub OpensManager : List ℕ → Held → Held → Told → ℤ → Type 0
+abbrev pub OpensManager : List ℕ → Held → Held → CallTold → ℤ → Type 0
 OpensManager bytes None new told status =
     ((driver : Driver) × Opens bytes driver × (new ≡ Some driver) × (told ≡ told_of_text 0) × (status ≡ pos 0))
     ⊎ ((fault : RunFault) × IsRefused bytes fault × (new ≡ None) × TellsFault fault bytes 0 told
@@ -41,7 +41,7 @@ OpensManager bytes (Some driver) new told status =
     (new ≡ Some driver) × (told ≡ told_of_text 0) × (status ≡ pos 2)
 
 -- the script is taken, and its number is told; or nothing changes, and the fault is told for which it isn't
-abbrev pub SubmitsTo : List ℕ → Held → Held → ℕ → ℕ → Told → ℤ → Type 0
+abbrev pub SubmitsTo : List ℕ → Held → Held → ℕ → ℕ → CallTold → ℤ → Type 0
 SubmitsTo bytes old new tx number told status =
     (Submits bytes (behind old) number (behind new) × (told ≡ told_of_text 0) × (status ≡ pos 0))
     ⊎ ((fault : DriverFault) × IsNotSubmitted bytes (behind old) fault × (new ≡ old) × (number ≡ tx)
@@ -63,7 +63,7 @@ StandsIn held tx old new status =
     × (status ≡ pos (refusal_status fault)))
 
 -- a text with this property is handed out; or nothing, for a fault with that one, of the bytes that were handed in
-abbrev pub HandsOutOr : (List ℕ → Type 0) → (DriverFault → Type 0) → List ℕ → List ℕ → List ℕ → Told → ℤ → Type 0
+abbrev pub HandsOutOr : (List ℕ → Type 0) → (DriverFault → Type 0) → List ℕ → List ℕ → List ℕ → CallTold → ℤ → Type 0
 HandsOutOr IsText IsFault bytes old new told status =
     ((text : List ℕ) × IsText text × HandsOut text old new told × (status ≡ pos 0))
     ⊎ ((fault : DriverFault) × IsFault fault × Declines fault bytes old new told status)

@@ -38,7 +38,7 @@ use Rattle.ent_waiting.specs.declared.waiting_list.NotWithdrawn.{NotWithdrawn}
 use Rattle.ent_waiting.specs.declared.waiting_list.NotWithdrawn.TheVariants.{Absent, InBatch}
 use Rattle.ent_c.specs.Told.{told_of_text, TellsCode}
 use Rattle.ent_c.specs.declared.room.Limits.{Limits as CLimits}
-use Rattle.ent_c.specs.declared.told.Told.{Told}
+use Rattle.ent_c.specs.declared.told.CallTold.{CallTold}
 
 -- what a handle holds: nothing where it is null
 abbrev pub Held : Type 0
@@ -73,7 +73,7 @@ given_in None = []
 given_in (Some rows) = rows
 
 -- neither the number of a refusal nor what is told is written
-abbrev pub IsKept : ℕ → ℕ → Told → Told → Type 0
+abbrev pub IsKept : ℕ → ℕ → CallTold → CallTold → Type 0
 IsKept refusal refusal' told told' = (refusal' ≡ refusal) × (told' ≡ told)
 
 -- the limits of C, as a waiting list has them
@@ -92,20 +92,20 @@ TellsNumber fault refusal status = (refusal ≡ number_of fault) × (status ≡ 
 
 -- a fault of this number, of a bound variable or of a given row, which is told by its own number, beside a text of so
 -- many bytes
-abbrev pub told_of_item : ℕ → ℕ → ℕ → Told
+abbrev pub told_of_item : ℕ → ℕ → ℕ → CallTold
 told_of_item count code item =
     record { needed = count; offset = item; line = 0; column = 0; code = code; has_place = false }
 
-abbrev pub TellsWhere : Option ℕ → RoomFault → List ℕ → ℕ → Told → Type 0
+abbrev pub TellsWhere : Option ℕ → RoomFault → List ℕ → ℕ → CallTold → Type 0
 TellsWhere None fault bytes count told = TellsCode (code_of fault) (place_of fault) bytes count told
 TellsWhere (Some item) fault bytes count told = told ≡ told_of_item count (code_of fault) item
 
 -- a fault is told of the bytes that were handed in, or which variable or row it is of, beside a text of so many bytes
-abbrev pub TellsBeside : RoomFault → List ℕ → ℕ → Told → Type 0
+abbrev pub TellsBeside : RoomFault → List ℕ → ℕ → CallTold → Type 0
 TellsBeside fault bytes count told = TellsWhere (item_of fault) fault bytes count told
 
 -- the same beside no text
-abbrev pub TellsRoom : RoomFault → List ℕ → Told → Type 0
+abbrev pub TellsRoom : RoomFault → List ℕ → CallTold → Type 0
 TellsRoom fault bytes told = TellsBeside fault bytes 0 told
 
 -- ---- opening
@@ -118,7 +118,7 @@ IsNoRoom bytes rows next limits fault =
 
 -- a handle that was null has a room over the input and these rows, or it is told why not; one that wasn't null is
 -- misused
-abbrev pub OpensRoom : List ℕ → List GivenRow → ℕ → ℕ → ℕ → Limits → Held → Held → Type 0 → ℕ → Told → ℤ → Type 0
+abbrev pub OpensRoom : List ℕ → List GivenRow → ℕ → ℕ → ℕ → Limits → Held → Held → Type 0 → ℕ → CallTold → ℤ → Type 0
 OpensRoom bytes rows number next next_group limits (Some room) new Same refusal told status =
     IsMisused (Some room) new status Same
 OpensRoom bytes rows number next next_group limits None new Same refusal told status =
@@ -151,7 +151,7 @@ IsNotPut bytes variables room (refusals.Fault (put.Faulty fault)) =
 IsNotPut bytes variables room (refusals.Fault put.Full) = IsFull room.admission.list
 
 -- a script is put, and its ticket is told; or it is told why not, and nothing changes
-abbrev pub PutsIn : List ℕ → List BoundVariable → Stay → Room → Room → ℕ → ℕ → ℕ → Told → ℤ → Type 0
+abbrev pub PutsIn : List ℕ → List BoundVariable → Stay → Room → Room → ℕ → ℕ → ℕ → CallTold → ℤ → Type 0
 PutsIn bytes variables stay old new before ticket refusal told status =
     (Puts bytes variables stay old ticket new × (told ≡ told_of_text 0) × TellsDone refusal status)
     ⊎ ((refused : Refusal NotPut) × IsNotPut bytes variables old refused × (new ≡ old) × (ticket ≡ before)
@@ -175,7 +175,7 @@ IsNotPutBack ticket bytes variables room (refusals.Fault (back.Refused NoRoom)) 
 IsNotPutBack ticket bytes variables room (refusals.Fault (back.Refused Used)) =
     ¬ MayComeBack room.admission.list ticket
 
-abbrev pub PutsBackIn : ℕ → List ℕ → List BoundVariable → Stay → ℕ → Room → Room → ℕ → Told → ℤ → Type 0
+abbrev pub PutsBackIn : ℕ → List ℕ → List BoundVariable → Stay → ℕ → Room → Room → ℕ → CallTold → ℤ → Type 0
 PutsBackIn ticket bytes variables stay batches old new refusal told status =
     (PutsBack ticket bytes variables stay batches old new × (told ≡ told_of_text 0) × TellsDone refusal status)
     ⊎ ((refused : Refusal NotPutBack) × IsNotPutBack ticket bytes variables old refused × (new ≡ old)
@@ -222,7 +222,7 @@ StepsIn old new before step refusal status =
     ⊎ ((refused : Refusal NotStepped) × (step ≡ before) × TellsNumber (of_step refused) refusal status))
 
 -- the epoch ends, and the next begins; or it is told why not, and nothing changes
-abbrev pub TurnsIn : List ℕ → Room → Room → ℕ → Told → ℤ → Type 0
+abbrev pub TurnsIn : List ℕ → Room → Room → ℕ → CallTold → ℤ → Type 0
 TurnsIn bytes old new refusal told status =
     (Turns bytes old new × (told ≡ told_of_text 0) × TellsDone refusal status)
     ⊎ ((fault : RoomFault) × IsNotTurned bytes old fault × (new ≡ old) × TellsRoom fault bytes told

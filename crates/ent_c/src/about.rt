@@ -7,11 +7,11 @@ use crate::buffer::lay_over;
 use crate::position::Position;
 use crate::room::Limits;
 use crate::ticket_state::{Submission, TicketState};
-use crate::told::Told;
+use crate::told::CallTold;
 use ent_engine::VERSION;
 
 /// How many bytes a `struct entangle_told` has.
-const TOLD_BYTES: usize = size_of::<Told>();
+const TOLD_BYTES: usize = size_of::<CallTold>();
 
 /// How many bytes a `struct entangle_position` has.
 const POSITION_BYTES: usize = size_of::<Position>();
@@ -27,11 +27,11 @@ const SUBMISSION_BYTES: usize = size_of::<Submission>();
 
 /// Hands out the version, as `entangle --version` prints it behind the program's name, without the end of its line.
 #[unsafe(no_mangle)]
-pub extern "C" fn ent_c_version(buffer: &mut [u8], told: &mut Told) -> i32
+pub extern "C" fn ent_c_version(buffer: &mut [u8], told: &mut CallTold) -> i32
     ensures text { HandsOut VERSION.now buffer.old buffer.new told.new }
     ensures status { result ≡ pos 0 }
 {
-    *told = Told::text(VERSION.len());
+    *told = CallTold::text(VERSION.len());
     lay_over(VERSION.as_bytes(), buffer);
     DONE
 }

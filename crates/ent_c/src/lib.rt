@@ -2,7 +2,7 @@
 //! rooms, in which scripts wait, and managers, which keep tables between calls and make single runs.
 //!
 //! `include/entangle.h` declares the calls, with the conditions of each. A text goes into the caller's buffer, as far
-//! as the buffer reaches; its length, and a fault, go into a [`Told`]. Only rooms, rows, values and managers keep
+//! as the buffer reaches; its length, and a fault, go into a [`CallTold`]. Only rooms, rows, values and managers keep
 //! anything between calls, behind a [`RoomHandle`], a [`RowsHandle`], a [`ValuesHandle`] or a [`Handle`]; everything
 //! else that a call allocates it frees.
 #![tactic(auto)]
@@ -69,7 +69,7 @@ pub use rows_handle::RowsHandle;
 pub use script::ent_c_explain_script;
 use std::alloc::Global;
 pub use ticket_state::{Submission, TicketState};
-pub use told::Told;
+pub use told::CallTold;
 pub use values::{ent_c_values_free, ent_c_values_int, ent_c_values_text};
 pub use values_handle::ValuesHandle;
 
@@ -89,23 +89,23 @@ pub extern "C" fn ent_c_report(
     input: &[u8],
     version: u32,
     buffer: &mut [u8],
-    told: &mut Told,
+    told: &mut CallTold,
 ) -> i32
     ensures { MatchOption (version_numbered version) (IsMisused buffer.old buffer.new told.new result)
         (λ version. Reports version input.now buffer.old buffer.new told.new result) }
 {
     let Some(version) = version_numbered(version) else {
-        *told = Told::text(0);
+        *told = CallTold::text(0);
         return MISUSED;
     };
     match report_of(alloc, input, version) {
         Ok(report) => {
-            *told = Told::text(report.len());
+            *told = CallTold::text(report.len());
             lay_over(report.as_slice(), buffer);
             DONE
         }
         Err(fault) => {
-            *told = Told::fault(input, fault, 0);
+            *told = CallTold::fault(input, fault, 0);
             status_of(&fault) as i32
         }
     }
@@ -117,19 +117,19 @@ pub extern "C" fn ent_c_explain(
     alloc: Global,
     input: &[u8],
     buffer: &mut [u8],
-    told: &mut Told,
+    told: &mut CallTold,
 ) -> i32
     ensures { Explains input.now buffer.old buffer.new told.new result }
 {
     let Err(fault) = report_of(alloc, input, ReportVersion::One) else {
-        *told = Told::text(0);
+        *told = CallTold::text(0);
         return DONE;
     };
     let Ok(text) = explanation_of(alloc, input, fault) else {
-        *told = Told::fault(input, RunFault::Memory, 0);
+        *told = CallTold::fault(input, RunFault::Memory, 0);
         return status_of(&RunFault::Memory) as i32;
     };
-    *told = Told::fault(input, fault, text.len());
+    *told = CallTold::fault(input, fault, text.len());
     lay_over(text.as_bytes(), buffer);
     status_of(&fault) as i32
 }
@@ -140,19 +140,19 @@ pub extern "C" fn ent_c_check(
     alloc: Global,
     report: &[u8],
     buffer: &mut [u8],
-    told: &mut Told,
+    told: &mut CallTold,
 ) -> i32
     ensures { Checks report.now buffer.old buffer.new told.new result }
 {
     match judge(alloc, report) {
         Ok(Judged { verdict, text }) => {
-            *told = Told::text(text.len());
+            *told = CallTold::text(text.len());
             lay_over(text.as_bytes(), buffer);
             status_after(verdict)
         }
         Err(fault) => {
             let fault = RunFault::Check(fault);
-            *told = Told::fault(report, fault, 0);
+            *told = CallTold::fault(report, fault, 0);
             status_of(&fault) as i32
         }
     }

@@ -12,7 +12,7 @@ ghost use Rattle.ent_c.specs.Version.{version_numbered};
 use crate::buffer::lay_over;
 use crate::handle::Handle;
 use crate::position::Position;
-use crate::told::Told;
+use crate::told::CallTold;
 use crate::version::version_numbered;
 use crate::{DONE, MISUSED};
 use ent_driver::{Driver, DriverFault};
@@ -24,19 +24,19 @@ pub(crate) fn hand_out(
     text: Result<Vec<u8>, DriverFault>,
     given: &[u8],
     buffer: &mut [u8],
-    told: &mut Told,
+    told: &mut CallTold,
 ) -> i32
     ensures handed { IfOk text (λ text. HandsOut text.items buffer.old buffer.new told.new × (result ≡ pos 0)) }
     ensures refused { IfErr text (λ fault. Declines fault given.now buffer.old buffer.new told.new result) }
 {
     match text {
         Ok(text) => {
-            *told = Told::text(text.len());
+            *told = CallTold::text(text.len());
             lay_over(text.as_slice(), buffer);
             DONE
         }
         Err(fault) => {
-            *told = Told::refusal(given, fault);
+            *told = CallTold::refusal(given, fault);
             fault.status() as i32
         }
     }
@@ -57,23 +57,23 @@ pub extern "C" fn ent_c_open(
     alloc: Global,
     handle: &mut Handle,
     input: &[u8],
-    told: &mut Told,
+    told: &mut CallTold,
 ) -> i32
     ensures { OpensManager input.now handle.old.held handle.new.held told.new result }
 {
     if let Some(driver) = handle.take(alloc) {
         handle.put(driver);
-        *told = Told::text(0);
+        *told = CallTold::text(0);
         return MISUSED;
     }
     match manager_over(alloc, input) {
         Ok(manager) => {
             handle.put(manager);
-            *told = Told::text(0);
+            *told = CallTold::text(0);
             DONE
         }
         Err(fault) => {
-            *told = Told::fault(input, fault, 0);
+            *told = CallTold::fault(input, fault, 0);
             status_of(&fault) as i32
         }
     }
@@ -86,12 +86,12 @@ pub extern "C" fn ent_c_submit(
     handle: &mut Handle,
     script: &[u8],
     tx: &mut u64,
-    told: &mut Told,
+    told: &mut CallTold,
 ) -> i32
     ensures { SubmitsTo script.now handle.old.held handle.new.held tx.old tx.new told.new result }
 {
     let Some(mut driver) = handle.take(alloc) else {
-        *told = Told::refusal(script, DriverFault::Vacant);
+        *told = CallTold::refusal(script, DriverFault::Vacant);
         return MISUSED;
     };
     let submitted = driver.submit(alloc, script);
@@ -99,11 +99,11 @@ pub extern "C" fn ent_c_submit(
     match submitted {
         Ok(number) => {
             *tx = number;
-            *told = Told::text(0);
+            *told = CallTold::text(0);
             DONE
         }
         Err(fault) => {
-            *told = Told::refusal(script, fault);
+            *told = CallTold::refusal(script, fault);
             fault.status() as i32
         }
     }
@@ -157,7 +157,7 @@ pub extern "C" fn ent_c_answers(
     handle: &mut Handle,
     tx: u64,
     buffer: &mut [u8],
-    told: &mut Told,
+    told: &mut CallTold,
 ) -> i32
     ensures same { handle.new.held ≡ handle.old.held }
     ensures text { HandsOutOr (Answers (behind handle.old.held) tx) (IsUnanswered (behind handle.old.held) tx)
@@ -178,7 +178,7 @@ pub extern "C" fn ent_c_table(
     handle: &mut Handle,
     name: &[u8],
     buffer: &mut [u8],
-    told: &mut Told,
+    told: &mut CallTold,
 ) -> i32
     ensures same { handle.new.held ≡ handle.old.held }
     ensures text { HandsOutOr (Shows (behind handle.old.held) name.now) (IsUnshown (behind handle.old.held) name.now)
@@ -230,7 +230,7 @@ fn closed_report(
     handle: &mut Handle,
     version: ReportVersion,
     buffer: &mut [u8],
-    told: &mut Told,
+    told: &mut CallTold,
 ) -> i32
     ensures same { handle.new.held ≡ handle.old.held }
     ensures text { HandsOutOr (Reports (behind handle.old.held) version) (IsUnreported (behind handle.old.held))
@@ -251,7 +251,7 @@ pub extern "C" fn ent_c_closed_report(
     handle: &mut Handle,
     version: u32,
     buffer: &mut [u8],
-    told: &mut Told,
+    told: &mut CallTold,
 ) -> i32
     ensures same { handle.new.held ≡ handle.old.held }
     ensures text { MatchOption (version_numbered version) (IsMisused buffer.old buffer.new told.new result)
@@ -261,7 +261,7 @@ pub extern "C" fn ent_c_closed_report(
     match version_numbered(version) {
         Some(version) => closed_report(alloc, handle, version, buffer, told),
         None => {
-            *told = Told::text(0);
+            *told = CallTold::text(0);
             MISUSED
         }
     }

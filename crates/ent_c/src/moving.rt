@@ -7,12 +7,12 @@ ghost use Rattle.ent_c.specs.Moving.{IsNoMove, MakesIn, move_numbered, number_of
 
 use crate::handle::Handle;
 use crate::manager::hand_out;
-use crate::told::Told;
+use crate::told::CallTold;
 use crate::{DONE, MISUSED};
 use ent_driver::{DriverFault, Move, Reply};
 use std::alloc::Global;
 
-/// The move of this number, and of this transaction where it is of one.
+/// The move with this number, of this transaction if a move needs one.
 fn move_numbered(number: u32, tx: u64) -> Option<Move>
     ensures { result ≡ move_numbered number tx }
 {
@@ -98,7 +98,7 @@ pub extern "C" fn ent_c_why(
     handle: &mut Handle,
     tx: u64,
     buffer: &mut [u8],
-    told: &mut Told,
+    told: &mut CallTold,
 ) -> i32
     ensures same { handle.new.held ≡ handle.old.held }
     ensures text { HandsOutOr (Explains (behind handle.old.held) tx) (IsUnexplained (behind handle.old.held) tx)

@@ -9,7 +9,7 @@ ghost use Rattle.ent_c.specs.Rooms.{step_number};
 use crate::room_handle::RoomHandle;
 use crate::room_told::{refuse, refuse_of, tell_of};
 use crate::rows_handle::RowsHandle;
-use crate::told::Told;
+use crate::told::CallTold;
 use crate::values_handle::ValuesHandle;
 use crate::{DONE, MISUSED};
 use ent_bound::BoundVariable;
@@ -92,7 +92,7 @@ pub extern "C" fn ent_c_room_open(
     next_group: u64,
     limits: &Limits,
     refusal: &mut u32,
-    told: &mut Told,
+    told: &mut CallTold,
 ) -> i32
     ensures room { OpensRoom input.now (given_in rows.old.held) epoch next next_group (limits_of limits.now)
         handle.old.held handle.new.held (IsKept refusal.old refusal.new told.old told.new) refusal.new told.new result }
@@ -106,7 +106,7 @@ pub extern "C" fn ent_c_room_open(
         Ok(room) => {
             handle.put(room);
             *refusal = 0;
-            *told = Told::text(0);
+            *told = CallTold::text(0);
             DONE
         }
         Err(fault) => refuse_of(fault, input, refusal, told),
@@ -121,7 +121,7 @@ fn put_in(
     stay: Stay,
     ticket: &mut u64,
     refusal: &mut u32,
-    told: &mut Told,
+    told: &mut CallTold,
 ) -> i32
     ensures { PutsIn script.now values.now stay room.old room.new ticket.old ticket.new refusal.new told.new result }
 {
@@ -129,7 +129,7 @@ fn put_in(
         Ok(given) => {
             *ticket = given.number();
             *refusal = 0;
-            *told = Told::text(0);
+            *told = CallTold::text(0);
             DONE
         }
         Err(fault) => refuse_of(RoomFault::from(fault), script, refusal, told),
@@ -145,7 +145,7 @@ fn put_bound(
     stay: Stay,
     ticket: &mut u64,
     refusal: &mut u32,
-    told: &mut Told,
+    told: &mut CallTold,
 ) -> i32
     ensures put { PutsIn script.now (bound_in values.old.held) stay room.old room.new ticket.old ticket.new refusal.new
         told.new result }
@@ -170,7 +170,7 @@ fn put_for(
     stay: Stay,
     ticket: &mut u64,
     refusal: &mut u32,
-    told: &mut Told,
+    told: &mut CallTold,
 ) -> i32
     ensures put { OfRoom handle.old.held handle.new.held result
         ((ticket.new ≡ ticket.old) × IsKept refusal.old refusal.new told.old told.new)
@@ -198,7 +198,7 @@ pub extern "C" fn ent_c_room_put(
     stay: i64,
     ticket: &mut u64,
     refusal: &mut u32,
-    told: &mut Told,
+    told: &mut CallTold,
 ) -> i32
     ensures put { OfStay stay
         (IsMisused handle.old.held handle.new.held result
@@ -224,14 +224,14 @@ fn restore_in(
     stay: Stay,
     batches: u64,
     refusal: &mut u32,
-    told: &mut Told,
+    told: &mut CallTold,
 ) -> i32
     ensures { PutsBackIn ticket script.now values.now stay batches room.old room.new refusal.new told.new result }
 {
     match room.restore(Ticket::new(ticket), script, values, stay, batches) {
         Ok(()) => {
             *refusal = 0;
-            *told = Told::text(0);
+            *told = CallTold::text(0);
             DONE
         }
         Err(fault) => refuse_of(RoomFault::from(fault), script, refusal, told),
@@ -248,7 +248,7 @@ fn restore_bound(
     stay: Stay,
     batches: u64,
     refusal: &mut u32,
-    told: &mut Told,
+    told: &mut CallTold,
 ) -> i32
     ensures put { PutsBackIn ticket script.now (bound_in values.old.held) stay batches room.old room.new refusal.new
         told.new result }
@@ -277,7 +277,7 @@ fn restore_for(
     stay: Stay,
     batches: u64,
     refusal: &mut u32,
-    told: &mut Told,
+    told: &mut CallTold,
 ) -> i32
     ensures put { OfRoom handle.old.held handle.new.held result (IsKept refusal.old refusal.new told.old told.new)
         (λ old new. PutsBackIn ticket script.now (bound_in values.old.held) stay batches old new refusal.new told.new
@@ -305,7 +305,7 @@ pub extern "C" fn ent_c_room_restore(
     stay: i64,
     batches: u64,
     refusal: &mut u32,
-    told: &mut Told,
+    told: &mut CallTold,
 ) -> i32
     ensures put { OfStay stay
         (IsMisused handle.old.held handle.new.held result (IsKept refusal.old refusal.new told.old told.new))
@@ -407,7 +407,7 @@ pub extern "C" fn ent_c_room_turn(
     handle: &mut RoomHandle,
     drained: &[u8],
     refusal: &mut u32,
-    told: &mut Told,
+    told: &mut CallTold,
 ) -> i32
     ensures { OfRoom handle.old.held handle.new.held result (IsKept refusal.old refusal.new told.old told.new)
         (λ old new. TurnsIn drained.now old new refusal.new told.new result) }

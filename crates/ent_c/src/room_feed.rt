@@ -9,7 +9,7 @@ ghost use Rattle.ent_c.specs.Rooms.{InRoom, OfRoom};
 
 use crate::room_handle::RoomHandle;
 use crate::room_told::hand_out_of_room;
-use crate::told::Told;
+use crate::told::CallTold;
 use crate::{DONE, MISUSED};
 use ent_room_calls::group_lines;
 use std::alloc::Global;
@@ -21,7 +21,7 @@ pub extern "C" fn ent_c_room_groups(
     handle: &mut RoomHandle,
     number: u64,
     buffer: &mut [u8],
-    told: &mut Told,
+    told: &mut CallTold,
 ) -> i32
     ensures { InRoom handle.old.held handle.new.held result ((buffer.new ≡ buffer.old) × (told.new ≡ told.old))
         (λ room. HandsRoom (λ text. text ≡ group_lines (from number room.admission.feed.groups))

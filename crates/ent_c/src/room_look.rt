@@ -64,7 +64,7 @@ pub extern "C" fn ent_c_room_waiting(
     tell_ticket(found, ticket)
 }
 
-/// The ticket that ended last but so many others, where that is kept.
+/// An ended ticket, counted back from the last one, which is number 0; None if it isn't kept.
 fn ended_back(room: &Room, back: u64) -> Option<Ticket>
     ensures { result ≡ option_map (λ one. one.ticket) (last_but back room.now.admission.list.ended) }
 {
@@ -74,7 +74,7 @@ fn ended_back(room: &Room, back: u64) -> Option<Ticket>
     }
 }
 
-/// Tells the ticket that ended last but so many others.
+/// Tells an ended ticket, counted back from the last one, which is number 0.
 #[unsafe(no_mangle)]
 pub extern "C" fn ent_c_room_ended(
     alloc: Global,

@@ -13,7 +13,7 @@ use crate::buffer::lay_over;
 use crate::explanation::script_explanation_of;
 use crate::room_handle::RoomHandle;
 use crate::room_told::hand_out_of_room;
-use crate::told::Told;
+use crate::told::CallTold;
 use crate::values_handle::ValuesHandle;
 use crate::{DONE, MISUSED};
 use ent_bound::BoundVariable;
@@ -136,7 +136,7 @@ fn hand_out_said_of_put(
     said: Result<Option<SaidOfPut>, RoomFault>,
     script: &[u8],
     buffer: &mut [u8],
-    told: &mut Told,
+    told: &mut CallTold,
 ) -> i32
     ensures said { IfOk said (λ said. MatchOption said (HandsNothing buffer.old buffer.new told.new result)
         (λ said. (buffer.new ≡ laid_over buffer.old said.text.items)
@@ -147,12 +147,12 @@ fn hand_out_said_of_put(
 {
     match said {
         Ok(None) => {
-            *told = Told::text(0);
+            *told = CallTold::text(0);
             DONE
         }
         Ok(Some(SaidOfPut { fault, text })) => {
             let fault = RoomFault::Faulty(fault);
-            *told = Told::room(script, fault, text.len());
+            *told = CallTold::room(script, fault, text.len());
             lay_over(text.as_slice(), buffer);
             fault.status() as i32
         }
@@ -168,7 +168,7 @@ pub extern "C" fn ent_c_room_explain(
     script: &[u8],
     values: &mut ValuesHandle,
     buffer: &mut [u8],
-    told: &mut Told,
+    told: &mut CallTold,
 ) -> i32
     ensures text { InRoom handle.old.held handle.new.held result ((buffer.new ≡ buffer.old) × (told.new ≡ told.old))
         (λ room. ExplainsPut room script.now (bound_in values.old.held) buffer.old buffer.new told.new result) }

@@ -20,7 +20,7 @@ ghost use Rattle.ent_c.specs.Version.{version_numbered};
 
 use crate::room_handle::RoomHandle;
 use crate::room_told::hand_out_of_room;
-use crate::told::Told;
+use crate::told::CallTold;
 use crate::version::version_numbered;
 use crate::{MISUSED, REFUSED};
 use ent_engine::ReportVersion;
@@ -36,7 +36,7 @@ pub extern "C" fn ent_c_room_table(
     handle: &mut RoomHandle,
     name: &[u8],
     buffer: &mut [u8],
-    told: &mut Told,
+    told: &mut CallTold,
 ) -> i32
     ensures { InRoom handle.old.held handle.new.held result ((buffer.new ≡ buffer.old) × (told.new ≡ told.old))
         (λ room. HandsRoom (λ text. lines_under room.admission.epoch.core name.now ≡ Some text)
@@ -85,7 +85,7 @@ fn hand_out_report(
     reported: Result<Option<Reported>, RoomFault>,
     buffer: &mut [u8],
     epoch: &mut u64,
-    told: &mut Told,
+    told: &mut CallTold,
 ) -> i32
     ensures handed { IfOk reported (λ reported. IfSome reported (λ reported. (epoch.new ≡ reported.epoch)
         × HandsOut reported.text.items buffer.old buffer.new told.new × (result ≡ pos 0))) }
@@ -107,7 +107,7 @@ fn hand_out_report(
             hand_out_of_room(Ok(text), &[], buffer, told)
         }
         Ok(None) => {
-            *told = Told::text(0);
+            *told = CallTold::text(0);
             REFUSED
         }
         Err(fault) => hand_out_of_room(Err(fault), &[], buffer, told),
@@ -121,7 +121,7 @@ fn report_of_room(
     version: ReportVersion,
     buffer: &mut [u8],
     epoch: &mut u64,
-    told: &mut Told,
+    told: &mut CallTold,
 ) -> i32
     ensures { InRoom handle.old.held handle.new.held result
         ((buffer.new ≡ buffer.old) × (epoch.new ≡ epoch.old) × (told.new ≡ told.old))
@@ -143,7 +143,7 @@ pub extern "C" fn ent_c_room_report(
     version: u32,
     buffer: &mut [u8],
     epoch: &mut u64,
-    told: &mut Told,
+    told: &mut CallTold,
 ) -> i32
     ensures { MatchOption (version_numbered version)
         (IsMisused handle.old.held handle.new.held result
@@ -165,7 +165,7 @@ pub extern "C" fn ent_c_room_why(
     handle: &mut RoomHandle,
     ticket: u64,
     buffer: &mut [u8],
-    told: &mut Told,
+    told: &mut CallTold,
 ) -> i32
     ensures { InRoom handle.old.held handle.new.held result ((buffer.new ≡ buffer.old) × (told.new ≡ told.old))
         (λ room. HandsRoom (λ text. (seen : StateSeen) × StandsAs room.admission ticket seen

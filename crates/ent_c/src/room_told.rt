@@ -7,22 +7,22 @@ ghost use Rattle.ent_room_calls.specs.Fault.{status as fault_status};
 
 use crate::DONE;
 use crate::buffer::lay_over;
-use crate::told::Told;
+use crate::told::CallTold;
 use ent_room_calls::RoomFault;
 
-impl Told {
+impl CallTold {
     /// What is told of a call that a room refuses, of bytes that were handed in: where the fault stands there, or
     /// which variable or which row it is of; beside a text of so many bytes.
     pub(crate) fn room(given: &[u8], fault: RoomFault, needed: usize) -> Self
         ensures { TellsBeside fault given.now needed result }
     {
         match fault.item() {
-            Some(item) => Told {
+            Some(item) => CallTold {
                 offset: item,
                 code: fault.code(),
-                ..Told::text(needed)
+                ..CallTold::text(needed)
             },
-            None => Told::coded(given, fault.code(), fault.place(), needed),
+            None => CallTold::coded(given, fault.code(), fault.place(), needed),
         }
     }
 }
@@ -36,11 +36,16 @@ pub(crate) fn refuse(fault: RoomFault, refusal: &mut u32) -> i32
 }
 
 /// The same, and where the fault stands in bytes that were handed in.
-pub(crate) fn refuse_of(fault: RoomFault, given: &[u8], refusal: &mut u32, told: &mut Told) -> i32
+pub(crate) fn refuse_of(
+    fault: RoomFault,
+    given: &[u8],
+    refusal: &mut u32,
+    told: &mut CallTold,
+) -> i32
     ensures number { TellsNumber fault refusal.new result }
     ensures told { TellsRoom fault given.now told.new }
 {
-    *told = Told::room(given, fault, 0);
+    *told = CallTold::room(given, fault, 0);
     refuse(fault, refusal)
 }
 
@@ -63,7 +68,7 @@ pub(crate) fn tell_of(
     done: Result<(), RoomFault>,
     given: &[u8],
     refusal: &mut u32,
-    told: &mut Told,
+    told: &mut CallTold,
 ) -> i32
     ensures ok { OnOk done (TellsDone refusal.new result) }
     ensures no_fault { OnOk done (told.new ≡ told_of_text 0) }
@@ -73,7 +78,7 @@ pub(crate) fn tell_of(
     match done {
         Ok(()) => {
             *refusal = 0;
-            *told = Told::text(0);
+            *told = CallTold::text(0);
             DONE
         }
         Err(fault) => refuse_of(fault, given, refusal, told),
@@ -85,7 +90,7 @@ pub(crate) fn hand_out_of_room(
     text: Result<Vec<u8>, RoomFault>,
     given: &[u8],
     buffer: &mut [u8],
-    told: &mut Told,
+    told: &mut CallTold,
 ) -> i32
     ensures handed { IfOk text (λ text. HandsOut text.items buffer.old buffer.new told.new × (result ≡ pos 0)) }
     ensures refused { IfErr text (λ fault. (buffer.new ≡ buffer.old) × TellsRoom fault given.now told.new
@@ -93,12 +98,12 @@ pub(crate) fn hand_out_of_room(
 {
     match text {
         Ok(text) => {
-            *told = Told::text(text.len());
+            *told = CallTold::text(text.len());
             lay_over(text.as_slice(), buffer);
             DONE
         }
         Err(fault) => {
-            *told = Told::room(given, fault, 0);
+            *told = CallTold::room(given, fault, 0);
             fault.status() as i32
         }
     }

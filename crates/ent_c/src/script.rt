@@ -15,7 +15,7 @@ use crate::DONE;
 use crate::buffer::lay_over;
 use crate::explanation::script_explanation_of;
 use crate::handle::Handle;
-use crate::told::Told;
+use crate::told::CallTold;
 use ent_driver::{Driver, DriverFault, examine};
 use ent_engine::{RunFault, status_of};
 use ent_tree::Opening;
@@ -67,7 +67,7 @@ fn hand_out_said(
     said: Result<Option<Said>, DriverFault>,
     script: &[u8],
     buffer: &mut [u8],
-    told: &mut Told,
+    told: &mut CallTold,
 ) -> i32
     ensures said { IfOk said (λ said. MatchOption said (HandsNothing buffer.old buffer.new told.new result)
         (λ said. HandsSaid said.fault (string_bytes said.text) script.now buffer.old buffer.new told.new result)) }
@@ -75,16 +75,16 @@ fn hand_out_said(
 {
     match said {
         Ok(None) => {
-            *told = Told::text(0);
+            *told = CallTold::text(0);
             DONE
         }
         Ok(Some(Said { fault, text })) => {
-            *told = Told::fault(script, fault, text.len());
+            *told = CallTold::fault(script, fault, text.len());
             lay_over(text.as_bytes(), buffer);
             status_of(&fault) as i32
         }
         Err(fault) => {
-            *told = Told::refusal(script, fault);
+            *told = CallTold::refusal(script, fault);
             fault.status() as i32
         }
     }
@@ -97,7 +97,7 @@ pub extern "C" fn ent_c_explain_script(
     handle: &mut Handle,
     script: &[u8],
     buffer: &mut [u8],
-    told: &mut Told,
+    told: &mut CallTold,
 ) -> i32
     ensures same { handle.new.held ≡ handle.old.held }
     ensures text { ExplainsScript script.now (behind handle.old.held) buffer.old buffer.new told.new result }

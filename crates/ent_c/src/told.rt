@@ -10,7 +10,7 @@ use ent_fault_text::valid_text;
 /// What a call tells beside its status. C calls it `struct entangle_told`.
 #[repr(C)]
 #[derive(Clone, Copy, Debug)]
-pub struct Told {
+pub struct CallTold {
     /// How many bytes the text has, also where the buffer holds fewer; 0 where there is none.
     pub needed: usize,
     /// Where the fault stands, in bytes from the input's start; 0 where it has no place.
@@ -25,12 +25,12 @@ pub struct Told {
     pub has_place: bool,
 }
 
-impl Told {
+impl CallTold {
     /// What is told beside a text of so many bytes, where there is no fault.
     pub(crate) fn text(needed: usize) -> Self
         ensures { result ≡ told_of_text needed }
     {
-        Told {
+        CallTold {
             needed,
             offset: 0,
             line: 0,
@@ -44,29 +44,29 @@ impl Told {
     pub(crate) fn fault(input: &[u8], fault: RunFault, needed: usize) -> Self
         ensures { TellsFault fault input.now needed result }
     {
-        Told::coded(input, fault.code(), fault.place(), needed)
+        CallTold::coded(input, fault.code(), fault.place(), needed)
     }
 
     /// What is told of a call that a driver refuses, of bytes that were handed in.
     pub(crate) fn refusal(given: &[u8], fault: DriverFault) -> Self
         ensures { TellsRefusal fault given.now result }
     {
-        Told::coded(given, fault.code(), fault.place(), 0)
+        CallTold::coded(given, fault.code(), fault.place(), 0)
     }
 
     /// What is told of a fault of this number that stands there, beside a text of so many bytes.
     pub(crate) fn coded(given: &[u8], code: u16, place: Option<usize>, needed: usize) -> Self
         ensures { TellsCode code place given.now needed result }
     {
-        let nowhere = Told {
+        let nowhere = CallTold {
             code,
-            ..Told::text(needed)
+            ..CallTold::text(needed)
         };
         let Some(offset) = place else {
             return nowhere;
         };
         let found = Place::of(valid_text(given), offset);
-        Told {
+        CallTold {
             offset,
             line: found.line,
             column: found.column,

@@ -33,9 +33,9 @@ use Rattle.ent_form.specs.Kinds.{Bound, none_bound}
 use Rattle.ent_form.specs.declared.catalogue.TableSchema.{TableSchema}
 use Rattle.ent_form.specs.declared.fault.FormFault.{FormFault}
 use Rattle.ent_form.specs.declared.script.Plain.{Plain}
+use Rattle.ent_form.proofs.Heads.{found_of}
 use Rattle.ent_form_laws.specs.Kinds.{AreDeclared, HasKinds, column_kinds}
 use Rattle.ent_form_laws.specs.Tables.{database_of, HaveDistinctColumns}
-use Rattle.ent_form_laws.proofs.Steps.{bound_given}
 use Rattle.ent_history.specs.Placed.{Placed, member_at, told_operations}
 use Rattle.ent_history.specs.Replay.{operations_findings, found_after, is_answered, later, ungrounded}
 use Rattle.ent_history.specs.Verdict.{first_of}
@@ -46,7 +46,7 @@ use Rattle.ent_check.specs.Closed.{HasSeat, IsSeated, Leaves, closed_findings, c
 use Rattle.ent_check.specs.Sorts.{CanRun}
 use Rattle.ent_check.specs.Laws.{Laws}
 use Rattle.ent_check.specs.Offers.{offer_of}
-use Rattle.ent_check.specs.declared.offer.Offer.{Offer}
+use Rattle.ent_check.specs.declared.offer.StatementOffer.{StatementOffer}
 use Rattle.ent_check.specs.Alike.{IsAlike, answer_unless, operation_of, tree_findings, tree_meaning, tree_offers}
 use Rattle.ent_check.proofs.Numbers.{first_none, first_some}
 use Rattle.ent_check.proofs.Step.{one_answer, statement_alike}
@@ -85,10 +85,11 @@ module _ (creates : List Create) (members : List Placed) (tx : ℕ) where
   run_left operations database environment =
       option_map (λ (of : Run). of.database) (run creates operations database environment)
 
-  module _ (operations : List Operation) (answers : List Answer) (database : Database) (offers : List Offer) where
+  module _ (operations : List Operation) (answers : List Answer) (database : Database)
+      (offers : List StatementOffer) where
     -- from here on it is found, left and offered what is from the first statement on
     pub record Along (place : ℕ) (rest : List Operation) (others : List Answer) (now : Database)
-        (environment : Environment) (made : List Offer) : Type 0 where
+        (environment : Environment) (made : List StatementOffer) : Type 0 where
       pub found : first_of (operations_findings creates members tx 1 operations answers database nothing_bound)
           ≡ first_of (operations_findings creates members tx place rest others now environment)
       pub left : run_left operations database nothing_bound ≡ run_left rest now environment
@@ -96,7 +97,7 @@ module _ (creates : List Create) (members : List Placed) (tx : ℕ) where
           ≡ made ++ map offer_of (read_views creates tx place rest now environment)
 
     pub along_on : (place : ℕ) (tree : TreeStatement) (rest : List Operation) (others : List Answer)
-        (now behind : Database) (environment environment' : Environment) (made : List Offer)
+        (now behind : Database) (environment environment' : Environment) (made : List StatementOffer)
         → first_of (tree_findings creates members tx place tree others now environment) ≡ None
         → Leaves (tree_meaning creates members tx place tree now environment) behind environment'
         → Along place (operation_of creates members tx place tree ∷ rest) others now environment made
@@ -117,7 +118,7 @@ module _ (creates : List Create) (members : List Placed) (tx : ℕ) where
               ∙ ap first_of (found_there behind environment' meaning found_later leaves);
           left = along.left ∙ left_there behind environment' meaning (run creates rest) leaves;
           offered = along.offered
-              ∙ ap (λ (xs : List Offer). made ++ xs)
+              ∙ ap (λ (xs : List StatementOffer). made ++ xs)
               (map-append offer_of read_view (seen_after meaning seen_later)
               ∙ ap (λ (xs : List ReadView). map offer_of read_view ++ map offer_of xs)
               (seen_there behind environment' meaning seen_later leaves))
@@ -125,7 +126,7 @@ module _ (creates : List Create) (members : List Placed) (tx : ℕ) where
         }
 
     pub along_off : (place : ℕ) (tree : TreeStatement) (rest : List Operation) (others : List Answer) (now : Database)
-        (environment : Environment) (made : List Offer) (finding : Finding)
+        (environment : Environment) (made : List StatementOffer) (finding : Finding)
         → first_of (tree_findings creates members tx place tree others now environment) ≡ Some finding
         → Along place (operation_of creates members tx place tree ∷ rest) others now environment made
         → first_of (operations_findings creates members tx 1 operations answers database nothing_bound) ≡ Some finding
@@ -154,7 +155,7 @@ made_so : (schemas : List TableSchema) (more : List TreeStatement) (bound : Boun
 made_so schemas [] bound made out e =
     ([], sym (one_answer {E = FormFault} made out e) ∙ sym (append-nil made), tt)
 made_so schemas (tree ∷ more) bound made out e =
-    let w = bound_given (statement_in schemas bound tree) _ out e in
+    let w = found_of (statement_in schemas bound tree) _ out e in
     let behind = made_so schemas more w.0.1 (made ++ w.0.0 ∷ []) out w.2 in (
       w.0.0 ∷ behind.0,
       behind.1 ∙ append_assoc made (w.0.0 ∷ []) behind.0,
@@ -164,7 +165,7 @@ made_so schemas (tree ∷ more) bound made out e =
 pub resolved_so : (schemas : List TableSchema) (script : Script) (plain : Plain)
     → script_in schemas script ≡ Ok plain → Resolves schemas none_bound script.statements plain.statements
 resolved_so schemas script plain e =
-    let w = bound_given (statements_from schemas none_bound [] script.statements) _ plain e in
+    let w = found_of (statements_from schemas none_bound [] script.statements) _ plain e in
     let made = made_so schemas script.statements none_bound [] w.0 w.1 in
     let same : made.0 ≡ plain.statements =
     sym made.1 ∙ ap (λ (p : Plain). p.statements) (one_answer {E = FormFault} _ plain w.2) in
@@ -195,7 +196,7 @@ asks_entangled : (schemas : List TableSchema) (environment : Environment) (seat 
     → CanRun kinds (closed environment form) × HasSeat seat (closed environment form)
 unfolding statement_in
 asks_entangled schemas environment seat kinds (trees.Entangled tree) bound behind form is entangled seated =
-    let w = bound_given (entangled_in schemas bound tree) _ (form, behind) is in
+    let w = found_of (entangled_in schemas bound tree) _ (form, behind) is in
     let P : Statement Known × Bound → Type 0 =
     λ p. CanRun kinds (closed environment p.0) × HasSeat seat (closed environment p.0) in
     subst P (one_answer {E = FormFault} (forms.Entangled w.0.0, w.0.1) (form, behind) w.2) (tt, seated)
@@ -216,12 +217,13 @@ one_database x y is = ap (λ (o : Option Database). unwrap_or o x) is
 -- ---- a transaction from a statement on
 
 module _ (creates : List Create) (members : List Placed) (tx : ℕ) (statements : List TreeStatement)
-    (answers : List Answer) (database : Database) (offers : List Offer) where
+    (answers : List Answer) (database : Database) (offers : List StatementOffer) where
   abbrev pub schemas : List TableSchema
   schemas = schemas_of creates
 
   pub record Midway (place : ℕ) (rest : List TreeStatement) (made_forms : List (Statement Known))
-      (others : List Answer) (tables : List Relation) (environment : Environment) (made : List Offer) : Type 0 where
+      (others : List Answer) (tables : List Relation) (environment : Environment) (made : List StatementOffer)
+      : Type 0 where
     pub bound : Bound
     pub resolved : Resolves schemas bound rest made_forms
     pub kinds : HasKinds bound environment
@@ -232,7 +234,7 @@ module _ (creates : List Create) (members : List Placed) (tx : ℕ) (statements 
 
   module _ (laws : Laws) (distinct : HaveDistinctColumns creates) (place : ℕ) (form : Statement Known)
       (more_forms : List (Statement Known)) (others : List Answer) (tables : List Relation)
-      (environment : Environment) (made : List Offer) where
+      (environment : Environment) (made : List StatementOffer) where
     abbrev statement : Statement Value
     statement = closed environment form
 
@@ -257,7 +259,7 @@ module _ (creates : List Create) (members : List Placed) (tx : ℕ) (statements 
 
     -- nothing is found of this statement
     pub midway_on : (rest : List TreeStatement) (behind : List Relation) (environment' : Environment)
-        (more_made : List Offer) → found_here ≡ None → Leaves its_meaning (rows_in behind) environment'
+        (more_made : List StatementOffer) → found_here ≡ None → Leaves its_meaning (rows_in behind) environment'
         → more_made ≡ made ++ closed_offers tx place seat statement → kinds_in behind ≡ kinds_in tables → Here rest
         → Midway (suc place) (drop 1 rest) more_forms (later others) behind environment' more_made
     midway_on [] behind environment' more_made none leaves offered kept m = absurd m.resolved
@@ -276,7 +278,7 @@ module _ (creates : List Create) (members : List Placed) (tx : ℕ) (statements 
           along = subst (Along creates members tx (told_operations members tx 1 statements) answers database offers
               (suc place) (told_operations members tx (suc place) more) (later others)
               (database_of creates (rows_in behind)) environment')
-              (sym (offered ∙ ap (λ (xs : List Offer). made ++ xs) (alike.offers none)))
+              (sym (offered ∙ ap (λ (xs : List StatementOffer). made ++ xs) (alike.offers none)))
               (along_on creates members tx (told_operations members tx 1 statements) answers database offers place tree
               (told_operations members tx (suc place) more) others now (database_of creates (rows_in behind))
               environment
@@ -362,7 +364,8 @@ module _ (creates : List Create) (members : List Placed) (tx : ℕ) (statements 
   }
 
   module _ (place : ℕ) (rest : List TreeStatement) (others : List Answer) (tables : List Relation)
-      (environment : Environment) (made : List Offer) (m : Midway place rest [] others tables environment made) where
+      (environment : Environment) (made : List StatementOffer)
+      (m : Midway place rest [] others tables environment made) where
     abbrev Ended : List TreeStatement → Type 0
     Ended left =
         Along creates members tx (told_operations members tx 1 statements) answers database offers place

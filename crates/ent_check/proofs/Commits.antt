@@ -17,8 +17,8 @@ use Rattle.ent_history.specs.Account.{in_commit_order, is_number, numbers_from}
 use Rattle.ent_history.specs.Journal.{journal_findings}
 use Rattle.ent_history.specs.Verdict.{first_of}
 use Rattle.ent_history.specs.declared.finding.Finding.{Finding}
-use Rattle.ent_history.proofs.Commits.{NotSame, numbered_if_none}
-use Rattle.ent_lists.specs.Elements.{Pairs, filter_empty, not_so, pairs_across, same_number, all_joined}
+use Rattle.ent_history.proofs.Commits.{NotSame, numbered_if_none, committed_is}
+use Rattle.ent_lists.specs.Elements.{Pairs, filter_empty, not_so, pairs_across, all_joined}
 use Rattle.ent_check.specs.Order.{AreBelow, AreNumbered, accounts_at}
 use Rattle.ent_check.proofs.Accounts.{account_of, accounts_behind, behind_some, nothing_behind}
 
@@ -70,10 +70,6 @@ dropped_is scripts told i =
 
 -- ---- one more is entered
 
-pub number_is : (n : ℕ) (number : Option ℕ) → is_number n number ≡ true → number ≡ Some n
-number_is n None is = cc (is)
-number_is n (Some m) is = ap (λ k. Some k) (same_number m n is)
-
 pub apart_if_none : (all : List Account) → first_of (journal_findings all) ≡ None → Pairs NotSame all
 apart_if_none all is = (numbered_if_none all (nothing (journal_findings all) is)).apart
   where
@@ -102,7 +98,7 @@ module _ (all : List Account) (i : ℕ) (a : Account) (rest : List Account) (her
       filter_empty (committed_as number) (take i all) (λ x at.
       not_so (committed_as number x) (λ its.
       pairs_across NotSame (take i all) (a ∷ rest) x a parted at (inl refl) number
-      (number_is number (commit_number x.fate) its) (number_is number (commit_number a.fate) own)))
+      (committed_is number (commit_number x.fate) its) (committed_is number (commit_number a.fate) own)))
 
   pub entered_more : (indices more : IndexMap) → Enters i (commit_number a.fate) indices more
       → EnteredBefore all i indices → EnteredBefore all (suc i) more

@@ -1,8 +1,10 @@
 -- What is found of a closed statement.
 use Rattle.std.proofs.Common.{◌≡◌, ℕ, Bool, true, false, List, [], ◌∷◌, ◌++◌, refl, sym, ap, ◌∙◌, subst, Option, Some}
 use Rattle.std.proofs.Common.{None, Result, Ok, Err, IfOk, length, ◌<◌}
+use Rattle.std.proofs.lemmas.Option.{same_Some}
 use Rattle.std.specs.List.{AllByRecursion, flat_map}
 use Rattle.std.specs.Option.{option_map}
+use Rattle.ent_lists.proofs.Lists.{all_parts}
 use Rattle.ent_value.specs.declared.value.Value.{Value}
 use Rattle.ent_semantics.specs.declared.answer.Answer.{Answer}
 use Rattle.ent_semantics.specs.Database.{Environment}
@@ -24,11 +26,6 @@ use Rattle.ent_select.specs.Worth.{itself}
 use Rattle.ent_check.specs.Closed.{answer_in, closed_findings, is_told}
 
 -- ---- the tables of an entangled statement
-
-all_parts : {X : Type 0} (P : X → Type 0) (xs ys : List X) → AllByRecursion P (xs ++ ys)
-    → AllByRecursion P xs × AllByRecursion P ys
-all_parts P [] ys all = (tt, all)
-all_parts P (x ∷ xs) ys all = let parts = all_parts P xs ys all.1 in ((all.0, parts.0), parts.1)
 
 all_inside : {X Y : Type 0} (P : Y → Type 0) (f : X → List Y) (xs : List X) → AllByRecursion P (flat_map f xs)
     → AllByRecursion (λ x. AllByRecursion P (f x)) xs
@@ -58,9 +55,6 @@ if_ok_same (Err failure) x y same is = tt
 abbrev Told : Type 0
 Told = ℕ × ℕ × Valuation
 
-one_told : (x y : Told) → Some x ≡ Some y → x ≡ y
-one_told x y is = cc
-
 told_or_nothing : (x : Told) → Some x ≡ None → ⊥
 told_or_nothing x is = cc
 
@@ -70,13 +64,13 @@ module _ (joint number : ℕ) (grounding : Valuation) where
 
   pub grounding_is : (seat : Option Placed) → Some here ≡ option_map {U = Told} told_seat seat
       → grounding_of seat ≡ grounding
-  grounding_is (Some one) at = sym (ap (λ (told : Told). told.2) (one_told here (told_seat one) at))
+  grounding_is (Some one) at = sym (ap (λ (told : Told). told.2) (same_Some here (told_seat one) at))
   grounding_is None at = absurd (told_or_nothing here at)
 
   pub ground_is : (seat : Option Placed) → Some here ≡ option_map {U = Told} told_seat seat → (b : Bool)
       → ground_finding seat b ≡ unless b rules.Ground (things.Member joint number)
   ground_is (Some one) at b =
-      let same = one_told here (told_seat one) at in
+      let same = same_Some here (told_seat one) at in
       λ i. unless b rules.Ground (things.Member (sym same i).0 (sym same i).1)
   ground_is None at b = absurd (told_or_nothing here at)
 

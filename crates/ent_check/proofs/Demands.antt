@@ -22,6 +22,7 @@ use Rattle.ent_history.specs.declared.finding.Thing.TheVariants as thing
 use Rattle.ent_history.proofs.Found.{unless_holds}
 use Rattle.ent_history.proofs.Joints.{stands_there}
 use Rattle.ent_lists.specs.Elements.{and_both, any_some, clash, not_so, number_itself, other_number, turned}
+use Rattle.ent_lists.proofs.Numbers.{eq_above}
 use Rattle.ent_history.proofs.RuleLists.{every, none_first, none_second}
 use Rattle.ent_check.proofs.Found.{first_behind, first_here}
 use Rattle.ent_check.specs.Offers.{joint_of}
@@ -29,14 +30,12 @@ use Rattle.ent_check.specs.Seats.{AreSeatsOf, place_cmp, seat_of}
 use Rattle.ent_check.proofs.Joints.{all_low, members_in, members_joined, placed_high}
 use Rattle.ent_check.proofs.Lists.{here, none_behind}
 use Rattle.ent_check.proofs.Taken.{SeatMap, answers_told, members_told}
+use Rattle.ent_check.proofs.Seated.{nothing_found}
 
 -- ---- the joint answer of a seat
 
 is_other : (a b : ℕ) → a < b → (a == b) ≡ false
 is_other a b less = other_number a b (λ same. omega (arith, less, same))
-
-is_another : (a b : ℕ) → b < a → (a == b) ≡ false
-is_another a b less = other_number a b (λ same. omega (arith, less, same))
 
 module _ (tx place n : ℕ) (positive : 0 < n) where
   abbrev joint_in : List Placed → ℕ
@@ -50,7 +49,7 @@ module _ (tx place n : ℕ) (positive : 0 < n) where
     where
       by : (b : Bool) → suc n ≤ x.joint → (joint_in xs == n) ≡ false
           → (joint_of (option_map seat_of (cond b (Some x) (member_at xs tx place))) == n) ≡ false
-      by true least rest = is_another x.joint n (omega (arith, least))
+      by true least rest = eq_above x.joint n (omega (arith, least))
       by false least rest = rest
 
   own_here : (number : ℕ) (members : List Member) (later : List Placed)
@@ -97,10 +96,6 @@ pub record MetBehind (all : List Account) (run : List ReadView) (joints : List T
   pub found : first_of (post_findings run 1 (answers_told joints))
       ≡ first_of (post_findings run (i + 1) (answers_told (drop i joints)))
 
-nothing : (findings : List Finding) → first_of findings ≡ None → findings ≡ []
-nothing [] is = refl
-nothing (x ∷ xs) is = cc (is)
-
 abbrev pub NothingFound : List Account → List ToldJoint → Type 0
 NothingFound all joints =
     first_of (members_findings all 1 [] (answers_told joints)
@@ -115,7 +110,7 @@ module _ (all : List Account) (run : List ReadView) (joints : List ToldJoint) wh
         above = tt;
         right = none_first (members_findings all 1 [] (answers_told joints))
             (left_out_findings (all_members (answers_told joints)) all)
-            (nothing (members_findings all 1 [] (answers_told joints)
+            (nothing_found (members_findings all 1 [] (answers_told joints)
             ++ left_out_findings (all_members (answers_told joints)) all) none);
         found = refl;
       }

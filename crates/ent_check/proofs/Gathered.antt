@@ -6,9 +6,9 @@ use Rattle.std.specs.Cmp.{unsigned_tied}
 use Rattle.std.specs.List.{filter}
 use Rattle.std.specs.Ordering.{is_eq, nat_cmp}
 use Rattle.ent_check.specs.Offers.{AreJoined, offers_of, offers_there}
-use Rattle.ent_check.specs.declared.offer.Offer.{Offer}
+use Rattle.ent_check.specs.declared.offer.StatementOffer.{StatementOffer}
 
-filter_more : (b : Offer → Bool) (offers : List Offer) (offer : Offer)
+filter_more : (b : StatementOffer → Bool) (offers : List StatementOffer) (offer : StatementOffer)
     → filter b (offers ++ offer ∷ []) ≡ filter b offers ++ cond (b offer) (offer ∷ []) []
 filter_more b [] offer = by (b offer)
   where
@@ -22,8 +22,8 @@ filter_more b (x ∷ xs) offer = by (b x) (filter_more b xs offer)
     by true rest = ap (λ ys. x ∷ ys) rest
     by false rest = rest
 
-module _ (own : Offer → ℕ) (offers : List Offer) (offer : Offer) (joint : ℕ) (is : own offer ≡ joint)
-    (old left new : BTreeMap ℕ (List Offer)) (are : AreJoined own offers old) where
+module _ (own : StatementOffer → ℕ) (offers : List StatementOffer) (offer : StatementOffer) (joint : ℕ)
+    (is : own offer ≡ joint) (old left new : BTreeMap ℕ (List StatementOffer)) (are : AreJoined own offers old) where
   -- under the number of the joint answer stands one more, and under others what stood there
   there : (q : ℕ) (t : Bool) → (t ≡ true → joint ≡ q)
       → offers_there (cond t (Some (offers_there (get nat_cmp old joint) ++ offer ∷ []))
@@ -44,4 +44,4 @@ module _ (own : Offer → ℕ) (offers : List Offer) (offer : Offer) (joint : �
       (cond t None (get nat_cmp old q)))) (unsigned_tied joint q)
       ∙ there q (joint == q) (λ so. grind (arith, so))
       ∙ ap (λ n. offers_of own q offers ++ cond (n == q) (offer ∷ []) []) (sym is)
-      ∙ sym (filter_more (λ (other : Offer). own other == q) offers offer)
+      ∙ sym (filter_more (λ (other : StatementOffer). own other == q) offers offer)

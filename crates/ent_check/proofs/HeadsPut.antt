@@ -15,7 +15,7 @@ use Rattle.ent_semantics.specs.Database.{same_name}
 use Rattle.ent_semantics.specs.declared.answer.Fact.{Fact}
 use Rattle.ent_history.specs.Alike.{same_fact, same_row}
 use Rattle.ent_check.specs.Heads.{Head, Heads, has}
-use Rattle.ent_check.specs.declared.offer.Offer.{Offer}
+use Rattle.ent_check.specs.declared.offer.StatementOffer.{StatementOffer}
 use Rattle.ent_check.proofs.Lists.{all_same, any_same}
 use Rattle.ent_check.proofs.Posts.{is_met_among}
 
@@ -67,10 +67,11 @@ one_more old new fact updates post =
     same = (eq_by_cmp_equiv heads_total).symm (as_head fact) (as_head post) ∙ tied post (as_head fact)
 
 -- posts among the heads of offers are met by them
-pub met_by_heads : (heads : Heads) (offers : List Offer) → ((post : Fact) → has heads post ≡ is_met_among offers post)
-    → list_all (λ (offer : Offer). list_all (has heads) offer.posts) offers
-    ≡ list_all (λ (offer : Offer). list_all (is_met_among offers) offer.posts) offers
+pub met_by_heads : (heads : Heads) (offers : List StatementOffer)
+    → ((post : Fact) → has heads post ≡ is_met_among offers post)
+    → list_all (λ (offer : StatementOffer). list_all (has heads) offer.posts) offers
+    ≡ list_all (λ (offer : StatementOffer). list_all (is_met_among offers) offer.posts) offers
 met_by_heads heads offers are =
-    all_same (λ (offer : Offer). list_all (has heads) offer.posts)
-    (λ (offer : Offer). list_all (is_met_among offers) offer.posts) offers
+    all_same (λ (offer : StatementOffer). list_all (has heads) offer.posts)
+    (λ (offer : StatementOffer). list_all (is_met_among offers) offer.posts) offers
     (λ offer. all_same (has heads) (is_met_among offers) offer.posts are)

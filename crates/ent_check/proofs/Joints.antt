@@ -1,7 +1,8 @@
 -- The rule of joint answers, on the way through them.
 use Rattle.std.proofs.Common.{◌≡◌, ℕ, suc, ◌+◌, ◌<◌, ◌≤◌, Bool, true, false, not, ◌||◌, ◌&&◌, cond, List, [], ◌∷◌}
-use Rattle.std.proofs.Common.{◌++◌, length, map, drop, refl, sym, ap, subst, ◌∙◌, arith, rules, Option, Some, None}
-use Rattle.std.proofs.Common.{append_assoc, slice_index_or, nat_lt}
+use Rattle.std.proofs.Common.{◌++◌, length, map, drop, refl, sym, ap, subst, ◌∙◌, arith, Option, Some, None}
+use Rattle.std.proofs.Common.{append_assoc, slice_index_or}
+use Rattle.std.proofs.lemmas.Bool.{lt-ltb, le-ltb}
 use Rattle.std.specs.BTreeMap.{get}
 use Rattle.std.specs.List.{AllByRecursion, list_all, list_any}
 use Rattle.std.specs.Option.{option_map}
@@ -74,12 +75,6 @@ all_low i before members low =
     (λ one less. omega (arith, less)) low)
     (members_low (suc i + 1) (i + 1) 1 members (omega arith))
 
-is_less : (a b : ℕ) → a < b → nat_lt a b ≡ true
-is_less a b less = grind (arith, rules)
-
-not_less : (a b : ℕ) → b ≤ a → nat_lt a b ≡ false
-not_less a b least = grind (arith, rules)
-
 -- ---- seats further up
 
 module _ (tx place n : ℕ) where
@@ -93,7 +88,7 @@ module _ (tx place n : ℕ) where
     where
       by : (b : Bool) → n ≤ x.joint → is_above n (seat_in xs) ≡ false
           → is_above n (option_map seat_of (cond b (Some x) (member_at xs tx place))) ≡ false
-      by true least rest = not_less x.joint n least
+      by true least rest = le-ltb x.joint n least
       by false least rest = rest
 
   -- a seat is further up where a member that stands there is
@@ -107,7 +102,7 @@ module _ (tx place n : ℕ) where
           → is_above n (seat_in (xs ++ later)) ≡ stands_among tx place (members_in xs)
           → is_above n (option_map seat_of (cond b (Some x) (member_at (xs ++ later) tx place)))
           ≡ (b || stands_among tx place (members_in xs))
-      by true less rest = is_less x.joint n less
+      by true less rest = lt-ltb x.joint n less
       by false less rest = rest
 
 -- ---- joint answers from an index on

@@ -11,7 +11,6 @@ pub mod Numbers
 pub mod Posts
 pub mod Seats
 pub mod Shown
-pub mod Sums
 pub mod Taken
 pub mod Found
 pub mod Places

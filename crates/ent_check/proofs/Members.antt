@@ -3,15 +3,13 @@ use Rattle.std.proofs.Common.{◌≡◌, ℕ, zero, suc, ◌+◌, ◌<◌, ◌�
 use Rattle.std.proofs.Common.{length, refl, sym, ap, subst, ◌∙◌, arith, is_some, slice_index_or, min}
 use Rattle.std.specs.List.{list_any}
 use Rattle.ent_lists.specs.Elements.{number_itself}
+use Rattle.ent_lists.proofs.Numbers.{eq_above}
 use Rattle.ent_tree.specs.declared.script.Script.{Script}
 use Rattle.ent_semantics.specs.declared.book.Member.{Member}
 use Rattle.ent_semantics.specs.Serial.{numbered}
 use Rattle.ent_history.specs.declared.history.Told.{Told}
 use Rattle.ent_history.specs.Account.{accounts_from, commit_number}
 use Rattle.ent_history.specs.Joint.{is_entangled_one, is_statement_of}
-
-other : (m n : ℕ) → n < m → (m == n) ≡ false
-other m n less = grind (arith, less)
 
 below : (m n : ℕ) → m < n → (m == n) ≡ false
 below m n less = grind (arith, less)
@@ -28,7 +26,7 @@ module _ (member : Member) where
   none_later tx (x ∷ xs) [] less = refl
   none_later tx (x ∷ xs) (y ∷ ys) less =
       ap (λ b. (b && own x y) || list_any (is_statement_of member) (accounts_from (suc tx) xs ys))
-      (other tx member.tx less)
+      (eq_above tx member.tx less)
       ∙ none_later (suc tx) xs ys (omega (arith, less))
 
   -- nor one of so few

@@ -26,7 +26,7 @@ use Rattle.ent_history.specs.Replay.{later}
 use Rattle.ent_history.specs.Verdict.{first_of}
 use Rattle.ent_history.specs.declared.finding.Finding.{Finding}
 use Rattle.ent_select.specs.Tables.{kinds_in, rows_in}
-use Rattle.ent_check.specs.declared.offer.Offer.{Offer}
+use Rattle.ent_check.specs.declared.offer.StatementOffer.{StatementOffer}
 use Rattle.ent_check.specs.Alone.{IsReplayed, account_at}
 use Rattle.ent_check.specs.Closed.{HasSeat, Leaves, closed_findings, closed_offers, grounding_in}
 use Rattle.ent_check.specs.Laws.{Laws}
@@ -63,16 +63,16 @@ none_there (Some finding) is = cc (is)
 none_there None is = refl
 
 module _ (creates : List Create) (members : List Placed) (tx : ℕ) (script : Script) (told : Told) (database : Database)
-    (offers : List Offer) where
+    (offers : List StatementOffer) where
   -- the statements so far are run, and nothing was found of them
-  abbrev pub At : ℕ → List (Statement Known) → List Relation → Environment → List Offer → Type 0
+  abbrev pub At : ℕ → List (Statement Known) → List Relation → Environment → List StatementOffer → Type 0
   At i forms tables environment made =
       Midway creates members tx script.statements told.answers database offers (i + 1) (drop i script.statements)
       (drop i forms) (drop i told.answers) tables environment made
 
   module _ (laws : Laws) (distinct : HaveDistinctColumns creates) (i : ℕ) (forms : List (Statement Known))
       (form : Statement Known) (low : i < length forms) (is_form : form ≡ get_or forms i form) (tables : List Relation)
-      (environment : Environment) (made : List Offer) (statement : Statement Value)
+      (environment : Environment) (made : List StatementOffer) (statement : Statement Value)
       (is : statement ≡ closed environment form) (m : At i forms tables environment made) where
     abbrev seat : Option Placed
     seat = member_at members tx (i + 1)
@@ -109,7 +109,8 @@ module _ (creates : List Create) (members : List Placed) (tx : ℕ) (script : Sc
           found ∙ (λ j. first_of (closed_findings tx (i + 1) seat (is j)
           ((answer_is ∙ sym (got_there i told.answers)) j) (rows_in tables) environment))
 
-      pub next_on : (behind : List Relation) (environment' : Environment) (more_made : List Offer) → finding ≡ None
+      pub next_on : (behind : List Relation) (environment' : Environment) (more_made : List StatementOffer)
+          → finding ≡ None
           → Leaves (form_meaning closed_worth statement (grounding_in seat statement) (rows_in tables) environment)
           (rows_in behind) environment'
           → more_made ≡ made ++ closed_offers tx (i + 1) seat statement → kinds_in behind ≡ kinds_in tables
@@ -128,7 +129,7 @@ module _ (creates : List Create) (members : List Placed) (tx : ℕ) (script : Sc
           environment' more_made (sym found_form ∙ none) left
           (offered ∙ ap (λ (s : Statement Value). made ++ closed_offers tx (i + 1) seat s) is) kept at_form)
 
-      pub off_replayed : is_some finding ≡ true → (after : Database) (more_made : List Offer)
+      pub off_replayed : is_some finding ≡ true → (after : Database) (more_made : List StatementOffer)
           → IsReplayed creates members (account_at tx script told) database finding after offers more_made
       off_replayed some after more_made = by finding found_form some
         where
@@ -145,7 +146,7 @@ module _ (creates : List Create) (members : List Placed) (tx : ℕ) (script : Sc
           by None same is_one = cc (is_one)
 
   pub end_replayed : (i : ℕ) (forms : List (Statement Known)) (tables : List Relation) (environment : Environment)
-      (made : List Offer) → length forms ≤ i → At i forms tables environment made
+      (made : List StatementOffer) → length forms ≤ i → At i forms tables environment made
       → IsReplayed creates members (account_at tx script told) database None (database_of creates (rows_in tables))
       offers made
   end_replayed i forms tables environment made over m =

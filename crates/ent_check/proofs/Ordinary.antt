@@ -1,17 +1,18 @@
 -- An ordinary statement over the tables that it names, and what it makes of all tables.
-use Rattle.std.proofs.Common.{◌≡◌, ◌<◌, ℕ, zero, suc, List, [], ◌∷◌, ◌++◌, map, length, refl, sym, ap, Result, Ok, Err}
-use Rattle.std.proofs.Common.{◌∙◌, subst, arith, true, false, cond, Option, Some, None}
+use Rattle.std.proofs.Common.{◌≡◌, ◌<◌, ℕ, zero, suc, List, [], ◌∷◌, map, length, refl, sym, ap, Result, Ok, Err}
+use Rattle.std.proofs.Common.{◌∙◌, subst, true, false, cond, Option, Some, None}
 use Rattle.std.specs.Prelude.{nat_le, slice_get, slice_index_or, slice_set}
 use Rattle.std.specs.List.{AllByRecursion}
 use Rattle.std.proofs.lemmas.List.{map-set}
 use Rattle.ent_lists.specs.Sets as set
+use Rattle.ent_lists.proofs.Lists.{got_mapped}
 use Rattle.ent_value.specs.declared.limits.TheConstants.{MOST_ROWS}
 use Rattle.ent_value.specs.declared.value.Kind.{Kind}
 use Rattle.ent_value.specs.declared.value.Value.{Value}
 use Rattle.ent_rel.specs.Change.{changed_rows}
 use Rattle.ent_rel.specs.Relation.{Relation}
 use Rattle.ent_rel.specs.declared.change.Delta.{Delta}
-use Rattle.ent_semantics.specs.Database.{Environment, Name, Rows, Table, with_value, with_values}
+use Rattle.ent_semantics.specs.Database.{Environment, Rows, Table}
 use Rattle.ent_semantics.specs.Effect.{Effect, changed, or_overflow}
 use Rattle.ent_semantics.specs.Change.{all_there, matched, updated}
 use Rattle.ent_semantics.specs.Selection.{meets}
@@ -24,6 +25,7 @@ use Rattle.ent_semantics.specs.Form.{Tables, closed_worth, form_meaning, operand
 use Rattle.ent_semantics.specs.FormKinds.{Fits, tables_named}
 use Rattle.ent_semantics.specs.declared.statement.Statement.{Statement}
 use Rattle.ent_semantics.specs.declared.statement.Statement.TheVariants as statements
+use Rattle.ent_semantics.proofs.Replied.{rows_are_no_count}
 use Rattle.ent_effect.specs.Change.{IsApplicable}
 use Rattle.ent_effect.specs.Meant.{CanBeApplied, IsMeant, changed_number, effect_of}
 use Rattle.ent_effect.specs.declared.outcome.Outcome.{Outcome}
@@ -87,9 +89,6 @@ pub applied_so : (named : List Relation) (field : Outcome) (count : ℕ) (delta 
 applied_so named field count delta same can = subst (CanBeApplied named) same can
 
 -- ---- a change
-
-rows_are_no_count : (rows : List (List Value)) (count : ℕ) → answers.Rows rows ≡ answers.Count count → ⊥
-rows_are_no_count rows count is = absurd cc
 
 -- A statement that tells of a change names the table that it changes, and no other.
 pub one_table : (statement : Statement Value) (tables : List Relation) (environment : Environment) (count : ℕ)
@@ -178,12 +177,6 @@ is_set (statements.Set variable expression) tables environment value kinds fits 
 
 -- ---- a change is made
 
-get_there : {A B : Type 0} (f : A → B) (xs : List A) (i : ℕ) (d : A) → i < length xs
-    → slice_get (map f xs) i ≡ Some (f (slice_index_or xs i d))
-get_there f [] i d lt = absurd (omega (arith, lt))
-get_there f (x ∷ xs) zero d lt = refl
-get_there f (x ∷ xs) (suc i) d lt = get_there f xs i d (omega (arith, lt))
-
 set_there : {A : Type 0} (xs : List A) (i : ℕ) (x : A) → slice_get xs i ≡ Some x → slice_set xs i x ≡ xs
 set_there [] i x is = refl
 set_there (y ∷ xs) zero x is = let e : y ≡ x = cc in ap (λ z. z ∷ xs) (sym e)
@@ -208,11 +201,4 @@ module _ (tables : List Relation) (number : ℕ) (after : Relation) (removed add
       map-set (λ (t : Relation). t.kinds) tables number after
       ∙ ap (λ (kinds : List Kind). slice_set (kinds_in tables) number kinds) is
       ∙ set_there (kinds_in tables) number before.kinds
-      (get_there (λ (t : Relation). t.kinds) tables number no_table there)
-
--- ---- host variables
-
-pub values_joined : (environment : Environment) (xs ys : List (Name × Value))
-    → with_values environment (xs ++ ys) ≡ with_values (with_values environment xs) ys
-values_joined environment [] ys = refl
-values_joined environment (x ∷ xs) ys = values_joined (with_value environment x.0 x.1) xs ys
+      (got_mapped (λ (t : Relation). t.kinds) tables number no_table there)

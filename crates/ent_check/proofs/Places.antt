@@ -1,9 +1,6 @@
 -- Tables under their numbers.
 use Rattle.std.proofs.Common.{◌≡◌, ℕ, zero, suc, List, [], ◌∷◌, length, map, refl, ap, slice_index_or}
-use Rattle.ent_lists.specs.Laws.{ascending-from_list}
 use Rattle.ent_lists.specs.Sets as set
-use Rattle.ent_value.specs.Order.{exact_rows, rows_total}
-use Rattle.ent_value.specs.Value.{row_cmp}
 use Rattle.ent_rel.specs.Relation.{Relation}
 use Rattle.ent_select.specs.Tables.{no_table, rows_in}
 
@@ -22,10 +19,3 @@ rows_of_numbers tables (number ∷ numbers) = λ i. rows_at tables number i ∷ 
 pub rows_many : (tables : List Relation) → length (rows_in tables) ≡ length tables
 rows_many [] = refl
 rows_many (table ∷ tables) = ap (λ n. suc n) (rows_many tables)
-
-pub mapped_many : {X Y : Type 0} (f : X → Y) (xs : List X) → length (map f xs) ≡ length xs
-mapped_many f [] = refl
-mapped_many f (x ∷ xs) = ap (λ n. suc n) (mapped_many f xs)
-
-pub no_rows : set.ascending (set.empty {R = row_cmp}) ≡ []
-no_rows = ascending-from_list rows_total exact_rows [] tt

@@ -2,6 +2,7 @@
 use Rattle.std.proofs.Common.{◌≡◌, ℕ, zero, suc, ◌<◌, Bool, true, false, not, ◌||◌, ◌&&◌, ◌==◌, cond, List}
 use Rattle.std.proofs.Common.{[], ◌∷◌, ◌++◌, length, map, refl, sym, ap, ◌∙◌, arith}
 use Rattle.std.proofs.Common.{slice_index_or, flat_map, filter}
+use Rattle.std.proofs.Math.Bool.{or_assoc, and_assoc}
 use Rattle.std.specs.List.{list_all, list_any}
 use Rattle.ent_semantics.specs.declared.answer.Fact.{Fact}
 use Rattle.ent_semantics.specs.declared.book.Member.{Member}
@@ -11,8 +12,8 @@ use Rattle.ent_history.specs.Alike.{same_fact}
 use Rattle.ent_history.specs.Joint.{stands_among}
 use Rattle.ent_history.specs.Post.{are_met, is_offered, read_views_of}
 use Rattle.ent_check.specs.Offers.{offer_of, offers_of}
-use Rattle.ent_check.specs.declared.offer.Offer.{Offer}
-use Rattle.ent_check.proofs.Lists.{all_same, and_assoc, any_same, or_assoc}
+use Rattle.ent_check.specs.declared.offer.StatementOffer.{StatementOffer}
+use Rattle.ent_check.proofs.Lists.{all_same, any_same}
 
 -- ---- lists
 
@@ -20,10 +21,6 @@ pub some_there : {X : Type 0} (xs : List X) (i : ℕ) → i < length xs → (x :
 some_there [] i low = absurd (omega (arith, low))
 some_there (x ∷ xs) zero low = (x, refl)
 some_there (x ∷ xs) (suc i) low = some_there xs i (omega (arith, low))
-
-pub mapped_many : {X Y : Type 0} (f : X → Y) (xs : List X) → length (map f xs) ≡ length xs
-mapped_many f [] = refl
-mapped_many f (x ∷ xs) = ap (λ k. suc k) (mapped_many f xs)
 
 -- ---- tests over lists that are made of others
 
@@ -95,16 +92,16 @@ all_passing {X} b p (x ∷ xs) = by (b x) (all_passing b p xs)
 -- ---- a joint answer over a run and over its offers
 
 -- a fact is a head of an offer of a joint answer
-abbrev pub is_met_by : (Offer → ℕ) → ℕ → List Offer → Fact → Bool
+abbrev pub is_met_by : (StatementOffer → ℕ) → ℕ → List StatementOffer → Fact → Bool
 is_met_by own number offers post = list_any (λ offer. (own offer == number) && is_offered offer.heads post) offers
 
 -- an offer is of another, or each of its posts is met
-abbrev pub is_content_by : (Offer → ℕ) → ℕ → List Offer → Offer → Bool
+abbrev pub is_content_by : (StatementOffer → ℕ) → ℕ → List StatementOffer → StatementOffer → Bool
 is_content_by own number offers offer =
     not (own offer == number) || list_all (is_met_by own number offers) offer.posts
 
 -- where an offer is of a joint answer just where its statement is a member
-module _ (run : List ReadView) (own : Offer → ℕ) (number : ℕ) (members : List Member)
+module _ (run : List ReadView) (own : StatementOffer → ℕ) (number : ℕ) (members : List Member)
     (same : (read_view : ReadView)
     → stands_among read_view.tx read_view.place members ≡ (own (offer_of read_view) == number)) where
   abbrev stands : ReadView → Bool
@@ -140,22 +137,23 @@ module _ (run : List ReadView) (own : Offer → ℕ) (number : ℕ) (members : L
 -- ---- the offers of one joint answer alone
 
 -- a fact is a head of one of these offers
-abbrev pub is_met_among : List Offer → Fact → Bool
+abbrev pub is_met_among : List StatementOffer → Fact → Bool
 is_met_among offers post = list_any (λ offer. is_offered offer.heads post) offers
 
 -- the posts of an offer are met among these
-abbrev pub is_content_among : List Offer → Offer → Bool
+abbrev pub is_content_among : List StatementOffer → StatementOffer → Bool
 is_content_among offers offer = list_all (is_met_among offers) offer.posts
 
-module _ (own : Offer → ℕ) (number : ℕ) (offers : List Offer) where
-  abbrev those : List Offer
+module _ (own : StatementOffer → ℕ) (number : ℕ) (offers : List StatementOffer) where
+  abbrev those : List StatementOffer
   those = offers_of own number offers
 
   pub met_alone : list_all (is_content_among those) those ≡ list_all (is_content_by own number offers) offers
   met_alone =
-      all_passing (λ (offer : Offer). own offer == number) (is_content_among those) offers
+      all_passing (λ (offer : StatementOffer). own offer == number) (is_content_among those) offers
       ∙ all_same (λ offer. not (own offer == number) || is_content_among those offer)
       (is_content_by own number offers) offers
       (λ offer. ap (λ b. not (own offer == number) || b)
       (all_same (is_met_among those) (is_met_by own number offers) offer.posts
-      (λ post. any_passing (λ (other : Offer). own other == number) (λ other. is_offered other.heads post) offers)))
+      (λ post. any_passing (λ (other : StatementOffer). own other == number)
+      (λ other. is_offered other.heads post) offers)))

@@ -54,7 +54,7 @@ module _ (members : List Placed) (tx : ℕ) where
 
 -- ---- what has committed
 
-nothing_found : (findings : List Finding) → first_of findings ≡ None → findings ≡ []
+pub nothing_found : (findings : List Finding) → first_of findings ≡ None → findings ≡ []
 nothing_found [] is = refl
 nothing_found (finding ∷ more) is = cc (is)
 

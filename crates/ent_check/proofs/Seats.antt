@@ -3,30 +3,21 @@ use Rattle.std.proofs.Common.{◌≡◌, ℕ, Bool, true, false, ◌&&◌, ◌==
 use Rattle.std.proofs.Common.{subst, ◌∙◌, arith, Option, Some, None, is_some}
 use Rattle.std.specs.BTreeMap.{BTreeMap, get}
 use Rattle.std.specs.Option.{option_map, option_or}
-use Rattle.std.specs.Ordering.{is_eq, nat_cmp, ordering_then}
-use Rattle.std.specs.declared.cmp.Ordering.{Ordering}
-use Rattle.std.specs.declared.cmp.Ordering.TheVariants as orders
+use Rattle.std.specs.Ordering.{is_eq, nat_cmp}
 use Rattle.std.proofs.lemmas.List.Folds.{find-append}
-use Rattle.std.specs.Cmp.{unsigned_tied}
 use Rattle.ent_lists.specs.Elements.{and_both}
+use Rattle.ent_lists.proofs.Numbers.{cmp_equal}
+use Rattle.ent_lists.proofs.Orders.{is_eq-then}
 use Rattle.ent_semantics.specs.declared.book.Member.{Member}
 use Rattle.ent_history.specs.Placed.{Placed, member_at, stands_at}
 use Rattle.ent_check.specs.Seats.{AreSeatsOf, place_cmp, seat_of}
 
-same_number : (a b : ℕ) → is_eq (nat_cmp a b) ≡ (a == b)
-same_number a b = unsigned_tied a b
-
-both : (x y : Ordering) → is_eq (ordering_then x y) ≡ (is_eq x && is_eq y)
-both orders.Less y = refl
-both orders.Equal y = refl
-both orders.Greater y = refl
-
 -- the order of places tells a member's own
 at_place : (a b tx place : ℕ) → is_eq (place_cmp (a, b) (tx, place)) ≡ ((a == tx) && (b == place))
 at_place a b tx place =
-    both (nat_cmp a tx) (nat_cmp b place)
-    ∙ ap (λ x. x && is_eq (nat_cmp b place)) (same_number a tx)
-    ∙ ap (λ y. (a == tx) && y) (same_number b place)
+    is_eq-then (nat_cmp a tx) (nat_cmp b place)
+    ∙ ap (λ x. x && is_eq (nat_cmp b place)) (cmp_equal a tx)
+    ∙ ap (λ y. (a == tx) && y) (cmp_equal b place)
 
 some_mapped : (o : Option Placed) → is_some (option_map seat_of o) ≡ true → is_some o ≡ true
 some_mapped (Some one) is = refl

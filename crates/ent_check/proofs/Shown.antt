@@ -1,11 +1,12 @@
 -- A test that an item has a row's value changes nothing of whether a SELECT shows that row.
 use Rattle.std.proofs.Common.{◌≡◌, ℕ, zero, suc, ◌<◌, Bool, true, false, ◌&&◌, ◌||◌, cond, List, [], ◌∷◌, ◌++◌, length, map}
 use Rattle.std.proofs.Common.{refl, sym, ap, ◌∙◌, arith, slice_index_or}
-use Rattle.std.specs.List.{filter, list_all, list_any}
+use Rattle.std.specs.List.{filter, list_any}
 use Rattle.std.specs.Cmp.{Equal-is}
 use Rattle.std.specs.Ordering.{eq_by_cmp, is_eq}
 use Rattle.ent_lists.specs.Laws.{contains-from_list}
 use Rattle.ent_lists.specs.Sets as set
+use Rattle.ent_lists.proofs.Lists.{list_all-behind}
 use Rattle.ent_value.specs.Order.{exact_rows, rows_total}
 use Rattle.ent_value.specs.Value.{row_cmp, value_cmp}
 use Rattle.ent_value.specs.declared.value.Value.{Value}
@@ -17,18 +18,10 @@ use Rattle.ent_semantics.specs.declared.operand.Operand.{Operand}
 use Rattle.ent_semantics.specs.declared.operand.Operand.TheVariants.{Known}
 use Rattle.ent_history.proofs.Alike.{value_itself}
 use Rattle.ent_select.specs.Worth.{worth_over}
-use Rattle.ent_check.proofs.Lists.{and_assoc, any_same}
+use Rattle.ent_check.proofs.Lists.{any_same}
 
 abbrev Row : Type 0
 Row = List Value
-
-all_more : {X : Type 0} (p : X → Bool) (xs : List X) (x : X) → list_all p (xs ++ x ∷ []) ≡ (list_all p xs && p x)
-all_more p [] x = by (p x)
-  where
-    by : (b : Bool) → (b && true) ≡ b
-    by true = refl
-    by false = refl
-all_more p (y ∷ ys) x = ap (λ b. p y && b) (all_more p ys x) ∙ sym (and_assoc (p y) (list_all p ys) (p x))
 
 -- what is shown of those that pass a test
 any_shown : (shown : Row → Row) (p : Row → Bool) (row : Row) (xs : List Row)
@@ -94,7 +87,7 @@ module _ (tests : List (Test (Operand Value))) (items : List (Operand Value)) (r
       → set.contains (selection (meets worth_over (tests ++ test ∷ [])) shown sources) row
       ≡ set.contains (selection (meets worth_over tests) shown sources) row
   one_test_more sources =
-      (λ j. set.contains (selection (λ combination. all_more (holds (worth_over combination)) tests test j) shown
+      (λ j. set.contains (selection (λ combination. list_all-behind (holds (worth_over combination)) tests test j) shown
       sources) row)
       ∙ shown_same (meets worth_over tests) (λ combination. holds (worth_over combination) test) shown sources row
       holds_there

@@ -1,9 +1,9 @@
 -- What is found of a statement is what is found of its form, closed; and that keeps kinds.
-use Rattle.std.proofs.Common.{◌≡◌, ℕ, ◌&&◌, Bool, true, false, cond, List, [], ◌∷◌, ◌++◌, map, length}
+use Rattle.std.proofs.Common.{◌≡◌, ℕ, Bool, true, false, cond, List, [], ◌∷◌, ◌++◌, map, length}
 use Rattle.std.proofs.Common.{refl, sym, ap, ◌∙◌, subst, Option, Some, None, Result, Ok, Err, is_some}
 use Rattle.std.specs.Prelude.{slice_get}
 use Rattle.std.specs.List.{flat_map}
-use Rattle.std.proofs.lemmas.Bool.{eqb-true}
+use Rattle.std.proofs.lemmas.Bool.{eqb-true, and_parts}
 use Rattle.ent_value.specs.Refusal.{◌>>=◌}
 use Rattle.ent_value.specs.declared.value.Kind.{Kind}
 use Rattle.ent_value.specs.declared.value.Value.{Value}
@@ -31,10 +31,10 @@ use Rattle.ent_form.specs.Entangled.{entangled_in}
 use Rattle.ent_form.specs.Form.{statement_in}
 use Rattle.ent_form.specs.Kinds.{Bound}
 use Rattle.ent_form.specs.declared.fault.FormFault.{FormFault}
+use Rattle.ent_form.proofs.Heads.{found_of}
 use Rattle.ent_form_laws.specs.Kinds.{AreKinded, AnswersInKind, HasKinds}
 use Rattle.ent_form_laws.specs.Tables.{database_of, effect_of, Answers, HaveDistinctColumns}
 use Rattle.ent_form_laws.proofs.Ordinary.{answers_any, in_any_kind}
-use Rattle.ent_form_laws.proofs.Steps.{bound_given}
 use Rattle.ent_history.specs.Placed.{Placed, grounding_of, member_at}
 use Rattle.ent_history.specs.Replay.{ground_finding, is_answered, ungrounded}
 use Rattle.ent_history.specs.Verdict.{first_of}
@@ -54,10 +54,6 @@ SameResult x y = x ≡ y
 
 pub one_answer : {A E : Type 0} (x y : A) → SameResult {A = A} {E = E} (Ok x) (Ok y) → x ≡ y
 one_answer x y e = cc
-
-and_first : (a b : Bool) → (a && b) ≡ true → a ≡ true
-and_first true b is = refl
-and_first false b is = cc (is)
 
 -- ---- answers
 
@@ -265,7 +261,7 @@ module _ (laws : Laws) (creates : List Create) (distinct : HaveDistinctColumns c
 
   right_one : is_one ≡ true → Alike
   right_one holds =
-      let many : length grounding ≡ length form.variables = eqb-true _ _ (and_first _ _ holds) in
+      let many : length grounding ≡ length form.variables = eqb-true _ _ (and_parts _ _ holds).0 in
       let right : length grounding ≡ length (written_variables tree) =
       many ∙ laws.variables (schemas_of creates) bound after tree form made in
       let P : Bool → Type 0 = λ b. ground_finding (member_at members tx place) b ≡ [] in
@@ -335,7 +331,7 @@ pub statement_alike : (laws : Laws) (creates : List Create) → HaveDistinctColu
 unfolding statement_in
 statement_alike laws creates distinct members tx place bound after (trees.Entangled tree) form is answers tables kinded
     environment kinds seated =
-    let w = bound_given (entangled_in (schemas_of creates) bound tree) _ (form, after) is in
+    let w = found_of (entangled_in (schemas_of creates) bound tree) _ (form, after) is in
     let one = there_is (member_at members tx place) seated in
     let P : Statement Known × Bound → Type 0 =
     λ p. IsAlike creates members tx place bound p.1 (trees.Entangled tree) (closed environment p.0) answers tables

@@ -5,15 +5,13 @@ use Rattle.std.specs.Prelude.{slice_get}
 use Rattle.std.specs.List.{find}
 use Rattle.std.specs.Option.{option_and_then, option_map, option_or}
 use Rattle.std.proofs.lemmas.List.Folds.{find-append}
+use Rattle.std.proofs.lemmas.Option.{same_Some}
 use Rattle.ent_semantics.specs.Entangled.{Valuation}
 use Rattle.ent_semantics.specs.declared.book.JointAnswer.{JointAnswer}
 use Rattle.ent_semantics.specs.declared.book.Member.{Member}
 use Rattle.ent_history.specs.Placed.{Placed, member_at, members_from, placed, placed_from, stands_at}
 use Rattle.ent_check.specs.Seats.{seat_of}
 use Rattle.ent_check.specs.Told.{member_in, told_seat}
-
-one_thing : {A : Type 0} (x y : A) → Some x ≡ Some y → x ≡ y
-one_thing x y is = cc
 
 module _ (tx place : ℕ) where
   abbrev sits : Placed → Bool
@@ -49,7 +47,7 @@ module _ (tx place : ℕ) where
           → (number : ℕ) × (one.joint ≡ joint) × (one.number ≡ first + number)
           × (slice_get (member ∷ members) number ≡ Some one.member)
       among_more joint first member members one rest true same =
-          let e = one_thing (record { joint = joint; number = first; member = member }) one same in
+          let e = same_Some (record { joint = joint; number = first; member = member }) one same in
           let n : first ≡ first + 0 = omega arith in (
             0,
             sym (ap (λ (x : Placed). x.joint) e),
@@ -72,7 +70,7 @@ module _ (tx place : ℕ) where
           → (found : Option Placed) → find sits (members_from first 1 answer.members) ≡ found
           → option_or found (find sits (placed_from (suc first) more)) ≡ Some one → SitsIn first (answer ∷ more) one
       by rest (Some x) at same =
-          let e : x ≡ one = one_thing x one same in
+          let e : x ≡ one = same_Some x one same in
           let here = among_members first 1 answer.members one (at ∙ ap (λ y. Some y) e) in
           let n : 1 + here.0 ≡ suc here.0 = omega arith in
           let j : first ≡ first + 0 = omega arith in

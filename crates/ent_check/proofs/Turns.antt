@@ -27,7 +27,7 @@ use Rattle.ent_history.specs.declared.finding.Finding.{Finding}
 use Rattle.ent_check.specs.Alone.{AreReplayed, IsReplayed, StandAsDeclared, account_at}
 use Rattle.ent_check.specs.Offers.{offer_of}
 use Rattle.ent_check.specs.Order.{accounts_at}
-use Rattle.ent_check.specs.declared.offer.Offer.{Offer}
+use Rattle.ent_check.specs.declared.offer.StatementOffer.{StatementOffer}
 use Rattle.ent_check.proofs.Numbers.{first_none, first_some}
 
 module _ (creates : List Create) (members : List Placed) where
@@ -102,16 +102,18 @@ module _ (creates : List Create) (members : List Placed) where
 
   -- ---- what is replayed
 
-  abbrev Replayed : List Account → Database → Option Finding → Database → List Offer → List Offer → Type 0
+  abbrev Replayed : List Account → Database → Option Finding → Database → List StatementOffer → List StatementOffer
+      → Type 0
   Replayed turns before finding after offers made =
       AreReplayed creates members turns before finding after offers made
 
-  pub nothing_replayed : (before : Database) (offers : List Offer) → Replayed [] before None before offers offers
+  pub nothing_replayed : (before : Database) (offers : List StatementOffer)
+      → Replayed [] before None before offers offers
   nothing_replayed before offers =
       record { found = refl; left = λ none. refl; offered = λ none. sym (append-nil offers) }
 
   pub one_replayed : (account : Account) (before : Database) (finding : Option Finding) (after : Database)
-      (offers made : List Offer) → IsReplayed creates members account before finding after offers made
+      (offers made : List StatementOffer) → IsReplayed creates members account before finding after offers made
       → Replayed (account ∷ []) before finding after offers made
   one_replayed account before finding after offers made is =
       record {
@@ -145,7 +147,7 @@ module _ (creates : List Create) (members : List Placed) where
 
   -- those behind transactions of which nothing is found
   pub more_replayed : (first more : List Account) (before between after : Database) (finding : Option Finding)
-      (offers made later : List Offer) → Replayed first before None between offers made
+      (offers made later : List StatementOffer) → Replayed first before None between offers made
       → Replayed more between finding after made later
       → Replayed (first ++ more) before finding after offers later
   more_replayed first more before between after finding offers made later is next =
@@ -156,9 +158,9 @@ module _ (creates : List Create) (members : List Placed) where
             ∙ first_none (findings first before) (findings more between) (sym is.found));
         left = λ none. end_joined first more before ∙ ap (option_and_then (end more)) end_is ∙ next.left none;
         offered = λ none. next.offered none
-            ∙ ap (λ (xs : List Offer). xs ++ map offer_of (seen more between)) (is.offered refl)
+            ∙ ap (λ (xs : List StatementOffer). xs ++ map offer_of (seen more between)) (is.offered refl)
             ∙ append_assoc offers (map offer_of (seen first before)) (map offer_of (seen more between))
-            ∙ ap (λ (xs : List Offer). offers ++ xs)
+            ∙ ap (λ (xs : List StatementOffer). offers ++ xs)
             (sym (map-append offer_of (seen first before) (seen more between)))
             ∙ ap (λ (xs : List ReadView). offers ++ map offer_of xs)
             (sym (seen_joined first more before
@@ -167,7 +169,7 @@ module _ (creates : List Create) (members : List Placed) where
 
   -- where something is found of transactions it is found first of all
   pub found_replayed : (first more : List Account) (before after : Database) (finding : Finding)
-      (offers made : List Offer) → Replayed first before (Some finding) after offers made
+      (offers made : List StatementOffer) → Replayed first before (Some finding) after offers made
       → Replayed (first ++ more) before (Some finding) after offers made
   found_replayed first more before after finding offers made is =
       record {
@@ -247,7 +249,7 @@ turns_split all order i =
 module _ (creates : List Create) (members : List Placed) where
   -- what is found of a transaction is found of it as a turn
   pub turn_replayed : {E : Type 0} (turn : List Account) (account : Account) (before after : Database)
-      (offers made : List Offer) (result : Result (Option Finding) E) → turn ≡ account ∷ []
+      (offers made : List StatementOffer) (result : Result (Option Finding) E) → turn ≡ account ∷ []
       → IfOk result (λ finding. IsReplayed creates members account before finding after offers made)
       → IfOk result (λ finding. AreReplayed creates members turn before finding after offers made)
   turn_replayed turn account before after offers made (Ok finding) are is =
@@ -257,7 +259,7 @@ module _ (creates : List Create) (members : List Placed) where
 
   module _ (all : List Account) (order : List ℕ) (i index : ℕ) (low : i < length order)
       (at : index ≡ get_or order i index) (before between after : Database) (finding : Option Finding)
-      (offers made later : List Offer)
+      (offers made later : List StatementOffer)
       (so_far : AreReplayed creates members (accounts_at all (take i order)) before None between offers made)
       (here : AreReplayed creates members (accounts_at all (index ∷ [])) between finding after made later) where
     abbrev After : List Account → Option Finding → Type 0

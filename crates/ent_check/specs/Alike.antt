@@ -25,7 +25,7 @@ use Rattle.ent_history.specs.declared.finding.Finding.{Finding}
 use Rattle.ent_history.specs.declared.finding.Rule.TheVariants as rules
 use Rattle.ent_history.specs.declared.finding.Thing.TheVariants as things
 use Rattle.ent_check.specs.Offers.{offer_of}
-use Rattle.ent_check.specs.declared.offer.Offer.{Offer}
+use Rattle.ent_check.specs.declared.offer.StatementOffer.{StatementOffer}
 use Rattle.ent_check.specs.Closed.{Leaves, closed_findings, closed_offers, grounding_in}
 
 module _ (creates : List Create) (members : List Placed) (tx place : ℕ) where
@@ -49,7 +49,7 @@ module _ (creates : List Create) (members : List Placed) (tx place : ℕ) where
       flat_map (ungrounded creates members) (seen tx place (operation_of tree) database environment)
       ++ answer_unless (is_answered (tree_meaning tree database environment) answers)
 
-  abbrev pub tree_offers : TreeStatement → Database → Environment → List Offer
+  abbrev pub tree_offers : TreeStatement → Database → Environment → List StatementOffer
   tree_offers tree database environment = map offer_of (seen tx place (operation_of tree) database environment)
 
   module _ (bound after : Bound) (tree : TreeStatement) (statement : Statement Value) (answers : List Answer)

@@ -21,7 +21,7 @@ use Rattle.ent_history.specs.Verdict.{first_of}
 use Rattle.ent_history.specs.declared.finding.Finding.{Finding}
 use Rattle.ent_check.specs.Closed.{IsSeated}
 use Rattle.ent_check.specs.Offers.{offer_of}
-use Rattle.ent_check.specs.declared.offer.Offer.{Offer}
+use Rattle.ent_check.specs.declared.offer.StatementOffer.{StatementOffer}
 
 -- a script has no fault of form
 abbrev pub IsResolved : List Create → Script → Type 0
@@ -44,7 +44,7 @@ account_at tx script told = record { tx = tx; script = script; fate = told.fate;
 -- What is found first of a transaction, and what it leaves where nothing is: the database, and offers behind those
 -- before.
 pub record IsReplayed (creates : List Create) (members : List Placed) (account : Account) (before : Database)
-    (finding : Option Finding) (after : Database) (offers made : List Offer) : Type 0 where
+    (finding : Option Finding) (after : Database) (offers made : List StatementOffer) : Type 0 where
   pub found : finding ≡ first_of (operations_findings creates members account.tx 1
       (account_operations creates members account) account.answers before nothing_bound)
   pub left : finding ≡ None
@@ -63,7 +63,7 @@ IsSeatedWhole members account = AreSeated members account.tx 1 account.script.st
 
 -- What is found first of transactions that are run one after the other, and what they leave where nothing is.
 pub record AreReplayed (creates : List Create) (members : List Placed) (turns : List Account) (before : Database)
-    (finding : Option Finding) (after : Database) (offers made : List Offer) : Type 0 where
+    (finding : Option Finding) (after : Database) (offers made : List StatementOffer) : Type 0 where
   pub found : finding ≡ first_of (replay_findings creates members turns before)
   pub left : finding ≡ None → told_end creates members turns before ≡ Some after
   pub offered : finding ≡ None → made ≡ offers ++ map offer_of (told_read_views creates members turns before)

@@ -20,7 +20,7 @@ use Rattle.ent_history.specs.declared.finding.Finding.{Finding}
 use Rattle.ent_history.specs.declared.finding.Rule.TheVariants as rules
 use Rattle.ent_history.specs.declared.finding.Thing.TheVariants as things
 use Rattle.ent_select.specs.Worth.{itself}
-use Rattle.ent_check.specs.declared.offer.Offer.{Offer}
+use Rattle.ent_check.specs.declared.offer.StatementOffer.{StatementOffer}
 
 -- an entangled statement has a seat
 abbrev pub HasSeat : Option Placed → Statement Value → Type 0
@@ -79,7 +79,7 @@ closed_findings tx place seat statement told tables environment =
     seat_findings seat statement tables ++ answer_findings tx place seat statement tables environment told
 
 -- what an entangled statement offers and demands; others offer nothing
-abbrev pub closed_offers : ℕ → ℕ → Option Placed → Statement Value → List Offer
+abbrev pub closed_offers : ℕ → ℕ → Option Placed → Statement Value → List StatementOffer
 closed_offers tx place seat (statements.Entangled entangled) =
     record {
       tx = tx;

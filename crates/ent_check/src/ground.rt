@@ -121,58 +121,6 @@ fn membership_holds(
     Ok(is_among(rows.as_slice(), &row))
 }
 
-/// Whether each tuple is a row of its sub-select's result.
-fn memberships_hold(
-    alloc: Global,
-    tables: &[Arc<Table>],
-    grounding: &[Value],
-    memberships: &[Membership<Value>],
-) -> Result<bool, AllocError>
-    requires { AllByRecursion
-        (λ membership. AllByRecursion (λ number. number < length tables.now) membership.select.sources)
-        memberships.now }
-    ensures { IfOk result (λ hold. hold
-        ≡ list_all (membership_holds itself (rows_in (map arc_value tables.now)) grounding.now) memberships.now) }
-{
-    for membership in memberships {
-        if !membership_holds(alloc, tables, grounding, membership)? {
-            return Ok(false);
-        }
-    }
-    Ok(true)
-}
-
-/// Whether each test between terms is true.
-fn tests_hold(grounding: &[Value], tests: &[Test<Term<Value>>]) -> bool
-    ensures { result ≡ list_all (holds (term_worth itself grounding.now)) tests.now }
-{
-    tests.iter().all(|test| test_holds(grounding, test))
-}
-
-/// Whether values are a grounding of a closed entangled statement over tables, in the order of their declaration: one
-/// for each written variable, under which each tuple is a row of its sub-select's result and each test is true. It is
-/// tested, and nothing is searched for; of a sub-select's result only the tuple's own row is made.
-pub fn is_grounding(
-    alloc: Global,
-    statement: &Entangled<Value>,
-    tables: &[Arc<Table>],
-    grounding: &[Value],
-) -> Result<bool, AllocError>
-    requires { AllByRecursion
-        (λ membership. AllByRecursion (λ number. number < length tables.now) membership.select.sources)
-        statement.now.atoms }
-    ensures { IfOk result (λ is. is
-        ≡ is_form_grounding itself (rows_in (map arc_value tables.now)) statement.now grounding.now) }
-{
-    if grounding.len() != statement.variables.len() {
-        return Ok(false);
-    }
-    if !memberships_hold(alloc, tables, grounding, statement.atoms.as_slice())? {
-        return Ok(false);
-    }
-    Ok(tests_hold(grounding, statement.tests.as_slice()))
-}
-
 /// The number of the first tuple that is no row of its sub-select's result, counted from 1.
 fn failing_membership(
     alloc: Global,
@@ -212,7 +160,8 @@ fn failing_test(grounding: &[Value], tests: &[Test<Term<Value>>]) -> Option<u64>
 
 /// Why values are no grounding of a closed entangled statement over tables, in the order of their declaration: their
 /// number, else the first tuple that is no row of its sub-select's result, else the first test that isn't true; none
-/// where they are one.
+/// where they are one. It is tested, and nothing is searched for; of a sub-select's result only the tuple's own row is
+/// made.
 pub(crate) fn failing(
     alloc: Global,
     statement: &Entangled<Value>,

@@ -5,7 +5,7 @@ ghost use Rattle.ent_check.specs.Heads.{has};
 ghost use Rattle.ent_history.specs.Post.{is_offered};
 ghost use Rattle.ent_semantics.specs.declared.answer.Fact.{Fact as Stated};
 
-use crate::offer::Offer;
+use crate::offer::StatementOffer;
 use ent_semantics::Fact;
 use ent_value::{Name, Row};
 use std::alloc::{AllocError, Global};
@@ -25,7 +25,10 @@ fn put<'a>(heads: &mut Heads<'a>, facts: &'a [Fact]) -> Result<(), AllocError>
 }
 
 /// The heads of offers.
-pub(crate) fn heads_of<'a>(alloc: Global, offers: &'a [Offer]) -> Result<Heads<'a>, AllocError>
+pub(crate) fn heads_of<'a>(
+    alloc: Global,
+    offers: &'a [StatementOffer],
+) -> Result<Heads<'a>, AllocError>
     ensures { IfOk result (λ heads. (post : Stated) → has heads post
         ≡ list_any (λ offer. is_offered offer.heads post) offers.now) }
 {

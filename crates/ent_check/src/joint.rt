@@ -126,7 +126,7 @@ fn left_out(seats: &Seats, tx: u64, script: &Script, told: &Told) -> Option<Find
     })
 }
 
-/// The first transaction that has committed, and an entangled statement of which is no member of a joint answer.
+/// The first committed transaction that has an entangled statement which stands in no joint answer.
 fn left_out_finding(seats: &Seats, scripts: &[Script], transactions: &[Told]) -> Option<Finding>
     ensures { (members : List Placed) → AreSeatsOf members seats.now
         → result ≡ first_of (left_out_findings (map (λ one. one.member) members)

@@ -1,9 +1,8 @@
 //! The rules of ent_history, checked over what a report tells.
 //!
 //! The rules of the journal, of joint answers and of postconditions are checked whole, and the commits are put in
-//! order. Each finding has a line. Nothing is searched for: a grounding is looked up by the place of its statement and
-//! tested, each tuple among the rows of its sub-select's result, and each test; an answer is compared with the one that
-//! the report tells.
+//! order. Nothing is searched for: a grounding is looked up by the place of its statement and tested, each tuple among
+//! the rows of its sub-select's result, and each test; an answer is compared with the one that the report tells.
 //!
 //! Statements and transactions that the check of a report runs alone, each over the tables that the one before left.
 //!
@@ -21,7 +20,6 @@ mod heads;
 mod joined;
 mod joint;
 mod journal;
-mod line;
 mod member;
 mod offer;
 mod operation;
@@ -41,12 +39,11 @@ pub use alike::same_answer;
 pub use declared::Declared;
 pub use evidence::Evidence;
 pub use facts::{bindings_of, facts_of};
-pub use ground::{is_grounding, tables_of};
+pub use ground::tables_of;
 pub use groundings::{Groundings, Seat};
 pub use joint::joint_finding;
 pub use journal::journal_finding;
-pub use line::line_of;
-pub use offer::Offer;
+pub use offer::StatementOffer;
 pub use order::commit_order;
 pub use post::post_finding;
 pub use replay_law::statements_are_found_as_their_forms;

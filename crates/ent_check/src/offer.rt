@@ -3,7 +3,7 @@ use ent_semantics::Fact;
 use ent_value::Sequence;
 
 /// What an entangled statement offers under its grounding, its heads, and what it demands, its postconditions.
-pub struct Offer {
+pub struct StatementOffer {
     pub tx: u64,
     /// Its place in the script, counted from 1.
     pub place: u64,
@@ -11,9 +11,9 @@ pub struct Offer {
     pub posts: Sequence<Fact>,
 }
 
-impl Drop for Offer {
+impl Drop for StatementOffer {
     fn drop(self) {
-        let Offer {
+        let StatementOffer {
             tx: _tx,
             place: _place,
             heads: _heads,

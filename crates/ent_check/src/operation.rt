@@ -22,7 +22,7 @@ ghost use Rattle.ent_select.specs.Tables.{kinds_in, rows_in};
 use crate::ground::failing;
 use crate::replay_offer::offer_under;
 use crate::statement::carry_out;
-use crate::{Evidence, Groundings, Offer, Seat, is_grounding, same_answer};
+use crate::{Evidence, Groundings, Seat, StatementOffer, same_answer};
 use ent_closing::Environment;
 use ent_history::{Finding, Rule, Thing};
 use ent_rel::Table;
@@ -36,13 +36,13 @@ use std::sync::Arc;
 #[derive(Drop)]
 pub(crate) struct Stage {
     pub tables: Vec<Arc<Table>>,
-    pub offers: Vec<Offer>,
+    pub offers: Vec<StatementOffer>,
     pub evidence: Option<Evidence>,
 }
 
 /// A statement's place: the number of its transaction and its own number in the script, both counted from 1.
 #[derive(Clone, Copy)]
-pub(crate) struct Place {
+pub(crate) struct StatementPlace {
     pub tx: u64,
     pub place: u64,
 }
@@ -70,7 +70,7 @@ fn is_right(answer: Answer, told: Option<&Answer>, evidence: &mut Option<Evidenc
 }
 
 /// What is found of an answer: nothing where it is right.
-fn unless_right(right: bool, place: Place) -> Option<Finding>
+fn unless_right(right: bool, place: StatementPlace) -> Option<Finding>
     ensures { result ≡ first_of (unless right rules.Answer (things.Answer place.tx place.place)) }
 {
     if right {
@@ -89,7 +89,7 @@ fn unless_right(right: bool, place: Place) -> Option<Finding>
 /// tables and the environment are as the statement leaves them; else what the statement comes to is noted.
 fn answer_finding(
     alloc: Global,
-    place: Place,
+    place: StatementPlace,
     statement: &Statement<Value>,
     grounding: &[Value],
     told: Option<&Answer>,
@@ -131,7 +131,7 @@ fn answer_finding(
 pub(crate) fn operation_finding(
     alloc: Global,
     groundings: &Groundings<'_>,
-    place: Place,
+    place: StatementPlace,
     statement: &Statement<Value>,
     told: Option<&Answer>,
     environment: &mut Environment,
@@ -172,13 +172,9 @@ pub(crate) fn operation_finding(
         // Each has a seat.
         unreachable!()
     };
-    if !is_grounding(alloc, entangled, stage.tables.as_slice(), seat.grounding)? {
-        stage.evidence = failing(
-            alloc,
-            entangled,
-            stage.tables.as_slice(),
-            seat.grounding,
-        ).unwrap_or(None);
+    let wrong = failing(alloc, entangled, stage.tables.as_slice(), seat.grounding)?;
+    if wrong.is_some() {
+        stage.evidence = wrong;
         return Ok(Some(ungrounded(&seat)));
     }
     let offer = offer_under(alloc, place.tx, place.place, entangled, seat.grounding)?;

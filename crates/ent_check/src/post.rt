@@ -5,7 +5,7 @@ ghost use Rattle.std.specs.List.{list_all, list_any};
 ghost use Rattle.ent_check.specs.Heads.{has};
 ghost use Rattle.ent_check.specs.Offers.{AreJoined, joint_in, offer_of};
 ghost use Rattle.ent_check.specs.Seats.{AreSeatsOf};
-ghost use Rattle.ent_check.specs.declared.offer.Offer.{Offer as Offered};
+ghost use Rattle.ent_check.specs.declared.offer.StatementOffer.{StatementOffer as Offered};
 ghost use Rattle.ent_history.specs.Told.{joint_answer_of};
 ghost use Rattle.ent_history.specs.Account.{Account};
 ghost use Rattle.ent_history.specs.Joint.{left_out_findings, members_findings};
@@ -18,7 +18,7 @@ ghost use Rattle.ent_semantics.specs.Serial.{ReadView};
 use crate::Evidence;
 use crate::heads::{Heads, heads_of, is_head};
 use crate::joined::{Joined, joined_by, offers_of};
-use crate::offer::Offer;
+use crate::offer::StatementOffer;
 use crate::seat::Seats;
 use ent_history::{Finding, Rule, Thing, ToldJoint};
 use ent_semantics::Fact;
@@ -37,7 +37,7 @@ fn are_heads<'a>(heads: &Heads<'a>, posts: &'a [Fact]) -> bool
 }
 
 /// Whether each postcondition of these offers is one of these heads.
-fn all_met<'a>(heads: &Heads<'a>, offers: &'a [Offer]) -> bool
+fn all_met<'a>(heads: &Heads<'a>, offers: &'a [StatementOffer]) -> bool
     ensures { result ≡ list_all (λ offer. list_all (has heads.now) offer.posts) offers.now }
 {
     for offer in offers {
@@ -49,7 +49,7 @@ fn all_met<'a>(heads: &Heads<'a>, offers: &'a [Offer]) -> bool
 }
 
 /// Whether each postcondition of these offers is a head of one of them.
-fn are_content(alloc: Global, offers: &[Offer]) -> Result<bool, AllocError>
+fn are_content(alloc: Global, offers: &[StatementOffer]) -> Result<bool, AllocError>
     ensures { IfOk result (λ content. content ≡ list_all (λ offer. list_all
         (λ post. list_any (λ other. is_offered other.heads post) offers.now) offer.posts) offers.now) }
 {
@@ -80,7 +80,7 @@ fn missing_head<'a>(heads: &Heads<'a>, posts: &'a [Fact]) -> Option<&'a Fact>
 }
 
 /// The first postcondition of these offers that is no head of one of them, with its statement.
-fn unmet(alloc: Global, offers: &[Offer]) -> Result<Option<Evidence>, AllocError> {
+fn unmet(alloc: Global, offers: &[StatementOffer]) -> Result<Option<Evidence>, AllocError> {
     let heads = heads_of(alloc, offers)?;
     for offer in offers {
         if let Some(post) = missing_head(&heads, offer.posts.as_slice()) {
@@ -132,7 +132,7 @@ pub fn post_finding(
     alloc: Global,
     seats: &Seats,
     joint_answers: &[ToldJoint],
-    offers: Vec<Offer>,
+    offers: Vec<StatementOffer>,
     evidence: &mut Option<Evidence>,
 ) -> Result<Option<Finding>, AllocError>
     requires { AreSeatsOf (placed (map joint_answer_of joint_answers.now)) seats.now }

@@ -3,7 +3,7 @@ ghost use Rattle.std.specs.Prelude.{◌≡◌, IfOk};
 ghost use Rattle.ent_semantics.specs.Form.{form_heads, form_posts};
 ghost use Rattle.ent_select.specs.Worth.{itself};
 
-use crate::{Offer, facts_of};
+use crate::{StatementOffer, facts_of};
 use ent_semantics::Entangled;
 use ent_value::Value;
 use std::alloc::{AllocError, Global};
@@ -15,7 +15,7 @@ pub(crate) fn offer_under(
     place: u64,
     entangled: &Entangled<Value>,
     grounding: &[Value],
-) -> Result<Offer, AllocError>
+) -> Result<StatementOffer, AllocError>
     ensures { IfOk result (λ offer. offer ≡ record {
       tx = tx;
       place = place;
@@ -25,7 +25,7 @@ pub(crate) fn offer_under(
 {
     let heads = facts_of(alloc, grounding, entangled.heads.as_slice())?;
     let posts = facts_of(alloc, grounding, entangled.posts.as_slice())?;
-    Ok(Offer {
+    Ok(StatementOffer {
         tx,
         place,
         heads,

@@ -22,7 +22,7 @@ ghost use Rattle.ent_semantics.specs.Database.{opening_database};
 use crate::declared::Declared;
 use crate::operation::Stage;
 use crate::transaction::transaction_finding;
-use crate::{Evidence, Groundings, Offer, Seats, commit_order};
+use crate::{Evidence, Groundings, Seats, StatementOffer, commit_order};
 use ent_form_laws::opening_tables_are_kinded;
 use ent_history::{Finding, History, Told};
 use ent_loading::load_tables;
@@ -38,7 +38,7 @@ pub struct Replayed {
     pub finding: Option<Finding>,
     pub evidence: Option<Evidence>,
     pub tables: Vec<Arc<Table>>,
-    pub offers: Vec<Offer>,
+    pub offers: Vec<StatementOffer>,
 }
 
 /// The tables of an opening without a fault, and no offer yet.

@@ -9,7 +9,7 @@ ghost use Rattle.ent_select.specs.Tables.{rows_in};
 
 use crate::Groundings;
 use crate::declared::Declared;
-use crate::operation::{Place, Stage, operation_finding};
+use crate::operation::{Stage, StatementPlace, operation_finding};
 use crate::replay_law::forms_run_as_statements;
 use ent_closing::{Environment, closed};
 use ent_form::{Catalogue, Plain, resolve};
@@ -61,7 +61,7 @@ pub(crate) fn transaction_finding(
     let mut environment = Environment::new(alloc);
     for (index, form) in forms.iter().enumerate() {
         let statement = closed(alloc, form, &environment)?;
-        let place = Place {
+        let place = StatementPlace {
             tx,
             place: index as u64 + 1,
         };

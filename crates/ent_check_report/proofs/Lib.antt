@@ -1,1 +1,3 @@
 pub mod Rules
+mod FoundThings
+mod Judged

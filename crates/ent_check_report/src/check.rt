@@ -1,5 +1,5 @@
 //! A whole check: bytes in, verdict out.
-ghost use Rattle.std.specs.Prelude.{◌≡◌, ◌≤◌, ◌<◌, ◌^◌, [], false, length, IfErr, IfOk, IfSome, OnOk, None};
+ghost use Rattle.std.specs.Prelude.{◌≡◌, ◌≤◌, ◌<◌, ℕ, List, [], false, length, IfErr, IfOk, IfSome, OnOk, None};
 ghost use Rattle.std.specs.Prelude.{Some};
 ghost use Rattle.std.specs.List.{AllByRecursion};
 ghost use Rattle.ent_check_report.specs.Fault.{is_read_fault};
@@ -9,17 +9,18 @@ ghost use Rattle.ent_check_report.specs.declared.fault.CheckFault.TheVariants.{T
 ghost use Rattle.ent_form.specs.Catalogue.{schemas_of};
 ghost use Rattle.ent_form.specs.OpeningFault.{opening_fault};
 ghost use Rattle.ent_form.specs.ScriptFaults.{script_faults};
-ghost use Rattle.ent_history.specs.Verdict.{first_finding, line_of};
+ghost use Rattle.ent_history.specs.Verdict.{first_finding};
 ghost use Rattle.ent_history.specs.declared.finding.Finding.{Finding};
+ghost use Rattle.ent_report_reader.specs.Located.{AreLinesOf, TellsOf};
 ghost use Rattle.ent_value.specs.Watched.{IsUnmarked};
 
 use crate::fault::CheckFault;
 use crate::first::first_finding;
+use crate::law::found_things_are_told;
 use crate::verdict::Verdict;
-use ent_check::line_of;
-use ent_history::{History, Rule};
-use ent_report_laws::{found_lines_fit, told_histories_are_formed};
-use ent_report_reader::read_report;
+use ent_history::Rule;
+use ent_report_laws::told_histories_are_formed;
+use ent_report_reader::{Report, read_report};
 use ent_stream::{StreamFault, read_whole};
 use ent_value::{Refusal, Watched};
 use std::alloc::{AllocError, Global};
@@ -46,19 +47,21 @@ pub fn read_text<R: Read>(alloc: Global, reader: &mut Watched<R>) -> Result<Vec<
     }
 }
 
-/// The verdict on what is told, where the line of what is found fits 64 bits.
-fn judge_history(alloc: Global, history: &History) -> Result<Verdict, AllocError>
-    requires formed { opening_fault history.now.opening ≡ None }
-    requires resolved { AllByRecursion (λ script. script_faults (schemas_of history.now.opening.tables) script ≡ [])
-        history.now.scripts }
-    requires fits { (finding : Finding) → first_finding history.now ≡ Some finding
-        → line_of history.now finding.thing < 2 ^ 64 }
-    ensures { IfOk result (λ verdict. IsVerdictOn history.now verdict) }
+/// The verdict on what is told, where the thing that is found is told.
+fn judge_told(alloc: Global, report: &Report) -> Result<Verdict, AllocError>
+    requires formed { opening_fault report.now.history.opening ≡ None }
+    requires resolved { let history = report.now.history in
+        AllByRecursion (λ script. script_faults (schemas_of history.opening.tables) script ≡ []) history.scripts }
+    requires told { (finding : Finding) → first_finding report.now.history ≡ Some finding
+        → TellsOf report.now.history finding.thing }
+    requires lines { (text : List ℕ) × AreLinesOf text report.now.history report.now.lines }
+    ensures { (text : List ℕ) → AreLinesOf text report.now.history report.now.lines
+        → IfOk result (λ verdict. IsVerdictOn text report.now.history verdict) }
 {
-    let Some(finding) = first_finding(alloc, history)? else {
+    let Some(finding) = first_finding(alloc, &report.history)? else {
         return Ok(Verdict::Yes);
     };
-    let Some(line) = line_of(history, finding.thing) else {
+    let Some(line) = report.line_of(finding.thing) else {
         unreachable!()
     };
     Ok(Verdict::No {
@@ -69,13 +72,12 @@ fn judge_history(alloc: Global, history: &History) -> Result<Verdict, AllocError
 
 /// The verdict on a text.
 fn judge(alloc: Global, text: &[u8]) -> Result<Verdict, AllocError>
-    requires { length text.now ≤ MOST_REPORT_BYTES }
     ensures { IfOk result (λ verdict. IsVerdict text.now verdict) }
 {
     told_histories_are_formed();
-    found_lines_fit();
+    found_things_are_told();
     match read_report(alloc, text)? {
-        Ok(history) => judge_history(alloc, &history),
+        Ok(report) => judge_told(alloc, &report),
         Err(line) => Ok(Verdict::No {
             line,
             rule: Rule::Form,
@@ -84,8 +86,8 @@ fn judge(alloc: Global, text: &[u8]) -> Result<Verdict, AllocError>
 }
 
 /// Judges a report in memory, of [`MOST_REPORT_BYTES`] at most: [`Verdict::Yes`] exactly where its text tells of a legal
-/// book, else the first rule that it breaks and the line that this rule names. It reads no stream, so no fault of one is
-/// answered.
+/// book, else the first rule that it breaks and the line of the text at which the thing stands that breaks it. It reads
+/// no stream, so no fault of one is answered.
 pub fn check_text(alloc: Global, text: &[u8]) -> Result<Verdict, CheckFault>
     ensures verdict { IfOk result (λ verdict. IsVerdict text.now verdict) }
     ensures limit { OnOk result (length text.now ≤ MOST_REPORT_BYTES) }

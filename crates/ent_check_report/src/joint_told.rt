@@ -104,7 +104,7 @@ fn first_left_out(history: &History, seats: &Seats, tx: u64) -> Option<u64> {
     None
 }
 
-/// Tells of the first transaction that committed, and an entangled statement of which is no member of a joint answer.
+/// Tells the first committed transaction that has an entangled statement which stands in no joint answer.
 pub(crate) fn tell_left_out(
     alloc: Global,
     page: &mut Page,

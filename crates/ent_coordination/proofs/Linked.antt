@@ -22,6 +22,14 @@ pub joined_back : (first second : Posted) → AreJoined first second → AreJoin
 joined_back first second (index, inl meets) = (index, inr meets)
 joined_back first second (index, inr meets) = (index, inl meets)
 
+-- one step more at the end
+pub linked_end : (pool : List Posted) (n : ℕ) (first last next : Posted) → AreLinkedIn n pool first last
+    → AreJoined last next → IsInRemainder pool next → AreLinkedIn (suc n) pool first next
+linked_end pool zero first last next same joined remains =
+    (next, subst (λ z. AreJoined z next) (sym same) joined, remains, refl)
+linked_end pool (suc n) first last next (middle, one, remain, rest) joined remains =
+    (middle, one, remain, linked_end pool n middle last next rest joined remains)
+
 linked_on : (n m : ℕ) (pool : List Posted) (first middle last : Posted)
     → AreLinkedIn n pool first middle → AreLinkedIn m pool middle last → AreLinked pool first last
 linked_on zero m pool first middle last h k = (m, subst (λ x. AreLinkedIn m pool x last) (sym h) k)

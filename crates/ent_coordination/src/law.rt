@@ -9,7 +9,7 @@ ghost use Rattle.ent_coordination.specs.Component.{IsComponent, IsIn, IsInRemain
 ghost use Rattle.ent_coordination.specs.Component.{SetOfTransactions};
 ghost use Rattle.ent_coordination.specs.Pool.{CanMeet, Posted};
 
-/// Each post of the remainder unifies with a head of the remainder, and every set of which that holds lies within it.
+/// In the remainder each post unifies with a head of the remainder. It is the greatest such set.
 #[tactic(auto, using(crate::proofs::Linked::within, crate::proofs::Linked::itself_supported))]
 pub fn remainder_is_the_greatest()
     ensures supported { (pool : List Posted) (asker : Posted) (index : ℕ) (post : Atom Value)

@@ -2,7 +2,6 @@
 use Rattle.std.proofs.Common.{◌≡◌, ◌<◌, ◌≤◌, ℕ, ◌+◌, false, Bool, List, [], ◌∷◌, ◌++◌, length, map, sym, ap, subst}
 use Rattle.std.proofs.Common.{◌∙◌, arith, nat_eq, length-append}
 use Rattle.std.specs.List.{AllByRecursion, IsDistinct}
-use Rattle.std.proofs.lemmas.Bool.Decides.{nat_tests}
 use Rattle.ent_tree.specs.declared.declaration.Opening.{Opening}
 use Rattle.ent_form.specs.declared.catalogue.TableSchema.{TableSchema}
 use Rattle.ent_protocol.specs.State.{State, Submitted, Dormant, Member, members}
@@ -12,6 +11,7 @@ use Rattle.ent_protocol_laws.specs.Attempts.{AsksForRun}
 use Rattle.ent_coordination.specs.Pool.{Posted}
 use Rattle.ent_tables.specs.Stored.{Stored}
 use Rattle.ent_lists.specs.Elements.{in_contains, in_first, in_second, to_all, to_map}
+use Rattle.ent_lists.proofs.Numbers.{eq_below}
 use Rattle.ent_protocol_laws.specs.Standing.{StandOnce, standing}
 use Rattle.ent_waits.specs.Pooled.{IsPoolOf}
 use Rattle.ent_core.specs.Store.{IsKept}
@@ -32,14 +32,11 @@ arrived_last most (own ∷ more) last all within = (all.0, arrived_last most mor
 abbrev numbers : List Dormant → List ℕ
 numbers dormant = map (λ own. own.tx) dormant
 
-apart : (n m : ℕ) → n < m → nat_eq n m ≡ false
-apart n m less = grind (arith, nat_tests)
-
 -- one that stood before the last stands there no more than once
 once_more : (n : ℕ) (dormant : List Dormant) (last : Dormant)
     → AllByRecursion (λ m. nat_eq n m ≡ false) (numbers dormant)
     → n < last.tx → AllByRecursion (λ m. nat_eq n m ≡ false) (numbers (dormant ++ last ∷ []))
-once_more n [] last all less = (apart n last.tx less, tt)
+once_more n [] last all less = (eq_below n last.tx less, tt)
 once_more n (own ∷ more) last all less = (all.0, once_more n more last all.1 less)
 
 distinct_last : (most : ℕ) (dormant : List Dormant) (last : Dormant) → AllByRecursion (IsWithin most) dormant

@@ -32,7 +32,7 @@ use Rattle.ent_waits.specs.Pooled.{IsPoolOf}
 use Rattle.ent_core.specs.Store.{IsKept}
 use Rattle.ent_tables.specs.Stored.{Stored}
 use Rattle.ent_waits.proofs.Moving.{free_at_end}
-use Rattle.ent_lists.specs.Elements.{contains_in, index_pairs}
+use Rattle.ent_lists.specs.Elements.{contains_in, index_pairs, neither}
 use Rattle.ent_protocol_laws.specs.ByNumber.{StandByNumber}
 use Rattle.ent_protocol_laws.specs.Numbered.{below_apart, one_of}
 use Rattle.ent_waits.specs.Free.{IsFree, IsIdle}
@@ -81,20 +81,13 @@ stands_at s members tx place member same at is =
     at.first member
     ∙ ap (λ (m : Member). Some m) (sym (is member ∙ ap (λ (ms : List Member). slice_index_or ms place member) same))
 
-pub or_first : (a b : Bool) → (a || b) ≡ false → a ≡ false
-or_first true b e = e
-or_first false b e = refl
-
-pub neither : (a b : Bool) → a ≡ false → b ≡ false → (a || b) ≡ false
-neither true b first second = first
-neither false b first second = second
+pub or_false : (a b : Bool) → a ≡ false → b ≡ false → (a || b) ≡ false
+or_false true b first second = first
+or_false false b first second = second
 
 pub either : (a b : Bool) → b ≡ true → (a || b) ≡ true
 either true b second = refl
 either false b second = second
-
-pub one_member : {A : Type 0} (x y : A) → Some x ≡ Some y → x ≡ y
-one_member x y e = cc
 
 abbrev absent_unless : Bool → Reply FormFault
 absent_unless b = if b then replies.NotNow else replies.Absent
@@ -122,7 +115,7 @@ pub unposted_at_turn : (s : State) (tx : ℕ) (member : Member) (next : Next) �
     → MayBegin s tx member next → IsUnposted s tx
 unposted_at_turn s tx member next stand may =
     one_unposted s tx member stand (member_found tx s.active member may.there)
-    (number_found tx s.active member may.there) (or_first member.posted (is_lent s member.tx) may.idle)
+    (number_found tx s.active member may.there) (neither member.posted (is_lent s member.tx) may.idle).0
 
 -- the member of a number is idle exactly where its number is
 pub idle_of : (s : State) (tx : ℕ) (member : Member) → active_member s tx ≡ Some member → IsIdle s member

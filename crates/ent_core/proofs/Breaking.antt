@@ -7,15 +7,15 @@ use Rattle.ent_protocol.specs.State.{State}
 use Rattle.ent_waits.specs.Victim.{IsVictim}
 use Rattle.ent_waits.specs.declared.victim.Victim.{Victim}
 
-pub broken : (F : Type 0) (s new : State) (found : Victim) (group : List ℕ) → IsVictim s found
-    → group ≡ group_numbers s found.group → new ≡ rolled_back found.group NoOne s
-    → BreaksIfAny {F = F} s (replies.Broken found.cycle group) new
-broken F s new found group is numbers state =
+pub broken : (F : Type 0) (s new : State) (found : Victim) (cycle group : List ℕ) → IsVictim s found
+    → cycle ≡ found.cycle → group ≡ group_numbers s found.group → new ≡ rolled_back found.group NoOne s
+    → BreaksIfAny {F = F} s (replies.Broken cycle group) new
+broken F s new found cycle group is told numbers state =
     inl (record {
       cycle = found.cycle;
       deadlock = is.deadlock;
       victim = is.victim;
       is_victim = is.is_victim;
-      replies = ap (λ (all : List ℕ). replies.Broken found.cycle all) (numbers ∙ ap (group_numbers s) is.group);
+      replies = λ i. replies.Broken (told i) ((numbers ∙ ap (group_numbers s) is.group) i);
       is = state ∙ ap (λ (g : ℕ). rolled_back g NoOne s) is.group;
     })

@@ -1,11 +1,12 @@
 -- A result of one statement: what the laws say of its job, and what is made of it.
 use Rattle.std.proofs.Common.{◌≡◌, ◌<◌, ◌∙◌, ◌==◌, ◌||◌, ℕ, zero, suc, Bool, true, false, cond, List, [], ◌∷◌, length}
-use Rattle.std.proofs.Common.{map, refl, sym, ap, subst, arith, rules, Option, Some, None}
+use Rattle.std.proofs.Common.{map, refl, sym, ap, subst, arith, rules, Some, None}
 use Rattle.std.specs.Prelude.{All, Contains, IsSome, slice_get, slice_index_or}
 use Rattle.std.specs.List.{AllByRecursion, filter}
 use Rattle.std.proofs.lemmas.Bool.Decides.{nat_tests}
-use Rattle.std.proofs.lemmas.Option.{slice_get_within}
+use Rattle.std.proofs.lemmas.Option.{slice_get_within, same_Some}
 use Rattle.ent_lists.specs.Sets as set
+use Rattle.ent_lists.proofs.Options.{some_value}
 use Rattle.ent_value.specs.declared.value.Value.{Value}
 use Rattle.ent_semantics.specs.FormKinds.{changed_tables}
 use Rattle.ent_semantics.specs.declared.statement.Statement.{Statement}
@@ -45,7 +46,7 @@ use Rattle.ent_core.specs.declared.finish.Carried.TheVariants as carried
 use Rattle.ent_core.specs.Begin.{IsUnposted}
 use Rattle.ent_coordination.specs.Pool.{Posted}
 use Rattle.ent_waits.specs.Pooled.{IsPoolOf}
-use Rattle.ent_core.proofs.Begun.{number_found, one_unposted, one_member}
+use Rattle.ent_core.proofs.Begun.{number_found, one_unposted}
 use Rattle.ent_core.proofs.Pooled.{kept_changing}
 
 -- ---- the member of a statement
@@ -73,10 +74,6 @@ is_found tx members member c own = at members c.0 c.1 c.2
     at [] k low e = absurd (omega (arith, low))
     at (x ∷ xs) zero low e = here (is_tx tx x) x xs (itself x e)
     at (x ∷ xs) (suc k) low e = behind (is_tx tx x) x xs (at xs k (omega (arith, low)) e)
-
-pub the_found : {A : Type 0} (o : Option A) → IsSome o → (x : A) × (o ≡ Some x)
-the_found (Some x) there = (x, refl)
-the_found None there = absurd cc
 
 -- ---- the change that it tells
 
@@ -253,7 +250,7 @@ contains_at jobs index job there = (index, slice_get_within jobs index job there
   where
     at : (xs : List Job) (k : ℕ) → slice_get xs k ≡ Some job → slice_index_or xs k job ≡ job
     at [] k e = let none : None ≡ Some job = e in absurd cc
-    at (x ∷ xs) zero e = one_member x job e
+    at (x ∷ xs) zero e = same_Some x job e
     at (x ∷ xs) (suc k) e = at xs k e
 
 -- its member is there
@@ -290,7 +287,7 @@ pub accepted : (s : State) (done : Done) (single : Single) (index : ℕ) (outcom
     → (reply : Reply FormFault) × IsReplyTo outcome how reply × CarriesOut s index single outcome reply new
     → Accepts s done (Some how) new
 accepted s done single index outcome how new meant there work out is (reply, replied, carried) =
-    let m = the_found (active_member s single.tx) out in
+    let m = some_value (active_member s single.tx) out in
     let h = carried done.job m.0 there m.1 in
     let P : Outcome → Type 0 =
     λ o. FinishesBy {F = FormFault} (record s { lent = h.0 }) m.0 single.statement o reply new in

@@ -1,13 +1,14 @@
 -- Results of joint jobs that are outstanding.
-use Rattle.std.proofs.Common.{◌≡◌, ◌<◌, ℕ, suc, false, List, [], ◌∷◌, length, map, refl, sym}
-use Rattle.std.proofs.Common.{ap, subst, arith, nat_eq, Option, Some, None, slice_get, slice_index_or}
+use Rattle.std.proofs.Common.{◌≡◌, ◌<◌, ℕ, suc, false, List, [], ◌∷◌, length, map, sym}
+use Rattle.std.proofs.Common.{subst, arith, nat_eq, Option, Some, None, slice_get, slice_index_or}
 use Rattle.std.specs.Prelude.{AllPairs, IfSome}
 use Rattle.std.specs.List.{AllByRecursion, IsDistinct}
-use Rattle.std.proofs.lemmas.Bool.Decides.{nat_tests}
+use Rattle.ent_lists.proofs.Numbers.{eq_below}
 use Rattle.ent_semantics.specs.Entangled.{Valuation}
 use Rattle.ent_semantics.specs.Form.{Tables}
-use Rattle.ent_coordination.specs.Choice.{AreGroundings, IsLeastChoiceIfAny}
+use Rattle.ent_coordination.specs.Choice.{IsLeastChoiceIfAny}
 use Rattle.ent_coordination.specs.Pool.{Posted}
+use Rattle.ent_coordination.proofs.Grounded.{groundings_counted}
 use Rattle.ent_form.specs.declared.fault.FormFault.{FormFault}
 use Rattle.ent_protocol.specs.Event.{Reply}
 use Rattle.ent_protocol.specs.Job.{Choice, Done, IsEvaluated, IsOutcome, Joint, Outcome, Work}
@@ -15,14 +16,6 @@ use Rattle.ent_protocol.specs.Job.{tables_of}
 use Rattle.ent_protocol.specs.PoolEvents.{IsPresentComponent, Joins}
 use Rattle.ent_protocol.specs.State.{State}
 use Rattle.ent_core.specs.Joining.{AnswersAt}
-
-groundings_counted : (tables : Tables) (members : List Posted) (groundings : List Valuation)
-    → AreGroundings tables members groundings → length groundings ≡ length members
-groundings_counted tables [] [] are = refl
-groundings_counted tables [] (values ∷ more) are = absurd are
-groundings_counted tables (member ∷ members) [] are = absurd are
-groundings_counted tables (member ∷ members) (values ∷ more) are =
-    ap suc (groundings_counted tables members more are.1)
 
 choice_counted : (tables : Tables) (asked : List Posted) (choice : Option (List Valuation))
     → IsLeastChoiceIfAny tables asked choice
@@ -39,16 +32,13 @@ one_grounding_each done asked choice work is meant =
     (subst (λ (own : Outcome). IsOutcome (Joint asked) (tables_of done.job.tables) own) (sym is)
     (subst (λ (own : Work). IsOutcome own (tables_of done.job.tables) done.outcome) (sym work) meant))
 
-apart : (n m : ℕ) → n < m → nat_eq n m ≡ false
-apart n m less = grind (arith, nat_tests)
-
 none_again : (tx : ℕ) (asked : List Posted)
     → ((k : ℕ) (d : Posted) → k < length asked → tx < (slice_index_or asked k d).tx)
     → AllByRecursion (λ n. nat_eq tx n ≡ false) (map (λ (query : Posted). query.tx) asked)
 none_again tx [] all = tt
 none_again tx (query ∷ asked) all =
     let less : tx < query.tx = all 0 query (omega arith) in
-    (apart tx query.tx less, none_again tx asked (λ k d within. all (suc k) d (omega arith)))
+    (eq_below tx query.tx less, none_again tx asked (λ k d within. all (suc k) d (omega arith)))
 
 -- statements that come by number are of distinct transactions
 pub distinct_by_number : (asked : List Posted)

@@ -13,6 +13,7 @@ pub mod Obstacles
 pub mod OnePlace
 pub mod Opening
 pub mod Outstanding
+pub mod Packing
 pub mod Picked
 pub mod Playing
 pub mod Pooled

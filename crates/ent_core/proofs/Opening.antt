@@ -1,16 +1,12 @@
 -- A core that is opened.
-use Rattle.std.proofs.Common.{◌≡◌, false, List, [], map, refl, sym, ap, ◌∙◌, Option, Some, None, Ok, flat_map}
-use Rattle.std.proofs.lemmas.Simd.{map-map}
+use Rattle.std.proofs.Common.{◌≡◌, false, List, [], refl, sym, ap, ◌∙◌, Option, Some, None, Ok, flat_map}
 use Rattle.std.specs.List.{IsDistinct}
-use Rattle.ent_tree.specs.declared.declaration.Create.{Create}
 use Rattle.ent_tree.specs.declared.declaration.Opening.{Opening}
-use Rattle.ent_semantics.specs.Database.{opening_database}
 use Rattle.ent_form.specs.declared.catalogue.TableSchema.{TableSchema}
 use Rattle.ent_form.specs.declared.fault.FormFault.{FormFault}
 use Rattle.ent_form.specs.Catalogue.{schemas_of}
 use Rattle.ent_form.specs.OpeningFault.{opening_fault, unless}
-use Rattle.ent_form_laws.specs.Opened.{opening_tables}
-use Rattle.ent_protocol.specs.Reached.{opened, table_names}
+use Rattle.ent_protocol.specs.Reached.{opened}
 use Rattle.ent_protocol.specs.Member.{posted_by}
 use Rattle.ent_protocol.specs.State.{State, Submitted, Member}
 use Rattle.ent_run.specs.Run.{Run}
@@ -55,10 +51,6 @@ kept_opened_store opening schemas submitted transaction_table run stored posted 
           ap (λ (ms : List Member). flat_map (posted_by s) ms) (of_active ∙ no_active) ∙ sym no_posts;
     } in
     rw (none, empty) first
-
--- the tables of an opening stand under their names
-pub tables_opened : (opening : Opening) → opening_tables opening ≡ map (opening_database opening) (table_names opening)
-tables_opened opening = sym (map-map (opening_database opening) (λ (create : Create). create.name.name) opening.tables)
 
 -- the first state, or the first fault
 pub opened_store : (opening : Opening) (schemas : List TableSchema) (s : State)

@@ -1,10 +1,10 @@
 -- Results that aren't outstanding.
-use Rattle.std.proofs.Common.{◌≡◌, ◌∙◌, ℕ, List, [], Option, Some, None, ap, refl, subst, sym, slice_get}
+use Rattle.std.proofs.Common.{◌≡◌, ◌∙◌, ℕ, List, Option, Some, None, ap, refl, subst, sym, slice_get}
 use Rattle.std.specs.Prelude.{IfSome, IsNone}
 use Rattle.ent_coordination.specs.Pool.{Posted}
 use Rattle.ent_protocol.specs.Finish.{IsOutstandingSingle, IsTaken}
 use Rattle.ent_core.specs.Finish.{StandsAt}
-use Rattle.ent_protocol.specs.Job.{Job, Done, One, Joint, Single, Work}
+use Rattle.ent_protocol.specs.Job.{Job, Done, One, Joint, Single}
 use Rattle.ent_protocol.specs.State.{State}
 
 pub joint_not_single : (job : Job) (asked : List Posted) → Joint asked ≡ job.work → (s : State) (done : Done)
@@ -27,11 +27,3 @@ pub stands_at : (s : State) (done : Done) (place : Option ℕ)
     → StandsAt s done place
 stands_at s done (Some index) there single none = (there, single)
 stands_at s done None there single none = none refl
-
--- joint work is of one list of statements
-pub same_asked : (mine theirs : List Posted) → Joint mine ≡ Joint theirs → mine ≡ theirs
-same_asked mine theirs same = ap asked_by same
-  where
-    asked_by : Work → List Posted
-    asked_by (Joint asked) = asked
-    asked_by (One single) = []

@@ -75,9 +75,9 @@ taken opening script s reply new room step none = by (nat_le MOST_SCRIPTS (lengt
         taken_form opening script s reply new (resolved_forms.resolve s.opening script) refl step none
 
 -- as many were submitted as there are scripts
-long : (opening : Opening) (scripts : List Script) (s : State) → AreSubmitted opening scripts s
+pub as_many_submitted : (opening : Opening) (scripts : List Script) (s : State) → AreSubmitted opening scripts s
     → length s.submitted ≡ length scripts
-long opening scripts s h = sym (length-map s.submitted (λ own. own.script)) ∙ ap length h.of_scripts
+as_many_submitted opening scripts s h = sym (length-map s.submitted (λ own. own.script)) ∙ ap length h.of_scripts
 
 pub none_submitted : (s : State) → s ≡ opened s.opening → AreSubmitted s.opening [] s
 none_submitted s fresh = record { gathered = fresh; of_opening = refl; of_scripts = ap scripts_of fresh }
@@ -87,7 +87,7 @@ module _ (opening : Opening) (scripts : List Script) (script : Script) (s new : 
     (step : Step resolved_forms s (Submit script) reply new) (none : fault_in reply ≡ None) where
   of_it : Taken opening script s reply new
   of_it =
-      let e = long opening scripts s h in
+      let e = as_many_submitted opening scripts s h in
       taken opening script s reply new (omega (arith, e, room)) step none
 
   pub one_submitted : AreSubmitted opening (scripts ++ script ∷ []) new
@@ -107,7 +107,7 @@ module _ (opening : Opening) (scripts : List Script) (script : Script) (s new : 
       longer = let e = length-append scripts (script ∷ []) in omega (arith, e)
 
       number : reply ≡ Submitted (suc (length scripts))
-      number = of_it.number ∙ ap (λ n. Submitted (suc n)) (long opening scripts s h)
+      number = of_it.number ∙ ap (λ n. Submitted (suc n)) (as_many_submitted opening scripts s h)
 
   pub one_clean : scripts_fault opening scripts ≡ None → scripts_fault opening (scripts ++ script ∷ []) ≡ None
   one_clean clean =

@@ -8,7 +8,7 @@ use Rattle.ent_semantics.specs.declared.entangled.Entangled.{Entangled}
 use Rattle.ent_coordination.specs.Pool.{IsFirstUnsafe, IsSafe, Posted, Unsafe}
 use Rattle.ent_form.specs.declared.fault.FormFault.{FormFault}
 use Rattle.ent_lists.specs.Elements.{In, clash, contains_in, in_contains, in_either, in_first, in_second, index_pairs}
-use Rattle.ent_lists.specs.Elements.{not_so, number_itself, of_filter, pairs_filtered, same_number, to_filter}
+use Rattle.ent_lists.specs.Elements.{not_so, number_itself, of_filter, pairs_filtered, same_number, to_filter, neither}
 use Rattle.ent_match.specs.Fault.{IsByNumber}
 use Rattle.ent_match.specs.Posting.{Adds, HasNone, IsPostedTo, IsWhyWith, is_of_other}
 use Rattle.ent_match.specs.declared.fault.PostFault.{PostFault}
@@ -32,7 +32,7 @@ use Rattle.ent_waits.specs.Free.{IsFree}
 use Rattle.ent_core.specs.Begin.{IsToPost, IsUnposted}
 use Rattle.ent_core.specs.Reply.{reply_seen}
 use Rattle.ent_core.specs.declared.reply.Reply.{Reply as Given}
-use Rattle.ent_core.proofs.Begun.{entangled_held, entangled_posted, member_found, number_found, or_first, some_found}
+use Rattle.ent_core.proofs.Begun.{entangled_held, entangled_posted, member_found, number_found, some_found}
 use Rattle.ent_core.proofs.Begun.{unposted_at_turn}
 use Rattle.ent_core.proofs.Pooled.{kept_posted}
 
@@ -172,7 +172,7 @@ module _ (s : State) (tx : ℕ) (query : Posted) (plan : IsToPost s tx query) wh
     posted_kept stand old new are posted =
         kept_posted s.submitted s.active old are plan.member query.statement active' new changed stand.active
         (member_found tx s.active plan.member plan.may.there)
-        (or_first plan.member.posted (is_lent s plan.member.tx) plan.may.idle) plan.may.is_next
+        (neither plan.member.posted (is_lent s plan.member.tx) plan.may.idle).0 plan.may.is_next
         (subst (Adds old new) plan.is posted.adds) posted.by_number
 
     pub replied_posted : ((those other : List Posted) → SameStatements those other → IsSafe those → IsSafe other)

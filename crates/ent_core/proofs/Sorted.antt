@@ -6,6 +6,8 @@ use Rattle.std.specs.List.{AllByRecursion, IsDistinct, filter, list_any}
 use Rattle.std.proofs.lemmas.Bool.Decides.{nat_tests}
 use Rattle.std.proofs.lemmas.List.Elements.{All-head, All-tail}
 use Rattle.ent_lists.specs.Elements.{number_itself, other_number, same_number}
+use Rattle.ent_lists.proofs.Lists.{pairs_head, pairs_tail}
+use Rattle.ent_lists.proofs.Truth.{or_swap}
 use Rattle.ent_members.specs.Order.{tx_of}
 use Rattle.ent_protocol.specs.Rollback.{is_among}
 use Rattle.ent_protocol.specs.State.{Member, by_number, inserted}
@@ -62,12 +64,6 @@ distinct_if_once (x ∷ xs) low = (nowhere x xs (first (low x)), distinct_if_onc
     rest : (n : ℕ) → one_if (nat_eq x n) (times n xs) ≤ 1 → times n xs ≤ 1
     rest n le = let more = one_more (nat_eq x n) (times n xs) in omega (arith, le, more)
 
-pairs_head : {X : Type 0} (R : X → X → Type 0) (x : X) (xs : List X) → AllPairs R (x ∷ xs) → All (R x) xs
-pairs_head R x xs all = λ k d lt. all 0 (suc k) d (omega arith) (omega arith)
-
-pairs_tail : {X : Type 0} (R : X → X → Type 0) (x : X) (xs : List X) → AllPairs R (x ∷ xs) → AllPairs R xs
-pairs_tail R x xs all = λ i j d below lt. all (suc i) (suc j) d (omega arith) (omega arith)
-
 all_apart : (n : ℕ) (xs : List ℕ) → All (λ m. n ≢ m) xs → AllByRecursion (λ m. nat_eq n m ≡ false) xs
 all_apart n [] all = tt
 all_apart n (x ∷ xs) all =
@@ -110,12 +106,6 @@ pub all_by_number : (P : Member → Type 0) (ms : List Member) → AllByRecursio
 all_by_number P [] all = tt
 all_by_number P (m ∷ ms) all = all_inserted P m (by_number tx_of ms) all.0 (all_by_number P ms all.1)
 
-or_swapped : (a b c : Bool) → (a || (b || c)) ≡ (b || (a || c))
-or_swapped true true c = refl
-or_swapped true false c = refl
-or_swapped false true c = refl
-or_swapped false false c = refl
-
 any_inserted : (p : Member → Bool) (m : Member) (ms : List Member)
     → list_any p (inserted tx_of m ms) ≡ (p m || list_any p ms)
 any_inserted p m [] = refl
@@ -124,7 +114,7 @@ any_inserted p m (o ∷ os) = by (nat_lt m.tx o.tx) (any_inserted p m os)
     by : (b : Bool) → list_any p (inserted tx_of m os) ≡ (p m || list_any p os)
         → list_any p (cond b (m ∷ o ∷ os) (o ∷ inserted tx_of m os)) ≡ (p m || (p o || list_any p os))
     by true e = refl
-    by false e = ap (λ b. p o || b) e ∙ or_swapped (p o) (p m) (list_any p os)
+    by false e = ap (λ b. p o || b) e ∙ or_swap (p o) (p m) (list_any p os)
 
 any_by_number : (p : Member → Bool) (ms : List Member) → list_any p (by_number tx_of ms) ≡ list_any p ms
 any_by_number p [] = refl

@@ -12,6 +12,7 @@ use Rattle.ent_members.specs.declared.run_attempts.RunAttempt.{RunAttempt}
 use Rattle.ent_members.specs.RunAttempts.{run_attempt_of, numbers_in, run_attempts_in}
 use Rattle.ent_members.specs.Order.{tx_of}
 use Rattle.ent_run.specs.Run.{Run}
+use Rattle.ent_run.proofs.Moved.{among_if}
 use Rattle.ent_members.proofs.ByNumber.{every_run_attempt, group_run_attempts, run_attempt_numbers}
 use Rattle.ent_protocol.specs.Job.{Job, Work, One, Joint}
 use Rattle.ent_protocol.specs.Rollback.{Cause, dormant_by, fated_by, goes_with, is_among, is_joint_of}
@@ -34,7 +35,7 @@ use Rattle.ent_waits.specs.Pooled.{IsPoolOf}
 use Rattle.ent_core.specs.Store.{IsKept}
 use Rattle.ent_core.specs.TakeOut.{MayLeave, is_joint_of_others}
 use Rattle.ent_core.proofs.Sorted.{all_by_number, among_by_number, distinct_if_apart, distinct_if_once}
-use Rattle.ent_core.proofs.Sorted.{once, times_filter}
+use Rattle.ent_core.proofs.Sorted.{once}
 
 -- ---- who goes to the dormant list
 
@@ -165,15 +166,11 @@ pub numbers_leaving : (numbers : List ℕ) (run_attempts : List RunAttempt) (ms 
     → run_attempts ≡ map run_attempt_of ms → numbers ≡ map tx_of ms
 numbers_leaving numbers run_attempts ms is of_members = is ∙ ap numbers_in of_members ∙ run_attempt_numbers ms
 
-any_number : (ms : List Member) (tx : ℕ) → list_any (λ n. n == tx) (map tx_of ms) ≡ is_among ms tx
-any_number [] tx = refl
-any_number (m ∷ ms) tx = ap (λ b. (m.tx == tx) || b) (any_number ms tx)
-
 pub joints_left : (numbers : List ℕ) (ms : List Member) (joints : List JointAnswer) → numbers ≡ map tx_of ms
     → filter (is_joint_of_others numbers) joints ≡ filter (λ joint. not (is_joint_of ms joint)) joints
 joints_left numbers ms joints is =
     ap (λ ns. filter (is_joint_of_others ns) joints) is
-    ∙ (λ i. filter (λ joint. not (list_any (λ member. any_number ms member.tx i) joint.members)) joints)
+    ∙ (λ i. filter (λ joint. not (list_any (λ member. among_if ms member.tx i) joint.members)) joints)
 
 goes_same : (gone : List Member) (job : Job) → goes_with (by_number tx_of gone) job ≡ goes_with gone job
 goes_same gone job = by job.work refl
@@ -329,14 +326,6 @@ members_are_distinct s stand =
     let joined = times_joined n (map tx_of (members s)) (waiting s.dormant ++ map (λ (fated : Fated). fated.tx)
     s.fates) in
     omega (arith, all, joined))
-
-pub part_is_distinct : (p : Member → Bool) (ms : List Member) → IsDistinct nat_eq (map tx_of ms)
-    → IsDistinct nat_eq (map tx_of (filter p ms))
-part_is_distinct p ms distinct =
-    distinct_if_once (map tx_of (filter p ms)) (λ n.
-    let low = once (map tx_of ms) distinct n in
-    let few = times_filter n p ms in
-    omega (arith, low, few))
 
 -- ---- nobody is left
 

@@ -26,9 +26,9 @@ use ent_group::Tx;
 use ent_headline::{begun_statements_are_work, used_tables_are_declared};
 use ent_job::{Job, Single, Work};
 use ent_match::{PostFault, Posted, same_statements_are_alike};
-use ent_members::{Cause, Member, Next, Uses, entangled_uses, statement_uses};
+use ent_members::{Cause, Next, RunMember, Uses, entangled_uses, statement_uses};
 use ent_protocol_laws::{
-    attempts_stay_within, members_stand_by_number, transactions_are_counted,
+    attempts_stay_within, members_stand_by_number, scripts_are_few, transactions_are_counted,
     transactions_stand_once,
 };
 use ent_semantics::{Entangled, Statement};
@@ -77,7 +77,7 @@ impl FreeMember {
     }
 
     /// The member itself.
-    pub(crate) fn member(self, store: &Store) -> Member<'_>
+    pub(crate) fn member(self, store: &Store) -> RunMember<'_>
         requires { IsFreeMember store.now self }
         ensures there { active_member store.now self.tx ≡ Some result }
         ensures number { result.tx ≡ self.tx }
@@ -88,7 +88,7 @@ impl FreeMember {
 }
 
 /// What a member does next.
-pub(crate) fn next_of(store: &Store, member: &Member) -> Result<Next, AllocError>
+pub(crate) fn next_of(store: &Store, member: &RunMember) -> Result<Next, AllocError>
     ensures next { IfOk result (λ next. next_seen next ≡ next_of store.now member.now) }
     ensures rolls_back { next_of store.now member.now ≡ RollsBack → IsOk result }
 {
@@ -96,7 +96,7 @@ pub(crate) fn next_of(store: &Store, member: &Member) -> Result<Next, AllocError
 }
 
 /// The job of an ordinary statement that nobody blocks.
-fn job_of(store: &Store, member: &Member, statement: Statement<Value>) -> Result<Job, AllocError>
+fn job_of(store: &Store, member: &RunMember, statement: Statement<Value>) -> Result<Job, AllocError>
     requires kept { IsKeptState store.now }
     requires next { MayBegin store.now member.now.tx member.now (Ordinary statement) }
     requires unblocked { blocker store.now member.now (statement_uses statement) ≡ None }
@@ -115,7 +115,7 @@ fn job_of(store: &Store, member: &Member, statement: Statement<Value>) -> Result
 }
 
 /// A member's statement, as it is to be posted.
-pub(crate) fn query_of(member: &Member, statement: Arc<Entangled<Value>>) -> Posted
+pub(crate) fn query_of(member: &RunMember, statement: Arc<Entangled<Value>>) -> Posted
     ensures { result ≡ posted_as member.now (arc_value statement) }
 {
     let place = member.place() as u64;
@@ -124,7 +124,7 @@ pub(crate) fn query_of(member: &Member, statement: Arc<Entangled<Value>>) -> Pos
 
 /// The least member that blocks what a member does next. It takes no memory, so that it is asked for before
 /// the statement is closed.
-fn blocker_of(store: &Store, member: &Member) -> Option<Tx>
+fn blocker_of(store: &Store, member: &RunMember) -> Option<Tx>
     ensures { result ≡ blocker store.now member.now (next_uses (next_of store.now member.now)) }
 {
     ent_waits::blocker_of(&store.run, store.submitted.as_slice(), member)
@@ -261,11 +261,13 @@ pub(crate) fn begin_free(store: &mut Store, found: FreeMember) -> Result<Reply, 
     ensures rolls_back { (member : Member) → active_member store.old found.tx ≡ Some member
         → next_of store.old member ≡ RollsBack → IsOk result }
 {
-    // Laws: there is room for those who leave, each stands once, and each asked for the run that it leaves.
+    // Laws: there is room for those who leave, each stands once, and each asked for the run that it leaves; numbers are
+    // small.
     members_stand_by_number::<FormFault>();
     transactions_are_counted::<FormFault>();
     attempts_stay_within::<FormFault>();
     transactions_stand_once::<FormFault>();
+    scripts_are_few::<FormFault>();
     store.asks_for_runs();
     let member = found.member(store);
     match next_of(store, &member)? {

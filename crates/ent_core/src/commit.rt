@@ -8,8 +8,10 @@ ghost use Rattle.ent_protocol.specs.Commit.{entry_of, is_ready, preparing};
 ghost use Rattle.ent_protocol.specs.Member.{active_member};
 ghost use Rattle.ent_protocol.specs.State.{Member as Seen, members};
 ghost use Rattle.ent_protocol_laws.specs.Attempts.{StayWithin};
+ghost use Rattle.ent_tree.specs.declared.limits.TheConstants.{MOST_SCRIPTS};
 
 use crate::begin::FreeMember;
+use crate::packed_members::PackedMembers;
 use crate::reply::Reply;
 use crate::store::Store;
 use ent_group::MOST_MEMBERS;
@@ -42,22 +44,25 @@ pub(crate) fn commit(store: &mut Store, found: FreeMember) -> Result<Reply, Allo
     requires counted { length store.old.fates + length store.old.dormant + length (members store.old)
         ≡ length store.old.submitted }
     requires within { StayWithin store.old }
+    requires few { length store.old.submitted ≤ MOST_SCRIPTS }
     ensures ok { IfOk result (λ reply. (member : Seen) → active_member store.old found.tx ≡ Some member
         → BeginsCommit (preparing store.old member) member.group (is_ready (preparing store.old member) member.group)
         (reply_seen reply) store.new) }
     ensures err { OnErr result (store.new ≡ store.old) }
 {
     let group = found.member(store).group();
-    let room = Vec::with_capacity(store.alloc, MOST_MEMBERS)?;
+    let most = store.run.prepared_len() + 1;
+    let room = Vec::with_capacity(store.alloc, most)?;
     store.journal.reserve(MOST_MEMBERS)?;
     store.run.prepare_at(found.place)?;
     let Some(mut committed) = store.run.commit(group, room) else {
         return Ok(Reply::Prepared);
     };
-    let members = member_numbers(committed.as_slice());
+    let numbers = member_numbers(committed.as_slice());
     let first = store.journal.len() as u64 + 1;
     store.transaction_table.commit(first, committed.as_slice());
-    store.tables.settle(&members);
+    store.tables.settle(&numbers);
     enter(&mut store.journal, &mut committed);
+    let members = PackedMembers::of(&numbers);
     Ok(Reply::Committed { first, members })
 }

@@ -9,7 +9,10 @@ use crate::reply::Reply;
 use crate::store::Store;
 use crate::take_out::end;
 use ent_form::FormFault;
-use ent_protocol_laws::{attempts_stay_within, transactions_are_counted, transactions_stand_once};
+use ent_protocol_laws::{
+    attempts_stay_within, scripts_are_few, transactions_are_counted, transactions_stand_once,
+};
+use ent_tree::Boxed;
 use ent_waits::{Reason, reason_of};
 use std::alloc::AllocError;
 
@@ -36,11 +39,15 @@ pub(crate) fn end_run(store: &mut Store) -> Result<Reply, AllocError>
     transactions_are_counted::<FormFault>();
     transactions_stand_once::<FormFault>();
     attempts_stay_within::<FormFault>();
+    scripts_are_few::<FormFault>();
     if !store.running {
         return Ok(Reply::NotNow);
     }
     match reason_now(store)? {
-        Some(why) => Ok(Reply::Busy(why)),
+        Some(why) => {
+            let reason = Boxed::new(store.alloc, why)?;
+            Ok(Reply::Busy(reason))
+        }
         None => {
             let members = end(store);
             Ok(Reply::Ended(members))

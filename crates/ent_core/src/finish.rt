@@ -18,18 +18,18 @@ ghost use Rattle.ent_semantics.specs.declared.answer.Failure.{Failure};
 ghost use Rattle.ent_value.specs.declared.refusal.Refusal.TheVariants.{Fault};
 
 use crate::advance::{bind, change, show};
+use crate::packed_members::PackedMembers;
 use crate::reply::Reply;
 use crate::store::Store;
 use crate::take_out::roll_back;
 use ent_effect::Outcome;
 use ent_eval::{Done, JobOutcome};
 use ent_form::FormFault;
-use ent_group::Members;
 use ent_headline::{resolved_jobs_are_present, used_tables_are_declared};
 use ent_job::{Job, LentJobs, Single, Work};
 use ent_members::Cause;
 use ent_protocol_laws::{
-    attempts_stay_within, lent_tables_are_declared, members_stand_by_number,
+    attempts_stay_within, lent_tables_are_declared, members_stand_by_number, scripts_are_few,
     transactions_are_counted, transactions_stand_once,
 };
 use ent_run::Run;
@@ -51,16 +51,16 @@ pub(crate) fn outstanding(lent: &LentJobs, job: &Job) -> Option<usize>
     }
 }
 
-/// The same where just this job is lent: no tables are compared.
-fn outstanding_alone(lent: &LentJobs, job: &Job) -> Option<usize>
-    requires { lent.now ≡ job.now ∷ [] }
+/// The same where the job is known to stand at an index: no tables are compared.
+fn outstanding_at(lent: &LentJobs, index: usize, job: &Job) -> Option<usize>
+    requires { slice_get lent.now index ≡ Some job.now }
     ensures some { IfSome result (λ index. slice_get lent.now index ≡ Some job.now) }
     ensures single { IfSome result (λ index. (single : jobs.Single) × (job.now.work ≡ jobs.One single)) }
     ensures none { IsNone result → (s : State) (done : jobs.Done) → s.lent ≡ lent.now → done.job ≡ job.now
         → IsOutstandingSingle s done → ⊥ }
 {
     match job.work() {
-        Work::One(_) => Some(0),
+        Work::One(_) => Some(index),
         Work::Joint(_) => None,
     }
 }
@@ -69,7 +69,7 @@ fn outstanding_alone(lent: &LentJobs, job: &Job) -> Option<usize>
 #[derive(Drop)]
 pub(crate) enum Carried {
     Stepped,
-    Failed(Failure, Members),
+    Failed(Failure, PackedMembers),
 }
 
 /// The member of a statement goes on with what the statement comes to. Where this is a failure, and where memory runs
@@ -105,7 +105,7 @@ fn advance(
 
 /// The statement of a lent job fails: the job is lent no more, and the group of its member, which it tells by number,
 /// is rolled back. It takes no memory.
-fn fail(store: &mut Store, index: usize, single: &Single, failure: Failure) -> Members
+fn fail(store: &mut Store, index: usize, single: &Single, failure: Failure) -> PackedMembers
     requires kept { IsKeptState store.old }
     requires lent { index < length store.old.lent }
     requires there { IsSome (active_member store.old single.now.tx) }
@@ -115,9 +115,10 @@ fn fail(store: &mut Store, index: usize, single: &Single, failure: Failure) -> M
     transactions_are_counted::<FormFault>();
     transactions_stand_once::<FormFault>();
     attempts_stay_within::<FormFault>();
+    scripts_are_few::<FormFault>();
     let tx = single.tx();
     let Some(member) = store.run.active_member(tx) else {
-        return Members::new();
+        return PackedMembers::new();
     };
     let group = member.group();
     store.lent.take(index);
@@ -234,15 +235,19 @@ pub(crate) fn finish(store: &mut Store, done: Done) -> Result<Reply, AllocFailed
     take(store, place, done)
 }
 
-/// The same where just this job is lent: no tables are compared.
-pub(crate) fn finish_at_once(store: &mut Store, done: Done) -> Result<Reply, AllocFailed<Done>>
+/// The same where the job is known to stand at an index: no tables are compared.
+pub(crate) fn finish_at(
+    store: &mut Store,
+    index: usize,
+    done: Done,
+) -> Result<Reply, AllocFailed<Done>>
     requires kept { IsKeptState store.old }
-    requires alone { store.old.lent ≡ done.job ∷ [] }
+    requires there { slice_get store.old.lent index ≡ Some done.job }
     ensures ok { IfOk result (λ reply. Finishes store.old done (reply_seen reply) store.new) }
     ensures err { OnErr result (store.new ≡ store.old) }
     ensures returned { IfErr result (λ refused. refused.value ≡ done) }
     ensures failure { (failure : Failure) → done.outcome ≡ jobs.Fault failure → IsOk result }
 {
-    let place = outstanding_alone(&store.lent, done.job());
+    let place = outstanding_at(&store.lent, index, done.job());
     take(store, place, done)
 }

@@ -78,6 +78,23 @@ fn settle(store: &mut Store, index: usize, done: &Done) -> Result<Option<Reply>,
     Ok(Some(reply))
 }
 
+/// Carries out a result whose job stands at an index, where it is outstanding. Another one changes nothing, and gets no
+/// reply here.
+fn accept_at(store: &mut Store, index: usize, done: &Done) -> Result<Option<Reply>, AllocError>
+    requires { slice_get store.old.lent index ≡ Some done.now.job }
+    ensures ok { IfOk result (λ reply. Accepts store.old done.now (option_map reply_seen reply) store.new) }
+    ensures err { OnErr result (store.new ≡ store.old) }
+{
+    let Work::Joint(asked) = done.job().work() else {
+        return Ok(None);
+    };
+    if is_component(store, asked.as_slice())? {
+        settle(store, index, done)
+    } else {
+        Ok(None)
+    }
+}
+
 /// Carries out a result that is outstanding. Another one changes nothing, and gets no reply here.
 fn accept(store: &mut Store, done: &Done) -> Result<Option<Reply>, AllocError>
     requires kept { IsKeptState store.old }
@@ -87,14 +104,7 @@ fn accept(store: &mut Store, done: &Done) -> Result<Option<Reply>, AllocError>
     let Some(index) = store.lent.find(done.job()) else {
         return Ok(None);
     };
-    let Work::Joint(asked) = done.job().work() else {
-        return Ok(None);
-    };
-    if is_component(store, asked.as_slice())? {
-        settle(store, index, done)
-    } else {
-        Ok(None)
-    }
+    accept_at(store, index, done)
 }
 
 /// A result of a joint job comes in. Where its job isn't lent any more, or its statements are no component now, it is
@@ -107,6 +117,27 @@ pub(crate) fn join_answer(store: &mut Store, done: Done) -> Result<Reply, AllocF
     ensures returned { IfErr result (λ refused. refused.value ≡ done) }
 {
     match accept(store, &done) {
+        Ok(Some(reply)) => {
+            drop(done);
+            Ok(reply)
+        }
+        Ok(None) => Ok(Reply::Stale(done)),
+        Err(AllocError) => Err(AllocFailed { value: done }),
+    }
+}
+
+/// The same where the job is known to stand at an index: no tables are compared.
+pub(crate) fn join_answer_at(
+    store: &mut Store,
+    index: usize,
+    done: Done,
+) -> Result<Reply, AllocFailed<Done>>
+    requires { slice_get store.old.lent index ≡ Some done.job }
+    ensures ok { IfOk result (λ reply. JoinsOrIsStale store.old done (reply_seen reply) store.new) }
+    ensures err { OnErr result (store.new ≡ store.old) }
+    ensures returned { IfErr result (λ refused. refused.value ≡ done) }
+{
+    match accept_at(store, index, &done) {
         Ok(Some(reply)) => {
             drop(done);
             Ok(reply)

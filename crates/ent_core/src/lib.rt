@@ -20,6 +20,7 @@ mod joining;
 mod lookup;
 mod obstacle;
 mod open;
+mod packed_members;
 mod pick;
 mod play;
 mod reached;
@@ -41,6 +42,7 @@ pub use ent_headline::{
 pub use ent_waits::Reason;
 pub use event::Event;
 pub use obstacle::Obstacle;
+pub use packed_members::PackedMembers;
 pub use play::{PlayFault, Played};
 pub use reached::Core;
 pub use reply::Reply;

@@ -14,7 +14,7 @@ use crate::store::Store;
 use ent_form::FormFault;
 use ent_group::Tx;
 use ent_match::{Demand, Posted, Unsafe, demand_of};
-use ent_members::{Conflict, Member, Next, next_form, statement_uses};
+use ent_members::{Conflict, Next, RunMember, next_form, statement_uses};
 use ent_protocol_laws::members_stand_by_number;
 use ent_waits::post_fault;
 use std::alloc::AllocError;
@@ -101,7 +101,7 @@ pub(crate) fn obstacle_of(store: &Store, tx: Tx) -> Result<Option<Obstacle>, All
 }
 
 /// Between what a member's next statement asks for and what another holds.
-fn conflict_of(store: &Store, asker: &Member, holder: &Member) -> Option<Conflict>
+fn conflict_of(store: &Store, asker: &RunMember, holder: &RunMember) -> Option<Conflict>
     ensures { AreBetween (next_uses (next_of store.now asker.now)) holder.now.uses result }
 {
     match next_form(store.submitted.as_slice(), asker) {

@@ -1,6 +1,6 @@
 //! The core whose type keeps that its state is reached.
-ghost use Rattle.std.specs.Prelude.{IfErr, IfOk, IsOk, MatchOption, None, OnErr, OnOk, Some, ◌≡◌};
-ghost use Rattle.std.specs.Prelude.{◌∷◌, [], length, slice_get};
+ghost use Rattle.std.specs.Prelude.{Contains, IfErr, IfOk, IfSome, IsNone, IsOk, MatchOption, None, OnErr, OnOk, Some};
+ghost use Rattle.std.specs.Prelude.{◌≡◌, ◌∷◌, [], length, slice_get};
 ghost use Rattle.std.specs.Arc.{arc_value};
 ghost use Rattle.std.specs.List.{AllByRecursion};
 ghost use Rattle.std.specs.Option.{option_copied, option_map};
@@ -38,8 +38,8 @@ use crate::begin::{BeginRefusal, FreeMember, begin, begin_free, free_member};
 use crate::break_cycle::break_cycle;
 use crate::closing::{NotClosed, NotDone, book, book_parts, can_close};
 use crate::end_run::end_run;
-use crate::finish::{finish, finish_at_once};
-use crate::join_answer::{join_answer, join_answer_at_once};
+use crate::finish::{finish, finish_at};
+use crate::join_answer::{join_answer, join_answer_at, join_answer_at_once};
 use crate::lookup;
 use crate::obstacle::{Obstacle, conflict_between, obstacle_of};
 use crate::open::open;
@@ -55,6 +55,7 @@ use ent_eval::Done;
 use ent_form::FormFault;
 use ent_group::{Members, Tx};
 use ent_headline::resolved_runs_are_legal;
+use ent_job::Job;
 use ent_match::Posted;
 use ent_members::{Conflict, Entrant, Turn};
 use ent_protocol::{closing_gives_the_book, reached_states_are_tidy};
@@ -210,11 +211,26 @@ impl Core {
     {
         resolved_runs_are_legal();
         steps_go_on::<FormFault>();
-        finish_at_once(&mut self.store, done)
+        finish_at(&mut self.store, 0, done)
     }
 
-    /// Lends the job of a component of the posted statements: of those that weren't tried, and no job of which is out,
-    /// that with the least first member. Where there is none, nothing is lent.
+    /// What [`Core::finish`] does, for a caller who knows at which index of the lent jobs, counted from 0, the result's
+    /// own stands. No tables are compared.
+    pub fn finish_at(&mut self, index: usize, done: Done) -> Result<Reply, AllocFailed<Done>>
+        requires { slice_get self.old.lent index ≡ Some done.job }
+        ensures ok { IfOk result (λ reply. Step resolved_forms self.old (Finish done) (reply_seen reply) self.new) }
+        ensures err { OnErr result (self.new ≡ self.old) }
+        ensures returned { IfErr result (λ refused. refused.value ≡ done) }
+        ensures failure { (failure : Failure) → done.outcome ≡ jobs.Fault failure → IsOk result }
+        ensures legal { IsLegal (book_of self.new) }
+    {
+        resolved_runs_are_legal();
+        steps_go_on::<FormFault>();
+        finish_at(&mut self.store, index, done)
+    }
+
+    /// Of the components that weren't tried and have no job lent, lends the job of the one with the least first member.
+    /// If there is none, nothing is lent.
     pub fn pick(&mut self) -> Result<Reply, AllocError>
         ensures ok { IfOk result (λ reply. Step resolved_forms self.old Pick (reply_seen reply) self.new) }
         ensures err { OnErr result (self.new ≡ self.old) }
@@ -255,6 +271,21 @@ impl Core {
         resolved_runs_are_legal();
         steps_go_on::<FormFault>();
         join_answer_at_once(&mut self.store, done)
+    }
+
+    /// What [`Core::join_answer`] does, for a caller who knows at which index of the lent jobs, counted from 0, the
+    /// result's own stands. No tables are compared.
+    pub fn join_answer_at(&mut self, index: usize, done: Done) -> Result<Reply, AllocFailed<Done>>
+        requires { slice_get self.old.lent index ≡ Some done.job }
+        ensures ok { IfOk result (λ reply.
+            Step resolved_forms self.old (JoinAnswer done) (reply_seen reply) self.new) }
+        ensures err { OnErr result (self.new ≡ self.old) }
+        ensures returned { IfErr result (λ refused. refused.value ≡ done) }
+        ensures legal { IsLegal (book_of self.new) }
+    {
+        resolved_runs_are_legal();
+        steps_go_on::<FormFault>();
+        join_answer_at(&mut self.store, index, done)
     }
 
     /// Rolls back the group of the first member of a deadlock, the greatest transaction that stands in any, where there
@@ -390,6 +421,22 @@ impl Core {
         ensures { result.now ≡ self.now.opening }
     {
         &self.store.opening
+    }
+
+    /// How many jobs are lent.
+    pub fn lent_count(&self) -> usize
+        ensures { result ≡ length self.now.lent }
+    {
+        self.store.lent.len()
+    }
+
+    /// The index of a job among those that are lent, counted from 0; None where it isn't lent. Jobs are compared in
+    /// everything, their tables row by row.
+    pub fn lent_index(&self, job: &Job) -> Option<usize>
+        ensures some { IfSome result (λ index. slice_get self.now.lent index ≡ Some job.now) }
+        ensures none { IsNone result → Contains self.now.lent job.now → ⊥ }
+    {
+        self.store.lent.find(job)
     }
 
     /// How many scripts were submitted.

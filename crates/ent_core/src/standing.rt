@@ -13,7 +13,7 @@ use crate::begin::FreeMember;
 use crate::store::Store;
 use ent_form::FormFault;
 use ent_group::Tx;
-use ent_members::{Member, Turn, turn_of};
+use ent_members::{RunMember, Turn, turn_of};
 use ent_protocol_laws::transactions_stand_once;
 use ent_semantics::Fate;
 
@@ -33,7 +33,7 @@ pub enum Standing {
 }
 
 /// Where a member stands that isn't prepared.
-fn active_standing(store: &Store, member: &Member) -> Standing
+fn active_standing(store: &Store, member: &RunMember) -> Standing
     ensures { standing_seen result ≡ lookups.active_standing store.now member.now }
 {
     if member.is_posted() {

@@ -4,12 +4,15 @@ ghost use Rattle.ent_core.specs.Kept.{IsKeptState};
 ghost use Rattle.ent_core.specs.Reply.{reply_seen};
 ghost use Rattle.ent_protocol.specs.Run.{Starts};
 
+use crate::packed_members::PackedMembers;
 use crate::reply::Reply;
 use crate::store::Store;
+use ent_form::FormFault;
 use ent_group::MOST_MEMBERS;
 use ent_headline::{
     resolved_entangled_statements_are_answered_once, resolved_journals_fit_the_fates,
 };
+use ent_protocol_laws::scripts_are_few;
 use ent_run::Run;
 use std::alloc::AllocError;
 
@@ -19,9 +22,11 @@ pub(crate) fn start_run(store: &mut Store) -> Result<Reply, AllocError>
     ensures ok { IfOk result (λ reply. Starts store.old (reply_seen reply) store.new) }
     ensures err { OnErr result (store.new ≡ store.old) }
 {
-    // Laws: whoever stands in a joint answer is a member or has an entry, and an entry's transaction has a fate.
+    // Laws: whoever stands in a joint answer is a member or has an entry, an entry's transaction has a fate, and
+    // numbers are small.
     resolved_entangled_statements_are_answered_once();
     resolved_journals_fit_the_fates();
+    scripts_are_few::<FormFault>();
     if store.running {
         return Ok(Reply::NotNow);
     }
@@ -32,7 +37,8 @@ pub(crate) fn start_run(store: &mut Store) -> Result<Reply, AllocError>
     let count = waiting.min(MOST_MEMBERS);
     let entrants = store.transaction_table.first_dormant(store.alloc, count)?;
     let run = Run::start(store.alloc, entrants.as_slice())?;
-    let members = run.numbers();
+    let numbers = run.numbers();
+    let members = PackedMembers::of(&numbers);
     store.transaction_table.take_first(count);
     store.tried.clear();
     store.run = run;

@@ -10,7 +10,9 @@ ghost use Rattle.ent_protocol.specs.State.{Member as Seen, by_number, members};
 ghost use Rattle.ent_members.specs.Cause.{cause_seen};
 ghost use Rattle.ent_protocol_laws.specs.Attempts.{StayWithin};
 ghost use Rattle.ent_protocol_laws.specs.Standing.{StandOnce};
+ghost use Rattle.ent_tree.specs.declared.limits.TheConstants.{MOST_SCRIPTS};
 
+use crate::packed_members::PackedMembers;
 use crate::store::Store;
 use ent_group::{Members, Tx};
 use ent_match::Pool;
@@ -27,8 +29,8 @@ fn is_joint_of(numbers: &Members, joint: &JointAnswer) -> bool
         .any(|member| numbers.contains(member.tx))
 }
 
-/// Takes the joint answers out of which one of these transactions is a member. The first ones, so many, have no such
-/// member, and aren't looked at.
+/// Removes the joint answers that have one of these transactions as a member. The first `settled` ones have none, and
+/// are passed over.
 fn remove_joints(joints: &mut Vec<JointAnswer>, settled: usize, numbers: &Members)
     requires within { settled ≤ length joints.old.items }
     requires stay { filter (is_joint_of_others numbers.now) (take settled joints.old.items)
@@ -79,7 +81,8 @@ fn take_out(store: &mut Store, group: Option<Tx>, cause: Cause) -> Members
 }
 
 /// Rolls a group back, and tells whom, by number.
-pub(crate) fn roll_back(store: &mut Store, group: Tx, cause: Cause) -> Members
+pub(crate) fn roll_back(store: &mut Store, group: Tx, cause: Cause) -> PackedMembers
+    requires few { length store.old.submitted ≤ MOST_SCRIPTS }
     requires counted { length store.old.fates + length store.old.dormant + length (members store.old)
         ≡ length store.old.submitted }
     requires within { StayWithin store.old }
@@ -87,11 +90,13 @@ pub(crate) fn roll_back(store: &mut Store, group: Tx, cause: Cause) -> Members
     ensures group { result ≡ group_numbers store.old group }
     ensures state { store.new ≡ rolled_back group (cause_seen cause) store.old }
 {
-    take_out(store, Some(group), cause)
+    let members = take_out(store, Some(group), cause);
+    PackedMembers::of(&members)
 }
 
 /// Ends the run: every group that is left is rolled back. Tells who were the members, by number.
-pub(crate) fn end(store: &mut Store) -> Members
+pub(crate) fn end(store: &mut Store) -> PackedMembers
+    requires few { length store.old.submitted ≤ MOST_SCRIPTS }
     requires counted { length store.old.fates + length store.old.dormant + length (members store.old)
         ≡ length store.old.submitted }
     requires within { StayWithin store.old }
@@ -103,5 +108,5 @@ pub(crate) fn end(store: &mut Store) -> Members
     store.running = false;
     store.tried.clear();
     store.lent.clear();
-    members
+    PackedMembers::of(&members)
 }

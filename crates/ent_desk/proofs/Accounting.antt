@@ -1,10 +1,11 @@
 -- What is found of the core among the sessions, one after the other.
 use Rattle.std.proofs.Common.{◌≡◌, inl, inr, ℕ, zero, suc, ◌+◌, ◌<◌, ◌≤◌, List, [], ◌∷◌, ◌++◌, length, drop, get_or}
-use Rattle.std.proofs.Common.{map, refl, ap}
-use Rattle.std.proofs.Common.{sym, subst, ◌∙◌, arith, drop-cons, drop_of_length-le, Some, None}
+use Rattle.std.proofs.Common.{map, ap}
+use Rattle.std.proofs.Common.{sym, subst, ◌∙◌, arith, drop-cons, drop_of_length-le, Some}
 use Rattle.std.proofs.Common.{slice_get}
 use Rattle.std.specs.Prelude.{Contains}
 use Rattle.std.specs.List.{AllByRecursion, flat_map}
+use Rattle.ent_lists.proofs.Lists.{drop_at}
 use Rattle.ent_tree.specs.declared.script.Script.{Script}
 use Rattle.ent_semantics.specs.Serial.{numbered}
 use Rattle.ent_semantics.specs.declared.book.Entry.{Entry}
@@ -49,11 +50,6 @@ contains_map f x (y ∷ ys) (suc i) d low is =
     (suc c.0, omega (arith, under), c.2)
 
 -- ---- one more that is found
-
-drop_at : {X : Type 0} (xs : List X) (i : ℕ) (x : X) → slice_get xs i ≡ Some x → drop i xs ≡ x ∷ drop (suc i) xs
-drop_at [] i x h = absurd cc
-drop_at (y ∷ ys) zero x h = (let e : y ≡ x = cc in ap (λ z. z ∷ ys) e)
-drop_at (y ∷ ys) (suc i) x h = drop_at ys i x h
 
 pub tickets_more : (all : List Ticket) (scripts : List Script) (i tx : ℕ) (script : Script) (Goal : Type 0)
     → tx ≡ i + 1 → Some script ≡ numbered scripts tx → Contains all (ticket tx script)
@@ -105,13 +101,3 @@ pub receipts_end : (core : State) (all : List Receipt) (journal : List Entry) (i
     → HaveReceipts core all (i + 1) (drop i journal)
 receipts_end core all journal i past =
     subst (λ (l : List Entry). HaveReceipts core all (i + 1) l) (sym (drop_of_length-le journal past)) tt
-
--- ---- nobody waits
-
-pub none_waits : {X : Type 0} (xs : List X) → None ≡ numbered xs 1 → xs ≡ []
-none_waits [] e = refl
-none_waits (x ∷ xs) e = cc
-
-pub some_waits : {X : Type 0} (xs : List X) (x : X) → Some x ≡ numbered xs 1 → xs ≡ [] → ⊥
-some_waits [] x e is = cc
-some_waits (y ∷ ys) x e is = cc

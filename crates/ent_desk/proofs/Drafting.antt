@@ -9,34 +9,35 @@ use Rattle.ent_lists.specs.Elements.{In, number_itself, other_number, same_numbe
 use Rattle.ent_protocol.specs.State.{State}
 use Rattle.ent_semantics.specs.declared.book.Entry.{Entry}
 use Rattle.ent_desk.specs.Drafts.{AreDrafted, draft_among, draft_now}
-use Rattle.ent_desk.specs.declared.draft.Draft.{Draft}
+use Rattle.ent_desk.specs.declared.draft.ReceiptDraft.{ReceiptDraft}
 
-abbrev is_of : ℕ → Draft → Bool
+abbrev is_of : ℕ → ReceiptDraft → Bool
 is_of tx entry = entry.tx == tx
 
 -- ---- where a draft stands
 
 -- the draft that is found is of the transaction
-pub found_of : (entries : List Draft) (tx : ℕ) (entry : Draft) → draft_among entries tx ≡ Some entry → entry.tx ≡ tx
+pub found_of : (entries : List ReceiptDraft) (tx : ℕ) (entry : ReceiptDraft)
+    → draft_among entries tx ≡ Some entry → entry.tx ≡ tx
 found_of [] tx entry e = cc
 found_of (x ∷ xs) tx entry e = by (x.tx == tx) refl e (found_of xs tx entry)
   where
     by : (b : Bool) → (x.tx == tx) ≡ b → cond b (Some x) (draft_among xs tx) ≡ Some entry
         → (draft_among xs tx ≡ Some entry → entry.tx ≡ tx) → entry.tx ≡ tx
     by true is e rest =
-        let same : x ≡ entry = cc in ap (λ (z : Draft). z.tx) (sym same) ∙ same_number x.tx tx is
+        let same : x ≡ entry = cc in ap (λ (z : ReceiptDraft). z.tx) (sym same) ∙ same_number x.tx tx is
     by false is e rest = rest e
 
 -- it stands at the first place of the rest
-pub found_here : (entries : List Draft) (tx i : ℕ) (d : Draft) → i < length entries → (get_or entries i d).tx ≡ tx
-    → slice_get entries i ≡ draft_among (drop i entries) tx
+pub found_here : (entries : List ReceiptDraft) (tx i : ℕ) (d : ReceiptDraft) → i < length entries
+    → (get_or entries i d).tx ≡ tx → slice_get entries i ≡ draft_among (drop i entries) tx
 found_here [] tx i d low is = absurd (omega (arith, low))
 found_here (x ∷ xs) tx zero d low is =
     sym (ap (λ b. cond b (Some x) (draft_among xs tx)) (ap (λ n. n == tx) is ∙ number_itself tx))
 found_here (x ∷ xs) tx (suc i) d low is = found_here xs tx i d (omega (arith, low)) is
 
 -- it stands behind the first place of the rest
-pub found_behind : (entries : List Draft) (tx i : ℕ) (d : Draft) → i < length entries
+pub found_behind : (entries : List ReceiptDraft) (tx i : ℕ) (d : ReceiptDraft) → i < length entries
     → ((get_or entries i d).tx ≡ tx → ⊥) → draft_among (drop (i + 1) entries) tx ≡ draft_among (drop i entries) tx
 found_behind entries tx i d low other =
     let rest = draft_among (drop (i + 1) entries) tx in
@@ -46,15 +47,15 @@ found_behind entries tx i d low other =
 -- ---- one is taken out
 
 -- what stands at a place
-pub got_at : (entries : List Draft) (i : ℕ) (entry : Draft) → i < length entries → entry ≡ get_or entries i entry
-    → slice_get entries i ≡ Some entry
+pub got_at : (entries : List ReceiptDraft) (i : ℕ) (entry : ReceiptDraft) → i < length entries
+    → entry ≡ get_or entries i entry → slice_get entries i ≡ Some entry
 got_at [] i entry low is = absurd (omega (arith, low))
 got_at (x ∷ xs) zero entry low is = ap Some (sym is)
 got_at (x ∷ xs) (suc i) entry low is = got_at xs i entry (omega (arith, low)) is
 
 -- one that doesn't pass is taken out
-find_without : (q : Draft → Bool) (entries : List Draft) (i : ℕ) (entry : Draft) → slice_get entries i ≡ Some entry
-    → q entry ≡ false → find q (remove entries i) ≡ find q entries
+find_without : (q : ReceiptDraft → Bool) (entries : List ReceiptDraft) (i : ℕ) (entry : ReceiptDraft)
+    → slice_get entries i ≡ Some entry → q entry ≡ false → find q (remove entries i) ≡ find q entries
 find_without q [] i entry e no_way = cc
 find_without q (x ∷ xs) zero entry e no_way =
     let same : x ≡ entry = cc in sym (ap (λ b. cond b (Some x) (find q xs)) (ap q same ∙ no_way))
@@ -62,7 +63,7 @@ find_without q (x ∷ xs) (suc i) entry e no_way =
     ap (λ r. cond (q x) (Some x) r) (find_without q xs i entry e no_way)
 
 -- those of the others stay
-pub others_stay : (entries left : List Draft) (tx i : ℕ) (entry : Draft) → left ≡ remove entries i
+pub others_stay : (entries left : List ReceiptDraft) (tx i : ℕ) (entry : ReceiptDraft) → left ≡ remove entries i
     → slice_get entries i ≡ Some entry → entry.tx ≡ tx → (other : ℕ) → other ≢ tx
     → draft_among left other ≡ draft_among entries other
 others_stay entries left tx i entry is there own other apart =
@@ -73,7 +74,7 @@ others_stay entries left tx i entry is there own other apart =
 -- ---- drafts
 
 -- without the draft of another the others are drafted
-pub drafted_on : (old new : List Draft) (tx : ℕ) (entries : List Entry)
+pub drafted_on : (old new : List ReceiptDraft) (tx : ℕ) (entries : List Entry)
     → AllByRecursion (λ (other : Entry). other.tx ≢ tx) entries
     → ((other : ℕ) → other ≢ tx → draft_among new other ≡ draft_among old other) → AreDrafted old entries
     → AreDrafted new entries

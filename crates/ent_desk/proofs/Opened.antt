@@ -3,7 +3,6 @@ use Rattle.std.proofs.Common.{◌≡◌, ℕ, zero, suc, ◌+◌, ◌-◌, ◌�
 use Rattle.std.proofs.Common.{add-one, get_or, length-take, take, replicate, refl, ap, sym, ◌∙◌, arith, Result}
 use Rattle.std.proofs.Common.{Ok, Err, nat_le}
 use Rattle.std.proofs.Math.Seq.{take-suc}
-use Rattle.std.proofs.lemmas.List.{length-map}
 use Rattle.ent_tree.specs.declared.limits.TheConstants.{MOST_SCRIPTS}
 use Rattle.ent_tree.specs.declared.script.Script.{Script}
 use Rattle.ent_semantics.specs.declared.operand.Known.{Known}
@@ -13,8 +12,6 @@ use Rattle.ent_protocol.specs.Reached.{IsGatheredState}
 use Rattle.ent_protocol.specs.Run.{Forms, SubmitsForm, SubmitsUnless}
 use Rattle.ent_protocol.specs.State.{State}
 use Rattle.ent_protocol.specs.State as states
-use Rattle.ent_core.specs.Play.{AreSubmitted}
-use Rattle.ent_tree.specs.declared.declaration.Opening.{Opening}
 use Rattle.ent_desk.specs.declared.ticket.Ticket.{Ticket}
 use Rattle.ent_desk.specs.Opened.{other_session, tickets_from}
 use Rattle.ent_desk.specs.Seen.{SessionState, ticket}
@@ -50,12 +47,6 @@ none_committed forms (suc k) s (prior, script, h, step) =
     by : (full : Bool) → SubmitsUnless full forms prior script (Submitted (suc k)) s → s.journal ≡ prior.journal
     by true step = let told = step.0 in cc
     by false step = submitted_form prior s script (suc k) (forms.resolve prior.opening script) step
-
--- as many were submitted as there are scripts
-pub as_many : (opening : Opening) (scripts : List Script) (s : State) → AreSubmitted opening scripts s
-    → length s.submitted ≡ length scripts
-as_many opening scripts s h =
-    sym (length-map s.submitted (λ (own : states.Submitted). own.script)) ∙ ap length h.of_scripts
 
 one_more : (k : ℕ) → replicate k other_session ++ other_session ∷ [] ≡ other_session ∷ replicate k other_session
 one_more zero = refl

@@ -10,6 +10,7 @@ use Rattle.ent_lists.specs.Elements.{In, Pairs, and_both, any_in, any_none, any_
 use Rattle.ent_lists.specs.Elements.{in_first, in_second, index_pairs, not_so, number_itself, of_all, of_filter, of_map}
 use Rattle.ent_lists.specs.Elements.{pairs_across, pairs_behind, pairs_filtered, pairs_first, pairs_mapped}
 use Rattle.ent_lists.specs.Elements.{pairs_second, to_all, to_filter, to_map, turned}
+use Rattle.ent_lists.proofs.Lists.{some_in}
 use Rattle.ent_semantics.specs.declared.book.Entry.{Entry}
 use Rattle.ent_semantics.specs.declared.book.Fate.{Fate}
 use Rattle.ent_semantics.specs.declared.book.Fate.TheVariants.{Committed}
@@ -35,7 +36,7 @@ use Rattle.ent_core.proofs.Whereabouts.{stands_finished, stands_prepared as stan
 use Rattle.ent_desk.specs.declared.ticket.Receipt.{Receipt}
 use Rattle.ent_desk.specs.Drafts.{AreDrafted, AreDraftedFor, AreOfGroup, HaveCommitted, drafted, draft_among}
 use Rattle.ent_desk.specs.Drafts.{draft_now, draft_of, keeps_waiting, stands_prepared}
-use Rattle.ent_desk.specs.declared.draft.Draft.{Draft}
+use Rattle.ent_desk.specs.declared.draft.ReceiptDraft.{ReceiptDraft}
 use Rattle.ent_desk.specs.Receipts.{AreReceived, AreReceiptsFrom, IsReceiptOf, Receives}
 use Rattle.ent_desk.specs.Kept.{IsKeptDesk}
 use Rattle.ent_desk.specs.Told.{fate_in}
@@ -56,16 +57,12 @@ filter_short p (x ∷ xs) = by (p x) (filter_short p xs)
     by true low = omega (arith, low)
     by false low = omega (arith, low)
 
-some_there : {X : Type 0} (x : X) (xs : List X) → In x xs → 1 ≤ length xs
-some_there x [] at = absurd at
-some_there x (y ∷ ys) at = omega arith
-
 drop_front : {X : Type 0} (xs ys : List X) → drop (length xs) (xs ++ ys) ≡ ys
 drop_front [] ys = refl
 drop_front (x ∷ xs) ys = drop_front xs ys
 
 -- no two entries are of one transaction
-apart_drafted : (drafts : List Draft) (entries : List Entry) → Pairs (Apart entry_tx) entries
+apart_drafted : (drafts : List ReceiptDraft) (entries : List Entry) → Pairs (Apart entry_tx) entries
     → ((entry : Entry) → In entry entries → draft_among drafts entry.tx ≡ Some (draft_of entry)) → AreDrafted drafts entries
 apart_drafted drafts [] apart there = tt
 apart_drafted drafts (entry ∷ more) apart there = (
@@ -148,7 +145,7 @@ module _ (s : State) (tx : ℕ) (stand : StandByNumber s) (member : Member)
       let one = filter_short (is_of member.group) (s.prepared ++ member ∷ []) in
       let two = length-append s.prepared (member ∷ []) in
       let three = length-append s.prepared s.active in
-      let four = some_there member s.active in_active in
+      let four = some_in member s.active in_active in
       let five = length-map gone entry_of in
       omega (arith, bound, one, two, three, four, five)
 
@@ -214,13 +211,13 @@ module _ (s : State) (tx : ℕ) (stand : StandByNumber s) (member : Member)
     drafts_are =
         ap (λ b. cond b [] (map (draft_now s) (group_of s tx))) none_waits
 
-    entry_drafted : (drafts : List Draft) → drafts ≡ drafted s tx → (entry : Entry) → In entry (map entry_of gone)
-        → draft_among drafts entry.tx ≡ Some (draft_of entry)
+    entry_drafted : (drafts : List ReceiptDraft) → drafts ≡ drafted s tx → (entry : Entry)
+        → In entry (map entry_of gone) → draft_among drafts entry.tx ≡ Some (draft_of entry)
     entry_drafted drafts are entry at =
         let r = of_map entry_of gone entry at in
         let m = r.0 in
         let own : draft_among drafts m.tx ≡ Some (draft_of (entry_of m)) =
-        ap (λ (l : List Draft). draft_among l m.tx) (are ∙ drafts_are)
+        ap (λ (l : List ReceiptDraft). draft_among l m.tx) (are ∙ drafts_are)
         ∙ now_among s (group_of s tx) m.tx (to_group m r.1)
         ∙ ap Some (entry_is m (gone_in m r.1).0) in
         subst (λ (e : Entry). draft_among drafts e.tx ≡ Some (draft_of e)) (sym r.2) own
@@ -228,7 +225,7 @@ module _ (s : State) (tx : ℕ) (stand : StandByNumber s) (member : Member)
 -- ---- what a begin makes
 
 -- the journal goes on by few entries; each is drafted, and its transaction has committed
-pub record Grows (old : State) (drafts : List Draft) (new : State) : Type 0 where
+pub record Grows (old : State) (drafts : List ReceiptDraft) (new : State) : Type 0 where
   pub entries : List Entry
   pub submitted : length new.submitted ≡ length old.submitted
   pub journal : new.journal ≡ old.journal ++ entries
@@ -236,7 +233,7 @@ pub record Grows (old : State) (drafts : List Draft) (new : State) : Type 0 wher
   pub are_drafted : AreDrafted drafts entries
   pub have_committed : HaveCommitted new (suc (length old.journal)) entries
 
-module _ (old : State) (tx : ℕ) (drafts : List Draft) (new : State) (stand : StandByNumber old)
+module _ (old : State) (tx : ℕ) (drafts : List ReceiptDraft) (new : State) (stand : StandByNumber old)
     (once : StandOnce old) (bound : length (members old) ≤ MOST_MEMBERS) (once_new : StandOnce new)
     (drafts_for : AreDraftedFor old tx drafts) where
   stands_so_far : (h : GroupCommits old tx new) → standing old tx ≡ Some (Ready Commit)
@@ -272,7 +269,7 @@ module _ (old : State) (tx : ℕ) (drafts : List Draft) (new : State) (stand : S
             (in_second old.fates (commit_fates (suc (length old.journal)) those) own at));
       }
 
-pub grown_by : (old new : State) (tx : ℕ) (drafts : List Draft) (reply : Reply FormFault)
+pub grown_by : (old new : State) (tx : ℕ) (drafts : List ReceiptDraft) (reply : Reply FormFault)
     → IsReached resolved_forms old → IsReached resolved_forms new
     → ((s : State) → IsReached resolved_forms s → StandByNumber s)
     → ((s : State) → IsReached resolved_forms s → StandOnce s)
@@ -282,7 +279,7 @@ grown_by old new tx drafts reply reached reached_new stand once bound drafts_for
     grows old tx drafts new (stand old reached) (once old reached) (bound old reached) (once new reached_new) drafts_for
     (begun old new reply tx step)
 
-module _ (old : State) (drafts : List Draft) (new : State) (g : Grows old drafts new) (before : ℕ)
+module _ (old : State) (drafts : List ReceiptDraft) (new : State) (g : Grows old drafts new) (before : ℕ)
     (is : before ≡ length old.journal) where
   rest : drop before new.journal ≡ g.entries
   rest = (λ i. drop (is i) (g.journal i)) ∙ drop_front old.journal g.entries
@@ -333,8 +330,8 @@ same_commit fate number other runs more one two =
     let same : number ≡ other = cc in
     subst (λ (n : ℕ). fate ≡ Some (Committed n runs)) (sym same) two
 
-pub receipt_is : (core : State) (number : ℕ) (entry : Entry) (draft : Draft) (drafts : List Draft) (runs : ℕ)
-    → draft_among drafts entry.tx ≡ Some draft → draft_among drafts entry.tx ≡ Some (draft_of entry)
+pub receipt_is : (core : State) (number : ℕ) (entry : Entry) (draft : ReceiptDraft) (drafts : List ReceiptDraft)
+    (runs : ℕ) → draft_among drafts entry.tx ≡ Some draft → draft_among drafts entry.tx ≡ Some (draft_of entry)
     → (other : ℕ) × (fate_in (standing core entry.tx) ≡ Some (Committed other runs))
     → (more : ℕ) × (fate_in (standing core entry.tx) ≡ Some (Committed number more))
     → IsReceiptOf core number entry

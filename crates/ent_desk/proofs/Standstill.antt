@@ -1,5 +1,5 @@
 -- Nothing moves: a member whose begin is refused can't, and a run that can't end awaits a job.
-use Rattle.std.proofs.Common.{◌≡◌, inl, inr, ◌<◌, ◌≤◌, ◌+◌, ◌++◌, ℕ, Bool, true, false, List, [], ◌∷◌}
+use Rattle.std.proofs.Common.{◌≡◌, inl, inr, ◌<◌, ◌≤◌, ◌+◌, ◌++◌, ℕ, Bool, true, false, List}
 use Rattle.std.proofs.Common.{length, take, drop, get_or, refl, sym, ap, subst, ◌∙◌, Option, Some, None}
 use Rattle.std.specs.List.{AllByRecursion}
 use Rattle.std.proofs.lemmas.List.{drop_more, take-append-drop, take_all, take_more}
@@ -9,6 +9,7 @@ use Rattle.ent_semantics.specs.declared.statement.Statement.{Statement}
 use Rattle.ent_coordination.specs.Component.{IsComponent}
 use Rattle.ent_coordination.specs.Pool.{IsSafe}
 use Rattle.ent_lists.specs.Elements.{In, clash, contains_in, in_second, neither, of_all}
+use Rattle.ent_lists.proofs.Lists.{all_behind}
 use Rattle.ent_protocol.specs.Begin.{Begins, BeginsCommit, BeginsEntangled, BeginsNext, BeginsOrdinary, Posts, pool_with}
 use Rattle.ent_protocol.specs.Commit.{is_ready, preparing}
 use Rattle.ent_protocol.specs.Event.{Reason, Reply}
@@ -81,18 +82,13 @@ refusal_idle (refusals.Blocked holder) = refl
 
 -- ---- members one after the other
 
-all_and_one : {A : Type 0} (P : A → Type 0) (xs : List A) (x : A) → AllByRecursion P xs → P x
-    → AllByRecursion P (xs ++ x ∷ [])
-all_and_one P [] x all one = (one, tt)
-all_and_one P (y ∷ ys) x all one = (all.0, all_and_one P ys x all.1 one)
-
 -- one more that can't move
 pub one_more_stuck : (s : State) (items : List ℕ) (i : ℕ) → i < length items
     → AllByRecursion (λ other. ¬ CanMove s other) (take i items) → ¬ CanMove s (get_or items i 0)
     → AllByRecursion (λ other. ¬ CanMove s other) (take (i + 1) items)
 one_more_stuck s items i within all one =
     subst (AllByRecursion (λ other. ¬ CanMove s other)) (sym (take_more items i 0 within))
-    (all_and_one (λ other. ¬ CanMove s other) (take i items) (get_or items i 0) all one)
+    (all_behind (λ other. ¬ CanMove s other) (take i items) (get_or items i 0) all one)
 
 -- the next one may begin
 pub next_member : (s : State) (items : List ℕ) (i : ℕ) → running_members s ≡ items → i < length items

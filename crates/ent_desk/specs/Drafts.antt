@@ -8,15 +8,15 @@ use Rattle.ent_semantics.specs.declared.book.Fate.TheVariants.{Committed}
 use Rattle.ent_protocol.specs.Lookup.{Standing, Commit, Prepared, Ready, answers_of, group_of, standing}
 use Rattle.ent_protocol.specs.State.{State}
 use Rattle.ent_desk.specs.Told.{fate_in}
-use Rattle.ent_desk.specs.declared.draft.Draft.{Draft}
+use Rattle.ent_desk.specs.declared.draft.ReceiptDraft.{ReceiptDraft}
 
 -- ---- drafts
 
 -- what is drafted of a member, and of its entry
-abbrev pub draft_now : State → ℕ → Draft
+abbrev pub draft_now : State → ℕ → ReceiptDraft
 draft_now core tx = record { tx = tx; answers = answers_of core tx }
 
-abbrev pub draft_of : Entry → Draft
+abbrev pub draft_of : Entry → ReceiptDraft
 draft_of entry = record { tx = entry.tx; answers = entry.answers }
 
 abbrev pub stands_prepared : Option Standing → Bool
@@ -28,22 +28,22 @@ abbrev pub keeps_waiting : State → ℕ → ℕ → Bool
 keeps_waiting core tx other = not (other == tx) && not (stands_prepared (standing core other))
 
 -- the drafts of a member's group, where all others of it are prepared
-abbrev pub drafted : State → ℕ → List Draft
+abbrev pub drafted : State → ℕ → List ReceiptDraft
 drafted core tx =
     if list_any (keeps_waiting core tx) (group_of core tx) then [] else map (draft_now core) (group_of core tx)
 
 -- these are drafted for a member, where it is at its COMMIT
-abbrev pub AreDraftedFor : State → ℕ → List Draft → Type 0
+abbrev pub AreDraftedFor : State → ℕ → List ReceiptDraft → Type 0
 AreDraftedFor core tx drafts = standing core tx ≡ Some (Ready Commit) → drafts ≡ drafted core tx
 
 -- the first draft of a transaction
-abbrev pub draft_among : List Draft → ℕ → Option Draft
+abbrev pub draft_among : List ReceiptDraft → ℕ → Option ReceiptDraft
 draft_among drafts tx = find (λ draft. draft.tx == tx) drafts
 
 -- ---- the entries that are made
 
 -- each entry is drafted, and no two are of one transaction
-abbrev pub AreDrafted : List Draft → List Entry → Type 0
+abbrev pub AreDrafted : List ReceiptDraft → List Entry → Type 0
 AreDrafted drafts [] = Unit {0}
 AreDrafted drafts (entry ∷ more) =
     (draft_among drafts entry.tx ≡ Some (draft_of entry)) × AllByRecursion (λ other. other.tx ≢ entry.tx) more
@@ -57,7 +57,7 @@ HaveCommitted core next (entry ∷ more) =
 
 -- The entries of the journal behind so many are those of one group: there are few, each is drafted, and its transaction
 -- has committed.
-pub record AreOfGroup (core : State) (before : ℕ) (drafts : List Draft) : Type 0 where
+pub record AreOfGroup (core : State) (before : ℕ) (drafts : List ReceiptDraft) : Type 0 where
   pub within : before ≤ length core.journal
   pub few : length (drop before core.journal) ≤ MOST_MEMBERS
   pub are_drafted : AreDrafted drafts (drop before core.journal)

@@ -6,5 +6,6 @@ pub mod Drafts
 pub mod Advance
 pub mod Closed
 pub mod Opened
+pub mod Renewed
 pub mod Accounted
 pub mod Passed

@@ -1,10 +1,10 @@
 //! A desk is closed.
-ghost use Rattle.std.specs.Prelude.{◌≡◌, ◌<◌, ◌↔◌, IfErr, IfOk, IsTrue, OnOk, length};
+ghost use Rattle.std.specs.Prelude.{◌≡◌, ◌<◌, ◌↔◌, IfErr, IfOk, IsTrue, OnOk, length, sum_by};
 ghost use Rattle.ent_book.specs.Tables.{book_seen};
 ghost use Rattle.ent_desk.specs.Accounted.{IsAccounted};
 ghost use Rattle.ent_desk.specs.Closed.{IsClosedBook};
 ghost use Rattle.ent_desk.specs.declared.closing.CloseFault.TheVariants.{NotDone, SessionsOut};
-ghost use Rattle.ent_protocol.specs.Reached.{CanClose};
+ghost use Rattle.ent_protocol.specs.Reached.{CanClose, book_of};
 ghost use Rattle.ent_value.specs.declared.refusal.Refusal.TheVariants.{Fault, Memory};
 
 use crate::account::hold_all;
@@ -18,6 +18,7 @@ use ent_form::FormFault;
 use ent_semantics::Book;
 use ent_termination::finished_scripts_have_fates;
 use ent_value::{Refusal, Sequence};
+use std::sync::ledger::Book as LedgerBook;
 use thiserror::Error;
 
 /// Why a manager isn't closed.
@@ -36,9 +37,17 @@ pub enum CloseFault {
 
 /// A desk that isn't closed, as it was, and why.
 #[derive(Drop)]
-pub struct NotClosed<L: Naming> {
+pub struct UnclosedDesk<L: Naming> {
     pub desk: Desk<L>,
     pub refusal: Refusal<CloseFault>,
+}
+
+/// The book of a desk that is closed, and the books of both ledgers.
+#[derive(Drop)]
+pub(crate) struct Ended<L: Naming> {
+    pub(crate) book: Book<Sequence<NamedTable>>,
+    pub(crate) scripts: LedgerBook<L::Scripts>,
+    pub(crate) entries: LedgerBook<L::Entries>,
 }
 
 /// Whether no run is on and nobody waits for one.
@@ -60,7 +69,7 @@ impl<L: Naming> Desk<L> {
     pub fn close(
         self,
         sessions: &mut [Session<L>],
-    ) -> Result<Book<Sequence<NamedTable>>, NotClosed<L>>
+    ) -> Result<Book<Sequence<NamedTable>>, UnclosedDesk<L>>
         requires nonempty { 0 < length sessions.old }
         requires scripts { length sessions.old ≡ L.Scripts.parts }
         requires entries { length sessions.old ≡ L.Entries.parts }
@@ -72,33 +81,39 @@ impl<L: Naming> Desk<L> {
         ensures not_out { IfErr result (λ refused. refused.refusal ≡ Fault SessionsOut → ⊥) }
     {
         if !can_close(&self.core) {
-            return Err(NotClosed {
+            return Err(UnclosedDesk {
                 desk: self,
                 refusal: Refusal::Fault(CloseFault::NotDone),
             });
         }
         if !hold_all(sessions, &self.core, self.count) {
-            return Err(NotClosed {
+            return Err(UnclosedDesk {
                 desk: self,
                 refusal: Refusal::Fault(CloseFault::Differs),
             });
         }
-        self.close_accounted(sessions)
+        let Ended { book, .. } = self.close_accounted(sessions)?;
+        Ok(book)
     }
 
     /// The same, where no run is on, nobody waits for one, and the sessions hold a ticket or a receipt of all that the
-    /// core has: the ledgers show that they hold no more.
-    fn close_accounted(
+    /// core has: the ledgers show that they hold no more. The books of the ledgers are left.
+    pub(crate) fn close_accounted(
         self,
         sessions: &mut [Session<L>],
-    ) -> Result<Book<Sequence<NamedTable>>, NotClosed<L>>
+    ) -> Result<Ended<L>, UnclosedDesk<L>>
         requires nonempty { 0 < length sessions.old }
         requires scripts { length sessions.old ≡ L.Scripts.parts }
         requires entries { length sessions.old ≡ L.Entries.parts }
         requires done { CanClose self.core }
         requires accounted { IsAccounted self.core self.count sessions.old }
         ensures same { sessions.new ≡ sessions.old }
-        ensures book { IfOk result (λ book. IsClosedBook (book_seen book) sessions.old) }
+        ensures is { IfOk result (λ ended. book_seen ended.book ≡ book_of self.core) }
+        ensures book { IfOk result (λ ended. IsClosedBook (book_seen ended.book) sessions.old) }
+        ensures by_scripts { IfOk result (λ ended.
+            ended.scripts.total ≡ sum_by (λ session. length session.tickets) sessions.old) }
+        ensures by_entries { IfOk result (λ ended.
+            ended.entries.total ≡ sum_by (λ session. length session.receipts) sessions.old) }
         ensures returned { IfErr result (λ refused. refused.desk ≡ self) }
         ensures memory { IfErr result (λ refused. refused.refusal ≡ Memory) }
     {
@@ -114,8 +129,12 @@ impl<L: Naming> Desk<L> {
         core.is_reached();
         audit_all(sessions, &mut scripts, &mut entries);
         match core.close() {
-            Ok(book) => Ok(book),
-            Err(refused) => Err(NotClosed {
+            Ok(book) => Ok(Ended {
+                book,
+                scripts,
+                entries,
+            }),
+            Err(refused) => Err(UnclosedDesk {
                 desk: Desk {
                     core: refused.core,
                     count,

@@ -21,7 +21,7 @@ ghost use Rattle.ent_tree.specs.declared.limits.TheConstants.{MOST_SCRIPTS};
 ghost use Rattle.ent_value.specs.declared.refusal.Refusal.TheVariants.{Fault};
 
 use crate::advance::{Advance, advance_told, is_leaving};
-use crate::draft::{Draft, drafts_for, fate_of, keep_receipts};
+use crate::draft::{ReceiptDraft, drafts_for, fate_of, keep_receipts};
 use crate::naming::Naming;
 use crate::session::Session;
 use crate::ticket::Ticket;
@@ -316,7 +316,7 @@ impl<L: Naming> Desk<L> {
         &mut self,
         session: &mut Session<L>,
         found: FreeMember,
-        drafts: Vec<Draft>,
+        drafts: Vec<ReceiptDraft>,
     ) -> Result<Option<Advance>, AllocError>
         requires free { IsFreeMember self.old.core found }
         requires drafted { AreDraftedFor self.old.core found.tx drafts.items }

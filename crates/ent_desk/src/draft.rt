@@ -9,7 +9,7 @@ ghost use Rattle.ent_desk.specs.Receipts.{AreReceived};
 ghost use Rattle.ent_desk.specs.Told.{fate_in};
 ghost use Rattle.ent_group.specs.declared.members.TheConstants.{MOST_MEMBERS};
 ghost use Rattle.ent_protocol.specs.Lookup.{standing};
-ghost use Rattle.ent_desk.specs.declared.draft.Draft.{Draft as Seen};
+ghost use Rattle.ent_desk.specs.declared.draft.ReceiptDraft.{ReceiptDraft as Seen};
 ghost use Rattle.ent_semantics.specs.declared.book.Fate.TheVariants.{Committed};
 
 use crate::ticket::Receipt;
@@ -22,7 +22,7 @@ use std::alloc::{AllocError, Global};
 
 /// The answers of a member of a group that may commit.
 #[derive(Drop)]
-pub(crate) struct Draft {
+pub(crate) struct ReceiptDraft {
     tx: Tx,
     answers: Sequence<Answer>,
 }
@@ -58,19 +58,19 @@ fn any_keeps_waiting(core: &Core, tx: Tx, group: &[Tx]) -> bool
 }
 
 /// Copies of the answers of these members.
-fn drafts_of(alloc: Global, core: &Core, members: &[Tx]) -> Result<Vec<Draft>, AllocError>
+fn drafts_of(alloc: Global, core: &Core, members: &[Tx]) -> Result<Vec<ReceiptDraft>, AllocError>
     ensures { IfOk result (λ drafts. drafts.items ≡ map (draft_now core.now) members.now) }
 {
     let mut drafts = Vec::with_capacity(alloc, members.len())?;
     for tx in members {
         let answers = answers_copy(alloc, core.answers(*tx))?;
-        drafts.push(Draft { tx: *tx, answers })?;
+        drafts.push(ReceiptDraft { tx: *tx, answers })?;
     }
     Ok(drafts)
 }
 
 /// Copies of the answers of a member's group, where all others of it are prepared; else none.
-fn drafts(alloc: Global, core: &Core, tx: Tx) -> Result<Vec<Draft>, AllocError>
+fn drafts(alloc: Global, core: &Core, tx: Tx) -> Result<Vec<ReceiptDraft>, AllocError>
     ensures { IfOk result (λ drafts. drafts.items ≡ drafted core.now tx) }
 {
     let group = core.group(tx);
@@ -86,7 +86,7 @@ pub(crate) fn drafts_for(
     alloc: Global,
     core: &Core,
     found: FreeMember,
-) -> Result<Vec<Draft>, AllocError>
+) -> Result<Vec<ReceiptDraft>, AllocError>
     requires free { IsFreeMember core.now found }
     ensures { IfOk result (λ drafts. AreDraftedFor core.now found.tx drafts.items) }
 {
@@ -99,7 +99,7 @@ pub(crate) fn drafts_for(
 // ---- behind the commit
 
 /// Where the first draft of a transaction stands.
-fn place_of(drafts: &[Draft], tx: Tx) -> usize
+fn place_of(drafts: &[ReceiptDraft], tx: Tx) -> usize
     requires there { (draft : Seen) × (draft_among drafts.now tx ≡ Some draft) }
     ensures within { result < length drafts.now }
     ensures draft { slice_get drafts.now result ≡ draft_among drafts.now tx }
@@ -113,7 +113,7 @@ fn place_of(drafts: &[Draft], tx: Tx) -> usize
 }
 
 /// Takes out the first draft of a transaction.
-fn take_draft(drafts: &mut Vec<Draft>, tx: Tx) -> Draft
+fn take_draft(drafts: &mut Vec<ReceiptDraft>, tx: Tx) -> ReceiptDraft
     requires there { (draft : Seen) × (draft_among drafts.old.items tx ≡ Some draft) }
     ensures taken { draft_among drafts.old.items tx ≡ Some result }
     ensures others { (other : ℕ) → other ≢ tx
@@ -148,7 +148,7 @@ fn runs_of(core: &Core, tx: Tx) -> u64
 fn keep_each(
     core: &Core,
     receipts: &mut Vec<Receipt>,
-    drafts: &mut Vec<Draft>,
+    drafts: &mut Vec<ReceiptDraft>,
     number: u64,
     entries: &[Entry],
 )
@@ -179,7 +179,7 @@ pub(crate) fn keep_receipts(
     core: &Core,
     receipts: &mut Vec<Receipt>,
     before: usize,
-    mut drafts: Vec<Draft>,
+    mut drafts: Vec<ReceiptDraft>,
 ) -> usize
     requires room { vec_len receipts.old + MOST_MEMBERS ≤ vec_capacity receipts.old }
     requires of_group { AreOfGroup core.now before drafts.items }

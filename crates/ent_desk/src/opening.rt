@@ -106,8 +106,8 @@ fn seat_all<L: Naming>(
     Ok(sessions)
 }
 
-/// A desk over an input, whose scripts are submitted, in order, and so many sessions, the first of which has their
-/// tickets; else the input's first fault of form. Each ledger has a part for each session.
+/// Opens a desk over an input: its scripts are submitted in order, and the first of so many sessions has their tickets.
+/// Else the input's first fault of form. Each ledger has a part for each session.
 pub fn open<L: Naming>(
     alloc: Global,
     blank: Blanks,

@@ -1,6 +1,7 @@
 //! What one client holds.
-ghost use Rattle.std.specs.Prelude.{◌≡◌, ◌==◌, [], find, length};
+ghost use Rattle.std.specs.Prelude.{◌≡◌, ◌+◌, ◌==◌, [], Some, find, length};
 ghost use Rattle.std.specs.Option.{option_map};
+ghost use Rattle.ent_desk.specs.Opened.{other_session};
 ghost use Rattle.ent_desk.specs.Told.{fate_of};
 
 use crate::naming::Naming;
@@ -10,7 +11,7 @@ use ent_group::Tx;
 use ent_semantics::Fate;
 use std::alloc::Global;
 use std::marker::Model;
-use std::sync::ledger::Share;
+use std::sync::ledger::{Book, Share};
 
 /// What memory stopped on its way: a job that couldn't be done, or a result that couldn't be handed in.
 #[derive(Drop)]
@@ -133,5 +134,28 @@ impl<L: Naming> Session<L> {
         ensures { self.new ≡ self.old }
     {
         self.stopped = Some(stopped);
+    }
+
+    /// Holds nothing any more, and the books don't count what it held.
+    pub(crate) fn empty(&mut self, scripts: &mut Book<L::Scripts>, entries: &mut Book<L::Entries>)
+        ensures session { self.new ≡ other_session }
+        ensures scripts { scripts.new.total + length self.old.tickets ≡ scripts.old.total }
+        ensures entries { entries.new.total + length self.old.receipts ≡ entries.old.total }
+    {
+        let made = self.tickets.len() as u64;
+        let got = self.receipts.len() as u64;
+        scripts.sub(&mut self.submitted, made);
+        entries.sub(&mut self.committed, got);
+        self.tickets.clear();
+        self.receipts.clear();
+        self.first = None;
+        self.stopped = None;
+    }
+
+    /// Keeps what a manager goes on over.
+    pub(crate) fn keep_first(&mut self, first: First)
+        ensures { self.new ≡ record self.old { first = Some first } }
+    {
+        self.first = Some(first);
     }
 }

@@ -7,7 +7,7 @@ ghost use Rattle.ent_desk.specs.declared.closing.CloseFault.TheVariants.{NotDone
 ghost use Rattle.ent_protocol.specs.Reached.{CanClose, book_of};
 ghost use Rattle.ent_value.specs.declared.refusal.Refusal.TheVariants.{Fault, Memory};
 
-use crate::closing::{CloseFault, NotClosed};
+use crate::closing::{CloseFault, UnclosedDesk};
 use crate::desk::Desk;
 use crate::naming::Naming;
 use ent_book::NamedTable;
@@ -31,7 +31,7 @@ fn close_refusal(refusal: Refusal<Left>) -> Refusal<CloseFault>
 impl<L: Naming> Desk<L> {
     /// The book, where no run is on and nobody waits for one, whatever the sessions hold, and where they are lost too.
     /// Else, and where memory runs out, the desk comes back.
-    pub fn into_book(self) -> Result<Book<Sequence<NamedTable>>, NotClosed<L>>
+    pub fn into_book(self) -> Result<Book<Sequence<NamedTable>>, UnclosedDesk<L>>
         ensures is { IfOk result (λ book. book_seen book ≡ book_of self.core) }
         ensures book { IfOk result (λ book. IsWholeBook (book_seen book)) }
         ensures done { OnOk result (CanClose self.core) }
@@ -51,7 +51,7 @@ impl<L: Naming> Desk<L> {
         core.is_reached();
         match core.close() {
             Ok(book) => Ok(book),
-            Err(refused) => Err(NotClosed {
+            Err(refused) => Err(UnclosedDesk {
                 desk: Desk {
                     core: refused.core,
                     count,

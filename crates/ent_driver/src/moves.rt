@@ -15,7 +15,7 @@ use ent_eval::{Done, Job, evaluate};
 use ent_form::FormFault;
 use ent_group::Tx;
 use ent_termination::{jobs_are_lent_by_replies, results_are_taken_at_once};
-use ent_trace::{Text, put_reply};
+use ent_trace::{WrittenText, put_reply};
 use std::alloc::{AllocError, Global};
 
 /// What a caller asks a core for who makes one event at a time. The job that a move lends is carried out within it, so
@@ -154,7 +154,7 @@ pub(crate) fn make_move(alloc: Global, core: &mut Core, asked: Move) -> Result<R
 
 /// The line of the reply to a move, as a trace has it, with its end.
 pub fn reply_text(alloc: Global, reply: &Reply) -> Result<Vec<u8>, AllocError> {
-    let mut text = Text::new(alloc);
+    let mut text = WrittenText::new(alloc);
     put_reply(alloc, &mut text, reply, 0);
     if text.is_cut_off() {
         return Err(AllocError);

@@ -6,6 +6,5 @@ pub mod Standing
 pub mod Owned
 pub mod Shared
 pub mod Tries
-pub mod Turned
 pub mod Told
 pub mod Heard

@@ -23,6 +23,7 @@ use Rattle.ent_feed.specs.declared.group.Group.{Group}
 use Rattle.ent_feed.specs.Feed.{Feed}
 use Rattle.ent_feed.specs.Group.{after_changes, after_groups}
 use Rattle.ent_feed.specs.Telling.{AreTold, all_commits, commits_of, settled_database}
+use Rattle.ent_feed.proofs.Told.{commits-append}
 use Rattle.ent_epoch.specs.Telling.{HaveTickets, TellsRest, telling_at}
 use Rattle.ent_waiting.specs.declared.waiter.Submission.{Submission}
 use Rattle.ent_epoch.specs.Epoch.{Epoch, Publishes, Takes}
@@ -90,21 +91,7 @@ same_commits tickets more number (entry ∷ entries) owned =
     let others = same_commits tickets more (suc number) entries owned.1 in
     λ i. record { ticket = unwrap_or (here i) 0; number = number; answers = entry.answers } ∷ others i
 
-commits_both : (tickets : List ℕ) (number : ℕ) (first second : List Entry)
-    → commits_of tickets number (first ++ second)
-    ≡ commits_of tickets number first ++ commits_of tickets (number + length first) second
-commits_both tickets number [] second =
-    let same : number ≡ number + 0 = omega arith in
-    ap (λ n. commits_of tickets n second) same
-commits_both tickets number (entry ∷ first) second =
-    let same : suc number + length first ≡ number + length (entry ∷ first) = omega arith in
-    let here : Commit =
-    record { ticket = unwrap_or (numbered tickets entry.tx) 0; number = number; answers = entry.answers } in
-    ap (λ (commits : List Commit). here ∷ commits)
-    (commits_both tickets (suc number) first second
-    ∙ ap (λ n. commits_of tickets (suc number) first ++ commits_of tickets n second) same)
-
-groups_both : (first second : List Group) (database : Database)
+pub groups_both : (first second : List Group) (database : Database)
     → after_groups (first ++ second) database ≡ after_groups second (after_groups first database)
 groups_both [] second database = refl
 groups_both (group ∷ first) second database = groups_both first second (after_changes group.changes database)
@@ -222,7 +209,7 @@ module _
       (told.commits ∙ ap (λ (entries : List Entry). commits_of old.tickets 1 entries) told_then)
       ∙ ap (λ (commits : List Commit). commits_of old.tickets 1 first.journal ++ commits)
       (since.2 ∙ ap (λ n. commits_of old.tickets n since.0) (let e : suc (length first.journal) ≡ 1 + length first.journal = omega arith in e))
-      ∙ sym (commits_both old.tickets 1 first.journal since.0)
+      ∙ sym (commits-append old.tickets 1 first.journal since.0)
       ∙ ap (λ (entries : List Entry). commits_of old.tickets 1 entries) (sym grown ∙ sym (all_taken journal))
 
   pub published_told : AreToldOf opening new (groups ++ publishes.groups)

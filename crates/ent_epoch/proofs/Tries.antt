@@ -1,5 +1,5 @@
 -- The tries of scripts that ask for one run each.
-use Rattle.std.proofs.Common.{◌≡◌, ◌∙◌, ◌+◌, ◌<◌, ◌≤◌, ℕ, zero, suc, Bool, true, false, List, [], ◌∷◌, ◌++◌, length, refl}
+use Rattle.std.proofs.Common.{◌≡◌, ◌∙◌, ◌+◌, ◌<◌, ◌≤◌, ℕ, suc, Bool, true, false, List, [], ◌∷◌, length, refl}
 use Rattle.std.proofs.Common.{sym, ap, subst, Some, arith, Result, Ok, Err, length-append, nat_le}
 use Rattle.ent_tree.specs.declared.limits.TheConstants.{MOST_SCRIPTS}
 use Rattle.ent_tree.specs.declared.script.Script.{Script}
@@ -8,6 +8,8 @@ use Rattle.ent_semantics.specs.declared.statement.Statement.{Statement}
 use Rattle.std.specs.List.{AllByRecursion, sum_by}
 use Rattle.std.proofs.Math.ListN.{drop_of_length-le}
 use Rattle.std.proofs.lemmas.List.Sums.{sum_by-cons}
+use Rattle.std.proofs.lemmas.List.{nil_from_length}
+use Rattle.ent_lists.proofs.Lists.{all_behind}
 use Rattle.ent_form.specs.declared.fault.FormFault.{FormFault}
 use Rattle.ent_group.specs.declared.members.TheConstants.{MOST_MEMBERS}
 use Rattle.ent_sched.specs.Passed.{resolved_forms}
@@ -18,16 +20,10 @@ use Rattle.ent_protocol.specs.State.{State, Submitted as Own, Dormant, Member, m
 use Rattle.ent_protocol.specs.Step.{Step}
 use Rattle.ent_protocol_laws.specs.Attempts.{AskForMost, HasRunLeft, MayTakePart, StayWithin}
 use Rattle.ent_semantics.specs.Serial.{numbered}
+use Rattle.ent_semantics.proofs.Numbered.{of_numbered}
 use Rattle.ent_termination.specs.Tries.{present_run, runs_beyond, tries_left}
 use Rattle.ent_epoch.specs.Epoch.{AddsOne}
 use Rattle.ent_epoch.specs.OneRun.{AreForOneRun}
-
-of_numbered : {A : Type 0} (P : A → Type 0) (xs : List A) (n : ℕ) (a : A) → AllByRecursion P xs
-    → numbered xs n ≡ Some a → P a
-of_numbered P xs zero a all e = cc
-of_numbered P [] (suc n) a all e = cc
-of_numbered P (x ∷ xs) (suc zero) a all e = let same : x ≡ a = cc in subst P same all.0
-of_numbered P (x ∷ xs) (suc (suc n)) a all e = of_numbered P xs (suc n) a all.1 e
 
 module _ (submitted : List Own) (once : AllByRecursion (λ (own : Own). own.script.within ≤ 1) submitted) where
   bound : (own : Own) (tx : ℕ) → numbered submitted tx ≡ Some own → own.script.within ≤ 1
@@ -70,10 +66,6 @@ pub recalled_kept : (s new : State) → new ≡ record s { lent = [] } → AreFo
 recalled_kept s new is kept =
     subst (λ (t : State). AreForOneRun t) (sym is)
     (let t : State = record s { lent = [] } in record { once = kept.once; fit = kept.fit; alone = kept.alone })
-
-empty_list : {A : Type 0} (xs : List A) → length xs ≡ 0 → xs ≡ []
-empty_list [] e = refl
-empty_list (x ∷ xs) e = absurd (omega (arith, e))
 
 starting_kept : (s : State) → s.running ≡ false → AreForOneRun s → AreForOneRun (starting s) × ((starting s).dormant ≡ [])
 starting_kept s off kept =
@@ -121,7 +113,7 @@ module _ (s new : State) (none : s.dormant ≡ []) (submitted : new.submitted �
             kept.once;
         fit = λ off. omega (arith, one, none_counted, before, after, fewer);
         alone = λ on. let here = present_on new.running on in
-            empty_list new.dormant (omega (arith, one, none_counted, before, after, fewer, here));
+            nil_from_length new.dormant (omega (arith, one, none_counted, before, after, fewer, here));
       }
 
   by_running : (running : Bool) → s.running ≡ running → new.running ≡ false → (¬ CanClose s → tries_left new < tries_left s)
@@ -130,17 +122,13 @@ module _ (s new : State) (none : s.dormant ≡ []) (submitted : new.submitted �
   by_running true on ended uses same =
       let less = uses (λ can. absurd (let e = sym on ∙ can.0 in cc)) in
       let one = at_most_one s.running in
-      (ended, empty_list new.dormant (omega (arith, one, none_counted, before, after, less)))
+      (ended, nil_from_length new.dormant (omega (arith, one, none_counted, before, after, less)))
 
   pub ended_closes : new.running ≡ false → (¬ CanClose s → tries_left new < tries_left s) → (CanClose s → new ≡ s)
       → CanClose new
   ended_closes ended uses same = by_running s.running refl ended uses same
 
 -- ---- a script comes in
-
-all_more : {A : Type 0} (P : A → Type 0) (xs : List A) (x : A) → AllByRecursion P xs → P x → AllByRecursion P (xs ++ x ∷ [])
-all_more P [] x all p = (p, tt)
-all_more P (y ∷ ys) x all p = (all.0, all_more P ys x all.1 p)
 
 -- what holds once a script is in
 record IsIn (s : State) (tx : ℕ) (new : State) : Type 0 where
@@ -157,7 +145,7 @@ module _ (s new : State) (script : Script) (tx : ℕ) (kept : AreForOneRun s) (o
       let many = length-append s.submitted (record { script = script; form = form } ∷ []) in
       record {
         for_one = record {
-          once = all_more (λ (x : Own). x.script.within ≤ 1) s.submitted (record { script = script; form = form })
+          once = all_behind (λ (x : Own). x.script.within ≤ 1) s.submitted (record { script = script; form = form })
               kept.once within;
           fit = λ e. omega (arith, more, room);
           alone = λ on. absurd (let e = sym off ∙ on in cc);

@@ -34,7 +34,7 @@ use ent_feed::{Feed, NoNumber};
 use ent_form::FormFault;
 use ent_group::Tx;
 use ent_renewal::{FinishedBook, TooManyRows};
-use ent_sched::{Core, NotDone, Reply, Standing, resolved_runs_are_legal};
+use ent_sched::{Core, NotClosed, NotDone, Reply, Standing, resolved_runs_are_legal};
 use ent_semantics::{Fate, element};
 use ent_tree::{Opening, Script};
 use ent_value::{Name, Refusal};
@@ -89,7 +89,7 @@ impl Model for Epoch {
 
 /// An epoch that isn't closed, as it was, and why.
 #[derive(Drop)]
-pub struct NotClosed {
+pub struct UnclosedEpoch {
     pub epoch: Epoch,
     pub refusal: Refusal<NotDone>,
 }
@@ -425,7 +425,7 @@ impl Epoch {
 
     /// The book of the epoch, where no run is on and nobody waits for one; else, and where memory runs out, the epoch
     /// comes back.
-    pub fn close(self) -> Result<FinishedBook, NotClosed>
+    pub fn close(self) -> Result<FinishedBook, UnclosedEpoch>
         ensures book { IfOk result (λ book. book_seen book ≡ book_of self.core) }
         ensures legal { IfOk result (λ book. IsLegal (book_seen book)) }
         ensures done { OnOk result (CanClose self.core) }
@@ -447,7 +447,7 @@ impl Epoch {
         open.is_reached();
         match open.close() {
             Ok(book) => Ok(FinishedBook::new(book)),
-            Err(ent_sched::NotClosed { core, refusal }) => Err(NotClosed {
+            Err(NotClosed { core, refusal }) => Err(UnclosedEpoch {
                 epoch: Epoch {
                     number,
                     core: Some(core),

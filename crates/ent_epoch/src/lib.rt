@@ -25,7 +25,7 @@ mod turn;
 
 pub use ent_renewal::FinishedBook;
 pub use ent_sched::resolved_runs_are_legal;
-pub use epoch::{Epoch, NotClosed, NotSubmitted};
+pub use epoch::{Epoch, NotSubmitted, UnclosedEpoch};
 pub use law::groups_tell_of_epochs;
 pub use notes_law::{
     entries_have_tickets, groups_of_notes_tell, notes_are_of_what_was_told, tellings_keep_up,

@@ -25,7 +25,7 @@ use std::sync::Arc;
 
 /// What the groups of an epoch are made of: its tables, its journal, and the ticket of each of its transactions.
 #[derive(Clone, Copy, Drop)]
-pub(crate) struct Source<'a> {
+pub(crate) struct GroupSource<'a> {
     pub(crate) epoch: u64,
     pub(crate) opening: &'a Opening,
     pub(crate) journal: &'a [Entry],
@@ -55,7 +55,7 @@ fn answers_at(journal: &[Entry], number: u64) -> &[Answer]
 /// The commits of members, in order, the first of which has this number.
 fn commits(
     alloc: Global,
-    source: Source<'_>,
+    source: GroupSource<'_>,
     first: u64,
     members: &Members,
 ) -> Result<Sequence<Commit>, AllocError>
@@ -79,7 +79,7 @@ fn commits(
 /// The commits of the journal behind so many entries.
 fn commits_behind(
     alloc: Global,
-    source: Source<'_>,
+    source: GroupSource<'_>,
     told: usize,
 ) -> Result<Sequence<Commit>, AllocError>
     requires { told ≤ length source.journal.now }
@@ -98,7 +98,7 @@ fn commits_behind(
     Ok(commits)
 }
 
-impl Source<'_> {
+impl GroupSource<'_> {
     /// The group, with this number, of all that the journal has behind so many entries. `before` and `behind` have the
     /// tables as they stood behind those and as they stand, in the order of their declaration.
     pub(crate) fn group_of_rest(

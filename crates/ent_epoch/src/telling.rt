@@ -15,11 +15,11 @@ ghost use Rattle.ent_epoch.specs.Telling.{HaveTickets, HearsOn, KeepsUp, TellsRe
 
 use crate::notes::{Note, put_note, settled_tables};
 use crate::notes_law::{groups_tell_the_rest, settled_tables_are_declared, what_is_told_stands};
-use crate::publishing::Source;
+use crate::publishing::GroupSource;
 use ent_eval::Done;
 use ent_feed::{Group, NoNumber};
 use ent_rel::Table;
-use ent_sched::{Core, Reply, Told, Watcher};
+use ent_sched::{Core, MadeEvent, Reply, Watcher};
 use ent_value::Refusal;
 use ent_waiting::Ticket;
 use std::alloc::{AllocError, Global};
@@ -102,7 +102,7 @@ impl Telling {
         settled_tables_are_declared();
         groups_tell_the_rest();
         core.is_reached();
-        let source = Source {
+        let source = GroupSource {
             epoch,
             opening: core.opening(),
             journal: core.journal(),
@@ -121,7 +121,7 @@ impl Telling {
         &self,
         alloc: Global,
         number: u64,
-        source: Source<'_>,
+        source: GroupSource<'_>,
     ) -> Result<Vec<Group>, Refusal<NoNumber>>
         requires distinct { IsDistinct same_name (table_names source.opening.now) }
         requires tables { length self.now.tables ≡ length source.opening.now.tables }
@@ -155,7 +155,7 @@ impl Telling {
         &self,
         alloc: Global,
         number: u64,
-        source: Source<'_>,
+        source: GroupSource<'_>,
         behind: &[Arc<Table>],
     ) -> Result<Vec<Group>, Refusal<NoNumber>>
         requires distinct { IsDistinct same_name (table_names source.opening.now) }
@@ -201,13 +201,14 @@ impl Watcher for Telling {
 
     fn mark(&self, _done: &Done) {}
 
-    fn tell(&mut self, _told: Told<()>, reply: &Reply, core: &Core)
+    fn tell(&mut self, _told: MadeEvent<()>, reply: &Reply, core: &Core)
         ensures { (event : Event)
             → TellsOf (λ mark done. Unit {0}) _told event
             → HearsOn self.old (heard_of event (reply_seen reply.now) core.now) self.new }
     {
         if let Reply::Committed { first, members } = reply {
-            let noted = put_note(self.alloc, &mut self.notes, *first, members, core);
+            let members = members.unpacked();
+            let noted = put_note(self.alloc, &mut self.notes, *first, &members, core);
             if noted.is_err() {
                 self.is_whole = false;
             }

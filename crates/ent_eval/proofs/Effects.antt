@@ -27,6 +27,7 @@ use Rattle.ent_protocol.specs.Uses.{shared, statement_uses}
 use Rattle.ent_select.specs.Tables.{kinds_in, rows_in}
 use Rattle.ent_effect.specs.Change.{IsApplicable}
 use Rattle.ent_semantics.specs.FormKinds.{Fits, tables_named}
+use Rattle.ent_semantics.proofs.Replied.{rows_are_no_count}
 use Rattle.ent_effect.specs.Meant.{rows_under, effect_of, IsMeant, CanBeApplied}
 use Rattle.ent_effect.specs.Meant as meant
 use Rattle.ent_job.specs.Work.{AreUsed, IsOne}
@@ -110,9 +111,6 @@ abbrev answer_in : Result (Effect Tables) Failure → Answer
 answer_in (Ok effect) = effect.answer
 answer_in (Err failure) = answers.Count 0
 
-rows_or_count : (rows : List (List Value)) (count : ℕ) → answers.Rows rows ≡ answers.Count count → ⊥
-rows_or_count rows count is = absurd cc
-
 -- A change that a statement tells is of its table: a SELECT's rows are no change, and a SET has no table.
 change_is : (statement : Statement Value) (tables : List Numbered) (table : Relation) (count : ℕ) (delta : Delta)
     → AreUsed (statement_uses statement) tables → Fits (map (λ (seen : Numbered). seen.kinds) tables) statement
@@ -121,7 +119,7 @@ change_is : (statement : Statement Value) (tables : List Numbered) (table : Rela
     ≡ effect_of statement (outcomes.Changed count delta) (tables_of tables) nothing_bound
     → IsChange statement (tables_of tables) delta
 change_is (statements.Select select) tables table count delta used fits one is =
-    absurd (rows_or_count _ count (ap answer_in is))
+    absurd (rows_are_no_count _ count (ap answer_in is))
 change_is (statements.Entangled entangled) tables table count delta used fits one is = absurd fits
 change_is (statements.Insert number values) tables table count delta used fits one is =
     changed_there tables number table _ one used

@@ -8,7 +8,7 @@ use Rattle.std.specs.List.{AllByRecursion, flat_map, list_any}
 use Rattle.std.specs.List.Sorted.{IsStrictlySortedBy}
 use Rattle.std.specs.Ordering.{eq_by_cmp, nat_cmp}
 use Rattle.std.specs.declared.cmp.Ordering.TheVariants.{Less}
-use Rattle.std.proofs.Math.Bool.{and-true}
+use Rattle.std.proofs.Math.Bool.{and-true, or-false}
 use Rattle.std.proofs.lemmas.Bool.{eqb-true, ltb-true, ltb-false}
 use Rattle.std.proofs.lemmas.Bool.Decides.{nat_tests}
 use Rattle.std.proofs.lemmas.Cmp.{nat_cmp_total}
@@ -16,6 +16,8 @@ use Rattle.std.proofs.lemmas.List.{map-append}
 use Rattle.ent_lists.specs.Elements.{neither}
 use Rattle.ent_lists.specs.Laws.{same_set, contains-from_list, ascending-from_list, is_sorted_from}
 use Rattle.ent_lists.specs.Sets as set
+use Rattle.ent_lists.proofs.Truth.{or_swap}
+use Rattle.ent_lists.proofs.Lists.{all_above}
 use Rattle.ent_value.specs.declared.value.Value.{Value}
 use Rattle.ent_semantics.specs.declared.entangled.Entangled.{Entangled}
 use Rattle.ent_semantics.specs.declared.entangled.Membership.{Membership}
@@ -73,12 +75,6 @@ shared_uses (n ∷ ns) held =
     by false = refl
 
 -- ---- which numbers there are
-
-or_swap : (a b c : Bool) → (a || (b || c)) ≡ (b || (a || c))
-or_swap true true c = refl
-or_swap true false c = refl
-or_swap false true c = refl
-or_swap false false c = refl
 
 or_moved : (a b c : Bool) → (a || (b || c)) ≡ ((b || a) || c)
 or_moved true true c = refl
@@ -149,10 +145,6 @@ all_inserted P n (u ∷ us) p all = by (nat_lt n u) (all_inserted P n us p all.1
     by true rest = (p, (all.0, all.1))
     by false rest = (all.0, rest)
 
-all_above : (n u : ℕ) (us : List ℕ) → n < u → AllByRecursion (λ m. u < m) us → AllByRecursion (λ m. n < m) us
-all_above n u [] below all = tt
-all_above n u (m ∷ us) below all = let first = all.0 in (omega arith, all_above n u us below all.1)
-
 insert_rises : (n : ℕ) (held : List ℕ) → list_any (λ u. n == u) held ≡ false → Rises held
     → Rises (inserted itself n held)
 insert_rises n [] new rises = (tt, tt)
@@ -188,17 +180,13 @@ unfolding IsStrictlySortedBy
 in_order [] rises = tt
 in_order (n ∷ ns) rises = (all_less n ns rises.0, in_order ns rises.1)
 
-or_false : (b : Bool) → (b || false) ≡ b
-or_false true = refl
-or_false false = refl
-
 numbered_is : (ns : List ℕ) → numbered ns [] ≡ set.ascending (set.from_list {R = nat_cmp} ns)
 numbered_is ns =
     sym (ascending-from_list nat_cmp_total nat_cmp-IsAntisymmetric (numbered ns [])
     (is_sorted_from nat_cmp (numbered ns []) (in_order (numbered ns []) (numbered_rises ns [] tt))))
     ∙ ap set.ascending (same_set nat_cmp_total nat_cmp-IsAntisymmetric _ _ (λ q.
     contains-from_list nat_cmp_total nat_cmp-IsAntisymmetric (numbered ns []) q ∙ has_numbered q ns []
-    ∙ or_false (list_any (eq_by_cmp nat_cmp q) ns)
+    ∙ or-false (list_any (eq_by_cmp nat_cmp q) ns)
     ∙ sym (contains-from_list nat_cmp_total nat_cmp-IsAntisymmetric ns q)))
 
 -- ---- the uses of statements

@@ -1,7 +1,7 @@
 //! Lines that are written, until something stops them. A writer here doesn't fail: it marks the lines as stopped.
 use anyhow::{Context, Result, bail};
 use ent_group::Members;
-use ent_trace::Text;
+use ent_trace::WrittenText;
 use ent_value::Name;
 use std::alloc::Global;
 
@@ -36,7 +36,7 @@ impl Stop {
 /// where memory ran out for one of them.
 #[derive(Drop)]
 pub(crate) struct Out {
-    pub(crate) text: Text,
+    pub(crate) text: WrittenText,
     line: usize,
     stop: Option<Stop>,
 }
@@ -44,7 +44,7 @@ pub(crate) struct Out {
 impl Out {
     pub(crate) fn new(alloc: Global) -> Self {
         Out {
-            text: Text::new(alloc),
+            text: WrittenText::new(alloc),
             line: 0,
             stop: None,
         }

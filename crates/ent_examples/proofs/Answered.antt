@@ -1,10 +1,13 @@
 -- Friends of the pool of a state are picked, and answered together; or their result is stale.
 use Rattle.std.proofs.Common.{◌≡◌, ℕ, zero, suc, ◌≤◌, Bool, true, false, List, [], ◌∷◌, ◌++◌, map}
 use Rattle.std.proofs.Common.{refl, sym, ap, subst, ◌∙◌, arith, rules, inl, Some}
+use Rattle.std.proofs.lemmas.Bool.{leb-true}
 use Rattle.std.specs.Prelude.{Contains, nat_le, ◌==◌, if◌then◌else◌}
 use Rattle.std.specs.List.{list_all}
+use Rattle.ent_protocol_laws.proofs.Determined.{same_asked}
 use Rattle.ent_coordination.specs.Component.{IsComponent, IsInRemainder, AreJoined}
 use Rattle.ent_coordination.specs.Pool.{Posted, first_tx}
+use Rattle.ent_coordination.proofs.Linked.{linked_end}
 use Rattle.ent_protocol.specs.Event.{Reply}
 use Rattle.ent_protocol.specs.Event as replies
 use Rattle.ent_protocol.specs.Finish.{IsOutstandingSingle, IsTaken}
@@ -13,6 +16,7 @@ use Rattle.ent_protocol.specs.Member.{pool}
 use Rattle.ent_protocol.specs.PoolEvents.{joining, joint_job, CanBePicked, IsOut, IsOutstandingJoint}
 use Rattle.ent_protocol.specs.PoolEvents.{IsPresentComponent, Lends, Joins}
 use Rattle.ent_lists.specs.Elements.{in_contains}
+use Rattle.ent_lists.proofs.Contained.{of_mapped, to_mapped, contains_none}
 use Rattle.ent_protocol.specs.PostedBy.{is_present}
 use Rattle.ent_protocol.specs.State.{State}
 use Rattle.ent_termination.proofs.Taken.{none_taken}
@@ -20,12 +24,8 @@ use Rattle.ent_examples.specs.Wish.{Friend, posted, joint_done}
 use Rattle.ent_examples.specs.Wish as wishes
 use Rattle.ent_examples.proofs.Choice.{taken, least_taken, have_partners}
 use Rattle.ent_examples.proofs.Component.{chosen, are_served, are_closed, joined, ascends, component, remains}
-use Rattle.ent_examples.proofs.Component.{linked_on}
 use Rattle.ent_examples.proofs.Component.{joined_by}
-use Rattle.ent_examples.proofs.Listed.{none_there, by_first, image_of, image_there, each_passes}
-
-pub at_most : (n m : ℕ) → nat_le n m ≡ true → n ≤ m
-at_most n m h = grind (arith, rules)
+use Rattle.ent_examples.proofs.Listed.{by_first, each_passes}
 
 -- what has to be so of the members of a component
 pub record AreTogether (friends : List Friend) (among : ℕ → Bool) (first : Friend) (more : List Friend) : Type 0 where
@@ -41,12 +41,12 @@ module _ (s : State) (friends : List Friend) (asked : pool s ≡ map posted frie
   pub first_at_least : (n : ℕ) → list_all (λ friend. nat_le n friend.tx) friends ≡ true → (others : List Posted)
       → IsPresentComponent s others → n ≤ first_tx others
   first_at_least n h [] is =
-      absurd (none_there _ ((is.class is.first).1 (is.in_remainder, (zero, refl))))
+      absurd (contains_none _ ((is.class is.first).1 (is.in_remainder, (zero, refl))))
   first_at_least n h (a ∷ others) is =
-      let x = image_of posted friends a
+      let x = of_mapped posted friends a
       (subst (λ xs. Contains xs a) asked
       (in_contains (pool s) a (is_present (pool s) (a ∷ others) is a (inl refl)))) in
-      subst (λ tx. n ≤ tx) (sym (ap (λ (a : Posted). a.tx) x.2)) (at_most n x.0.tx (each_passes _ friends x.0 h x.1))
+      subst (λ tx. n ≤ tx) (sym (ap (λ (a : Posted). a.tx) x.2)) (leb-true n x.0.tx (each_passes _ friends x.0 h x.1))
 
   module _ (among : ℕ → Bool) (first : Friend) (more : List Friend)
       (together : AreTogether friends among first more) where
@@ -74,7 +74,7 @@ module _ (s : State) (friends : List Friend) (asked : pool s ≡ map posted frie
           asked = map posted members;
           can = record {
             component = present;
-            untried = λ tried. none_there _ (subst (λ xs. Contains xs (map posted members)) tried_is tried);
+            untried = λ tried. contains_none _ (subst (λ xs. Contains xs (map posted members)) tried_is tried);
             not_out = not_out;
           };
           least = least h;
@@ -107,7 +107,7 @@ module _ (s : State) (friends : List Friend) (asked : pool s ≡ map posted frie
 -- ---- what isn't outstanding
 
 pub nothing_out : (s : State) (asked : List Posted) → s.lent ≡ [] → IsOut s asked → ⊥
-nothing_out s asked e h = none_there h.0 (subst (λ jobs. Contains jobs h.0) e h.1)
+nothing_out s asked e h = contains_none h.0 (subst (λ jobs. Contains jobs h.0) e h.1)
 
 pub stale_joint : (s : State) (done : Done) → s.lent ≡ [] → IsOutstandingJoint s done → ⊥
 stale_joint s done e h = none_taken done.job s.lent h.left e h.taken
@@ -133,10 +133,7 @@ no_class : (pool ones : List Posted) (member next : Posted) → Contains ones me
     → IsInRemainder pool next → (Contains ones next → ⊥) → IsComponent pool ones → ⊥
 no_class pool ones member next there join remains out h =
     let way = ((h.class member).0 there).1 in
-    out ((h.class next).1 (remains, (suc way.0, linked_on pool way.0 h.first member next way.1 join remains)))
-
-same_work : (one other : List Posted) → Joint one ≡ Joint other → one ≡ other
-same_work one other e = cc
+    out ((h.class next).1 (remains, (suc way.0, linked_end pool way.0 h.first member next way.1 join remains)))
 
 -- the result of a component with a member of which another one, who remains, is joined, and who isn't of it
 pub grown : (s : State) (friends : List Friend) → pool s ≡ map posted friends → (among : ℕ → Bool)
@@ -146,24 +143,24 @@ pub grown : (s : State) (friends : List Friend) → pool s ≡ map posted friend
     → IsOutstandingJoint s (joint_done members) → ⊥
 grown s friends asked among served members member next there is_chosen join apart h =
     no_class (map posted friends) (map posted members) (posted member) (posted next)
-    (image_there posted members member there) (joined_by friends among member next join)
+    (to_mapped posted members member there) (joined_by friends among member next join)
     (remains friends among served next is_chosen) out
     (subst (λ xs. IsComponent xs (map posted members)) asked
-    (subst (IsComponent (pool s)) (sym (same_work (map posted members) h.asked h.is_joint)) h.component))
+    (subst (IsComponent (pool s)) (sym (same_asked (map posted members) h.asked h.is_joint)) h.component))
   where
     no_other : (n m : ℕ) → n ≡ m → (if n == m then false else true) ≡ true → ⊥
     no_other n m e k = grind (arith, rules)
 
     out : Contains (map posted members) (posted next) → ⊥
     out k =
-        let x = image_of posted members (posted next) k in
+        let x = of_mapped posted members (posted next) k in
         no_other x.0.tx next.tx (sym (ap (λ (p : Posted). p.tx) x.2)) (each_passes _ members x.0 apart x.1)
 
 -- where nothing is posted no joint result is outstanding
 pub gone : (s : State) → pool s ≡ [] → (done : Done) → IsOutstandingJoint s done → ⊥
 gone s none done h =
     let first = h.component.in_remainder.is_in.0 in
-    none_there _ (subst (λ xs. Contains xs h.component.first) none first)
+    contains_none _ (subst (λ xs. Contains xs h.component.first) none first)
 
 pub one_lent : (job other : Job) → Contains (job ∷ []) other → other ≡ job
-one_lent job other h = by_first job other [] (λ e. e) (λ more. absurd (none_there _ more)) h
+one_lent job other h = by_first job other [] (λ e. e) (λ more. absurd (contains_none _ more)) h

@@ -1,5 +1,6 @@
 -- A run that can't end, event by event.
 use Rattle.std.proofs.Common.{◌≡◌, inl, inr, ℕ, true, [], ◌∷◌, ◌++◌, map, refl, subst, arith, Option, Some, None}
+use Rattle.ent_lists.proofs.Contained.{contains_none}
 use Rattle.ent_tree.specs.declared.script.End.TheVariants.{Commit}
 use Rattle.ent_protocol.specs.Begin.{posting}
 use Rattle.ent_protocol.specs.Event as replies
@@ -21,11 +22,11 @@ use Rattle.ent_examples.proofs.Answered.{lends, joins, nothing_out, present}
 use Rattle.ent_examples.proofs.Choice.{taken}
 use Rattle.ent_examples.proofs.Component.{everyone}
 use Rattle.ent_examples.proofs.HeldBackPlay.{together}
-use Rattle.ent_examples.proofs.Listed.{none_there, by_first, each_passes}
+use Rattle.ent_examples.proofs.Listed.{by_first, each_passes}
 use Rattle.ent_examples.proofs.Members.{fresh, answered}
 use Rattle.ent_examples.proofs.Reasons.{none_out, least_mover, least_untried, least_out, two_wait}
 use Rattle.ent_examples.proofs.Safe.{safe}
-use Rattle.ent_examples.proofs.Steps.{plays_on, submits}
+use Rattle.ent_examples.proofs.Steps.{◌▸◌, plays_on, submits}
 use Rattle.ent_examples.proofs.Waiting.{quiet, none_remains, false_true, all_wait}
 
 no_mover : (s : State) → all_wait s ≡ true → NoneIs (CanMove s)
@@ -76,7 +77,7 @@ module _ {F : Type 0} {resolved : Forms F} (one : ScriptOf resolved 8 (asks_form
     least_untried two_posted two_friends refl 1 refl (record {
       asked = map posted two_friends;
       component = present two_posted two_friends refl everyone _ _ together;
-      untried = λ tried. none_there _ tried;
+      untried = λ tried. contains_none _ tried;
       first = refl;
     }),
   )
@@ -96,51 +97,20 @@ module _ {F : Type 0} {resolved : Forms F} (one : ScriptOf resolved 8 (asks_form
   lends_both = lends two_posted two_friends refl everyone _ _ together refl (nothing_out two_posted _ refl) refl
 
   busy : Plays resolved (opened partners_opening) (is_busy one two) joined
-  busy = (
-    one_in,
-    submits resolved one (opened partners_opening) refl refl,
-    (
-      two_in,
-      submits resolved two one_in refl refl,
-      (
-        two_in,
-        (refl, refl),
-        (
-          started,
-          (refl, refl),
-          (
-            started,
-            (refl, refl),
-            (
-              started,
-              inr (_, first_can, (refl, refl)),
-              (
-                one_posted,
-                inl (safe (first_asks 1 mickey ∷ []) refl, refl, refl),
-                (
-                  two_posted,
-                  inl (safe two_friends refl, refl, refl),
-                  (
-                    two_posted,
-                    inr (_, both_untried, (refl, refl)),
-                    (
-                      picked,
-                      inl lends_both,
-                      (
-                        picked,
-                        inr (_, both_out, (refl, refl)),
-                        (joined, inl (joins picked two_friends refl everyone _ _ together refl [] (alone _)), refl),
-                      ),
-                    ),
-                  ),
-                ),
-              ),
-            ),
-          ),
-        ),
-      ),
-    ),
-  )
+  busy =
+      (one_in, submits resolved one (opened partners_opening) refl refl)
+      ▸ (two_in, submits resolved two one_in refl refl)
+      ▸ (two_in, (refl, refl))
+      ▸ (started, (refl, refl))
+      ▸ (started, (refl, refl))
+      ▸ (started, inr (_, first_can, (refl, refl)))
+      ▸ (one_posted, inl (safe (first_asks 1 mickey ∷ []) refl, refl, refl))
+      ▸ (two_posted, inl (safe two_friends refl, refl, refl))
+      ▸ (two_posted, inr (_, both_untried, (refl, refl)))
+      ▸ (picked, inl lends_both)
+      ▸ (picked, inr (_, both_out, (refl, refl)))
+      ▸ (joined, inl (joins picked two_friends refl everyone _ _ together refl [] (alone _)))
+      ▸ refl
 
   -- ---- the cycle
 
@@ -154,7 +124,7 @@ module _ {F : Type 0} {resolved : Forms F} (one : ScriptOf resolved 8 (asks_form
       (λ e. is_none 2 (subst (λ member. MovesBy joined member (next_of joined member)) e can.moves)) (λ later.
       by_first (answered 2 1 1 minnie) can.member []
       (λ e. is_none 1 (subst (λ member. MovesBy joined member (next_of joined member)) e can.moves))
-      (λ more. absurd (none_there _ more)) later) can.active
+      (λ more. absurd (contains_none _ more)) later) can.active
 
   no_component : NoneIs (IsUntried joined)
   no_component tx untried =
@@ -164,30 +134,24 @@ module _ {F : Type 0} {resolved : Forms F} (one : ScriptOf resolved 8 (asks_form
   in_cycle = (none_out joined refl (λ tx. refl), blocked, no_component, two_wait joined refl)
 
   cycle : Plays resolved joined cycle_stands last
-  cycle = (
-    joined,
-    (refl, refl),
-    (
-      joined,
-      (refl, refl),
-      (
-        joined,
-        inr (_, in_cycle, (refl, refl)),
-        (
-          rolled_back 1 NoOne joined,
-          inl (record {
-            cycle = 2 ∷ 1 ∷ [];
-            deadlock = two_wait joined refl;
-            victim = answered 2 1 1 minnie;
-            is_victim = refl;
-            replies = refl;
-            is = refl;
-          }),
-          (last, inl (quiet (rolled_back 1 NoOne joined) [] refl refl (λ tx. refl) refl refl, refl, refl), refl),
-        ),
-      ),
-    ),
-  )
+  cycle =
+      (joined, (refl, refl))
+      ▸ (joined, (refl, refl))
+      ▸ (joined, inr (_, in_cycle, (refl, refl)))
+      ▸ (
+        rolled_back 1 NoOne joined,
+        inl (
+            record {
+              cycle = 2 ∷ 1 ∷ [];
+              deadlock = two_wait joined refl;
+              victim = answered 2 1 1 minnie;
+              is_victim = refl;
+              replies = refl;
+              is = refl;
+            }),
+      )
+      ▸ (last, inl (quiet (rolled_back 1 NoOne joined) [] refl refl (λ tx. refl) refl refl, refl, refl))
+      ▸ refl
 
   pub played : Plays resolved (opened partners_opening) (is_busy one two ++ cycle_stands) last
   played = plays_on resolved (is_busy one two) cycle_stands (opened partners_opening) joined last busy cycle

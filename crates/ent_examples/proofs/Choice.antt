@@ -11,10 +11,11 @@ use Rattle.ent_semantics.specs.Entangled.{Valuation}
 use Rattle.ent_semantics.specs.Names.{equal_names}
 use Rattle.ent_coordination.specs.Choice.{IsLeastChoice, AreGroundings, all_heads, all_posts, choice_cmp}
 use Rattle.ent_lists.specs.Elements.{and_both}
+use Rattle.ent_lists.proofs.Contained.{of_mapped, to_mapped}
 use Rattle.ent_protocol.specs.Partners.{flight_122}
 use Rattle.ent_protocol.proofs.PartnersChoice.{seen, flight_123, grounds, one_value}
 use Rattle.ent_examples.specs.Wish.{Friend, posted}
-use Rattle.ent_examples.proofs.Listed.{image_of, image_there, each_passes, one_passes}
+use Rattle.ent_examples.proofs.Listed.{each_passes, one_passes}
 use Rattle.ent_examples.proofs.Meets.{meets}
 
 -- ---- a choice
@@ -59,14 +60,14 @@ met : (friends : List Friend) → have_partners friends ≡ true → (demand : F
     → Contains (all_posts (map posted friends) (taken friends)) demand
     → Contains (all_heads (map posted friends) (taken friends)) demand
 met friends h demand there =
-    let asker = image_of post friends demand (subst (λ facts. Contains facts demand) (posts_are friends) there) in
+    let asker = of_mapped post friends demand (subst (λ facts. Contains facts demand) (posts_are friends) there) in
     let partner = one_passes _ friends (each_passes _ friends asker.0 h asker.1) in
     let same = and_both _ _ partner.2 in
     let relation = equal_names _ _ same.0 in
     let name = equal_names _ _ same.1 in
     subst (λ facts. Contains facts demand) (sym (heads_are friends))
     (subst (λ z. Contains (map head friends) z) (sym (asker.2 ∙ (λ i. fact (relation i) (name i))))
-    (image_there head friends partner.0 partner.1))
+    (to_mapped head friends partner.0 partner.1))
 
 -- ---- the least one
 

@@ -1,16 +1,18 @@
 -- Which friends of a pool are a component.
 use Rattle.std.proofs.Common.{◌≡◌, ◌⊎◌, inl, inr, ℕ, zero, suc, ◌<◌, Bool, true, false, ◌&&◌, ◌||◌, not, List, [], ◌∷◌}
-use Rattle.std.proofs.Common.{map, refl, sym, ap, subst, ◌∙◌, arith, rules, Some}
+use Rattle.std.proofs.Common.{map, refl, sym, ap, subst, ◌∙◌, arith, Some}
 use Rattle.std.specs.Prelude.{AllPairs, Contains, nat_lt, slice_get}
 use Rattle.std.specs.List.{filter, list_all, list_any}
 use Rattle.std.proofs.lemmas.List.Kept.{AllPairs-cons}
+use Rattle.std.proofs.lemmas.Bool.{ltb-true}
 use Rattle.ent_coordination.specs.Component.{IsIn, IsInRemainder, IsSupported, AreJoined, AreLinked, AreLinkedIn}
 use Rattle.ent_coordination.specs.Component.{IsComponent}
 use Rattle.ent_coordination.specs.Pool.{Posted, CanMeet}
 use Rattle.ent_lists.specs.Elements.{and_both, or_first, or_second}
+use Rattle.ent_lists.proofs.Contained.{of_mapped, to_mapped, to_filtered, of_filtered}
 use Rattle.ent_examples.specs.Wish.{Friend, posted}
-use Rattle.ent_examples.proofs.Listed.{image_of, image_there, each_passes, one_passes, unless}
-use Rattle.ent_examples.proofs.Listed.{by_first, first_there, filtered_of, filtered_there, all_where}
+use Rattle.ent_examples.proofs.Listed.{each_passes, one_passes, unless}
+use Rattle.ent_examples.proofs.Listed.{by_first, first_there, all_where}
 use Rattle.ent_examples.proofs.Meets.{meets, can_meet, met_by, no_post}
 
 -- ---- by number
@@ -19,9 +21,6 @@ abbrev pub ascends : List Friend → Bool
 ascends [] = true
 ascends (friend ∷ friends) = list_all (λ other. nat_lt friend.tx other.tx) friends && ascends friends
 
-below : (n m : ℕ) → nat_lt n m ≡ true → n < m
-below n m h = grind (arith, rules)
-
 pub ascending : (friends : List Friend) → ascends friends ≡ true
     → AllPairs (λ (one other : Posted). one.tx < other.tx) (map posted friends)
 ascending [] h = λ i j d i<j j<n. absurd (omega arith)
@@ -29,8 +28,8 @@ ascending (friend ∷ friends) h =
     let parts = and_both _ _ h in
     AllPairs-cons (λ (one other : Posted). one.tx < other.tx) (posted friend) (map posted friends)
     (all_where (λ other. friend.tx < other.tx) (map posted friends) (λ other there.
-    let x = image_of posted friends other there in
-    subst (λ (p : Posted). friend.tx < p.tx) (sym x.2) (below _ _ (each_passes _ friends x.0 parts.0 x.1))))
+    let x = of_mapped posted friends other there in
+    subst (λ (p : Posted). friend.tx < p.tx) (sym x.2) (ltb-true _ _ (each_passes _ friends x.0 parts.0 x.1))))
     (ascending friends parts.1)
 
 -- ---- those of a pool whose transactions are in a set
@@ -58,9 +57,9 @@ module _ (friends : List Friend) (among : ℕ → Bool) where
   in_pool : (x : Posted) → IsIn (map posted friends) among x
       → (friend : Friend) × Contains chosen friend × (x ≡ posted friend)
   in_pool x h =
-      let is = image_of posted friends x h.0 in (
+      let is = of_mapped posted friends x h.0 in (
         is.0,
-        filtered_there (λ friend. among friend.tx) friends is.0 is.1
+        to_filtered (λ friend. among friend.tx) friends is.0 is.1
             (sym (ap (λ (p : Posted). among p.tx) is.2) ∙ h.1),
         is.2,
       )
@@ -71,7 +70,7 @@ module _ (friends : List Friend) (among : ℕ → Bool) where
       let partner = one_passes _ friends (each_passes _ chosen is.0 served is.1) in
       let parts = and_both _ _ partner.2 in (
         posted partner.0,
-        (image_there posted friends partner.0 partner.1, parts.0),
+        (to_mapped posted friends partner.0 partner.1, parts.0),
         subst (λ p. CanMeet p 0 (posted partner.0)) (sym is.2) (can_meet is.0 partner.0 parts.1),
       )
   supported served asker (suc k) post h e =
@@ -81,11 +80,11 @@ module _ (friends : List Friend) (among : ℕ → Bool) where
   pub remains : are_served ≡ true → (friend : Friend) → Contains chosen friend
       → IsInRemainder (map posted friends) (posted friend)
   remains served friend there =
-      let is = filtered_of (λ friend. among friend.tx) friends friend there in
+      let is = of_filtered (λ friend. among friend.tx) friends friend there in
       record {
         among = among;
         supported = supported served;
-        is_in = (image_there posted friends friend is.0, is.1);
+        is_in = (to_mapped posted friends friend is.0, is.1);
       }
 
   -- ---- links lead from them to them
@@ -96,15 +95,15 @@ module _ (friends : List Friend) (among : ℕ → Bool) where
   onward closed friend there next in_pool h = of h.1
     where
       is : (other : Friend) × Contains friends other × (next ≡ posted other)
-      is = image_of posted friends next in_pool
+      is = of_mapped posted friends next in_pool
 
       mine : Contains friends friend
-      mine = (filtered_of (λ friend. among friend.tx) friends friend there).0
+      mine = (of_filtered (λ friend. among friend.tx) friends friend there).0
 
       by : joined friend is.0 ≡ true → (other : Friend) × Contains chosen other × (next ≡ posted other)
       by k = (
         is.0,
-        filtered_there (λ friend. among friend.tx) friends is.0 is.1
+        to_filtered (λ friend. among friend.tx) friends is.0 is.1
             (unless _ _ (each_passes _ friends is.0 (each_passes _ chosen friend closed there) is.1) k),
         is.2,
       )
@@ -143,13 +142,13 @@ module _ (friends : List Friend) (among : ℕ → Bool) where
         first = posted first;
         in_remainder = remains served first (there first (first_there first more));
         class = λ member. (
-          λ h. let x = image_of posted (first ∷ more) member h in
+          λ h. let x = of_mapped posted (first ∷ more) member h in
               subst (λ p. IsInRemainder (map posted friends) p × AreLinked (map posted friends) (posted first) p)
               (sym x.2) (remains served x.0 (there x.0 x.1), linked x.0 x.1),
           λ h. let own = there first (first_there first more) in
               let x = reached closed h.1.0 (posted first) member first own refl h.1.1 in
               subst (λ p. Contains (map posted (first ∷ more)) p) (sym x.2)
-              (image_there posted (first ∷ more) x.0 (subst (λ xs. Contains xs x.0) is x.1)),
+              (to_mapped posted (first ∷ more) x.0 (subst (λ xs. Contains xs x.0) is x.1)),
         );
         ascending = ascending (first ∷ more) by_number;
       }
@@ -169,11 +168,3 @@ module _ (friends : List Friend) (among : ℕ → Bool) where
               refl,
             ),
           )) h
-
--- ---- one step more
-
-pub linked_on : (pool : List Posted) (n : ℕ) (first last next : Posted) → AreLinkedIn n pool first last
-    → AreJoined last next → IsInRemainder pool next → AreLinkedIn (suc n) pool first next
-linked_on pool zero first last next h k r = (next, subst (λ p. AreJoined p next) (sym h) k, r, refl)
-linked_on pool (suc n) first last next h k r =
-    (h.0, h.1, h.2, linked_on pool n h.0 last next h.3 k r)

@@ -21,7 +21,7 @@ use Rattle.ent_examples.proofs.Component.{everyone}
 use Rattle.ent_examples.proofs.GrownPlay.{two_together}
 use Rattle.ent_examples.proofs.Members.{fresh, answered, books}
 use Rattle.ent_examples.proofs.Safe.{safe}
-use Rattle.ent_examples.proofs.Steps.{plays_on, submits}
+use Rattle.ent_examples.proofs.Steps.{◌▸◌, plays_on, submits}
 use Rattle.ent_examples.proofs.Waiting.{quiet}
 
 -- the first one in its second attempt
@@ -56,47 +56,23 @@ module _ {F : Type 0} {resolved : Forms F}
   gone_back = rolled_back 1 (Asked 2) books_now
 
   outlives : Plays resolved (opened partners_opening) (job_outlives one two) gone_back
-  outlives = (
-    one_in,
-    submits resolved one (opened partners_opening) refl refl,
-    (
-      submitting one_in (script two) (asks_form B_for_A ∷ []),
-      submits resolved two one_in refl refl,
-      (
-        started,
-        (refl, refl),
-        (
-          one_posted,
-          inl (safe (first_asks 1 A_for_B ∷ []) refl, refl, refl),
-          (
-            two_posted,
-            inl (safe A_and_B refl, refl, refl),
-            (
-              picked,
-              inl (lends two_posted A_and_B refl everyone _ _ two_together refl (nothing_out two_posted _ refl) refl),
-              (
-                joined,
-                inl (joins picked A_and_B refl everyone _ _ two_together refl [] (alone _)),
-                (
-                  books_now,
-                  (refl, refl),
-                  (
-                    books_now,
-                    (refl, refl),
-                    (
-                      gone_back,
-                      (refl, refl),
-                      (gone_back, inr (stale_single gone_back first_booked refl, (refl, refl)), refl),
-                    ),
-                  ),
-                ),
-              ),
-            ),
-          ),
-        ),
-      ),
-    ),
-  )
+  outlives =
+      (one_in, submits resolved one (opened partners_opening) refl refl)
+      ▸ (submitting one_in (script two) (asks_form B_for_A ∷ []), submits resolved two one_in refl refl)
+      ▸ (started, (refl, refl))
+      ▸ (one_posted, inl (safe (first_asks 1 A_for_B ∷ []) refl, refl, refl))
+      ▸ (two_posted, inl (safe A_and_B refl, refl, refl))
+      ▸ (
+        picked,
+        inl (lends two_posted A_and_B refl everyone _ _ two_together refl
+            (nothing_out two_posted _ refl) refl),
+      )
+      ▸ (joined, inl (joins picked A_and_B refl everyone _ _ two_together refl [] (alone _)))
+      ▸ (books_now, (refl, refl))
+      ▸ (books_now, (refl, refl))
+      ▸ (gone_back, (refl, refl))
+      ▸ (gone_back, inr (stale_single gone_back first_booked refl, (refl, refl)))
+      ▸ refl
 
   abbrev started_again : State
   started_again = starting (ending gone_back)
@@ -108,23 +84,13 @@ module _ {F : Type 0} {resolved : Forms F}
   last = ending posted_again
 
   next : Plays resolved gone_back next_attempt last
-  next = (
-    ending gone_back,
-    inl (quiet gone_back [] refl refl (λ tx. refl) refl refl, refl, refl),
-    (
-      started_again,
-      (refl, refl),
-      (
-        posted_again,
-        inl (safe (A_again ∷ []) refl, refl, refl),
-        (
-          posted_again,
-          inr (stale_single posted_again first_booked refl, (refl, refl)),
-          (last, inl (quiet posted_again (A_again ∷ []) refl refl (λ tx. refl) refl refl, refl, refl), refl),
-        ),
-      ),
-    ),
-  )
+  next =
+      (ending gone_back, inl (quiet gone_back [] refl refl (λ tx. refl) refl refl, refl, refl))
+      ▸ (started_again, (refl, refl))
+      ▸ (posted_again, inl (safe (A_again ∷ []) refl, refl, refl))
+      ▸ (posted_again, inr (stale_single posted_again first_booked refl, (refl, refl)))
+      ▸ (last, inl (quiet posted_again (A_again ∷ []) refl refl (λ tx. refl) refl refl, refl, refl))
+      ▸ refl
 
   pub played : Plays resolved (opened partners_opening) (job_outlives one two ++ next_attempt) last
   played =

@@ -24,7 +24,7 @@ use Rattle.ent_examples.proofs.Component.{everyone}
 use Rattle.ent_examples.proofs.HeldBackPlay.{together}
 use Rattle.ent_examples.proofs.Members.{fresh, answered}
 use Rattle.ent_examples.proofs.Safe.{safe}
-use Rattle.ent_examples.proofs.Steps.{plays_on, submits}
+use Rattle.ent_examples.proofs.Steps.{◌▸◌, plays_on, submits}
 use Rattle.ent_examples.proofs.Waiting.{quiet}
 
 evaluated : IsEvaluated set_done
@@ -68,58 +68,36 @@ module _ {F : Type 0} {resolved : Forms F}
   gone_back = rolled_back 1 (Failing 1 Overflow) (record lent { lent = [] })
 
   fails : Plays resolved (opened partners_opening) (set_fails one two) gone_back
-  fails = (
-    one_in,
-    submits resolved one (opened partners_opening) refl refl,
-    (
-      two_in,
-      submits resolved two one_in refl refl,
-      (
-        started,
-        (refl, refl),
-        (
-          one_posted,
-          inl (safe (first_asks 1 mickey ∷ []) refl, refl, refl),
-          (
-            two_posted,
-            inl (safe two_friends refl, refl, refl),
-            (
-              picked,
-              inl (lends two_posted two_friends refl everyone _ _ together refl (nothing_out two_posted _ refl) refl),
-              (
-                joined,
-                inl (joins picked two_friends refl everyone _ _ together refl [] (alone _)),
-                (
-                  prepared,
-                  (refl, refl),
-                  (
-                    lent,
-                    (refl, refl),
-                    (
-                      gone_back,
-                      inl (
-                        _,
-                        refl,
-                        record {
-                          meant = evaluated;
-                          left = [];
-                          taken = alone _;
-                          member = answered 1 1 1 mickey;
-                          is_member = refl;
-                          steps = (refl, refl);
-                        },
-                      ),
-                      refl,
-                    ),
-                  ),
-                ),
-              ),
-            ),
-          ),
+  fails =
+      (one_in, submits resolved one (opened partners_opening) refl refl)
+      ▸ (two_in, submits resolved two one_in refl refl)
+      ▸ (started, (refl, refl))
+      ▸ (one_posted, inl (safe (first_asks 1 mickey ∷ []) refl, refl, refl))
+      ▸ (two_posted, inl (safe two_friends refl, refl, refl))
+      ▸ (
+        picked,
+        inl (lends two_posted two_friends refl everyone _ _ together refl
+            (nothing_out two_posted _ refl) refl),
+      )
+      ▸ (joined, inl (joins picked two_friends refl everyone _ _ together refl [] (alone _)))
+      ▸ (prepared, (refl, refl))
+      ▸ (lent, (refl, refl))
+      ▸ (
+        gone_back,
+        inl (
+          _,
+          refl,
+          record {
+            meant = evaluated;
+            left = [];
+            taken = alone _;
+            member = answered 1 1 1 mickey;
+            is_member = refl;
+            steps = (refl, refl);
+          },
         ),
-      ),
-    ),
-  )
+      )
+      ▸ refl
 
   abbrev posted_again : State
   posted_again = posting (starting (ending gone_back)) (fresh 2 2) (wants minnie)
@@ -128,19 +106,12 @@ module _ {F : Type 0} {resolved : Forms F}
   last = ending posted_again
 
   gives_up : Plays resolved gone_back partner_gives_up last
-  gives_up = (
-    ending gone_back,
-    inl (quiet gone_back [] refl refl (λ tx. refl) refl refl, refl, refl),
-    (
-      starting (ending gone_back),
-      (refl, refl),
-      (
-        posted_again,
-        inl (safe (again ∷ []) refl, refl, refl),
-        (last, inl (quiet posted_again (again ∷ []) refl refl (λ tx. refl) refl refl, refl, refl), refl),
-      ),
-    ),
-  )
+  gives_up =
+      (ending gone_back, inl (quiet gone_back [] refl refl (λ tx. refl) refl refl, refl, refl))
+      ▸ (starting (ending gone_back), (refl, refl))
+      ▸ (posted_again, inl (safe (again ∷ []) refl, refl, refl))
+      ▸ (last, inl (quiet posted_again (again ∷ []) refl refl (λ tx. refl) refl refl, refl, refl))
+      ▸ refl
 
   pub played : Plays resolved (opened partners_opening) (set_fails one two ++ partner_gives_up) last
   played =

@@ -21,7 +21,7 @@ use Rattle.ent_examples.proofs.Choice.{taken}
 use Rattle.ent_examples.proofs.Component.{everyone}
 use Rattle.ent_examples.proofs.Members.{fresh, answered}
 use Rattle.ent_examples.proofs.Safe.{safe}
-use Rattle.ent_examples.proofs.Steps.{plays_on, submits}
+use Rattle.ent_examples.proofs.Steps.{◌▸◌, plays_on, submits}
 use Rattle.ent_examples.proofs.Waiting.{quiet}
 
 pub two_together : AreTogether A_and_B everyone (first_asks 1 A_for_B) (first_asks 2 B_for_A ∷ [])
@@ -67,39 +67,21 @@ module _ {F : Type 0} {resolved : Forms F} (one : ScriptOf resolved 8 (asks_form
       (0, omega arith, refl) (2, omega arith, refl) refl refl
 
   late : Plays resolved (opened partners_opening) (job_is_late one two three) three_posted
-  late = (
-    one_in,
-    submits resolved one (opened partners_opening) refl refl,
-    (
-      two_in,
-      submits resolved two one_in refl refl,
-      (
-        three_in,
-        submits resolved three two_in refl refl,
-        (
-          started,
-          (refl, refl),
-          (
-            one_posted,
-            inl (safe (first_asks 1 A_for_B ∷ []) refl, refl, refl),
-            (
-              two_posted,
-              inl (safe A_and_B refl, refl, refl),
-              (
-                picked,
-                inl (lends two_posted A_and_B refl everyone _ _ two_together refl (nothing_out two_posted _ refl) refl),
-                (
-                  three_posted,
-                  inl (safe A_B_and_C refl, refl, refl),
-                  (three_posted, inr (late_for_three, (refl, refl)), refl),
-                ),
-              ),
-            ),
-          ),
-        ),
-      ),
-    ),
-  )
+  late =
+      (one_in, submits resolved one (opened partners_opening) refl refl)
+      ▸ (two_in, submits resolved two one_in refl refl)
+      ▸ (three_in, submits resolved three two_in refl refl)
+      ▸ (started, (refl, refl))
+      ▸ (one_posted, inl (safe (first_asks 1 A_for_B ∷ []) refl, refl, refl))
+      ▸ (two_posted, inl (safe A_and_B refl, refl, refl))
+      ▸ (
+        picked,
+        inl (lends two_posted A_and_B refl everyone _ _ two_together refl
+            (nothing_out two_posted _ refl) refl),
+      )
+      ▸ (three_posted, inl (safe A_B_and_C refl, refl, refl))
+      ▸ (three_posted, inr (late_for_three, (refl, refl)))
+      ▸ refl
 
   abbrev again : State
   again = record three_posted { lent = joint_job A_and_B ∷ joint_job A_B_and_C ∷ [] }
@@ -124,31 +106,15 @@ module _ {F : Type 0} {resolved : Forms F} (one : ScriptOf resolved 8 (asks_form
   last = ending committed
 
   answers_all : Plays resolved three_posted all_are_answered last
-  answers_all = (
-    again,
-    inl (lends three_posted A_B_and_C refl everyone _ _ three_together refl not_out refl),
-    (
-      joined,
-      inl (joins again A_B_and_C refl everyone _ _ three_together refl (joint_job A_and_B ∷ []) behind),
-      (
-        preparing joined (answered 1 1 1 A_for_B),
-        (refl, refl),
-        (
-          two_prepared,
-          (refl, refl),
-          (
-            committed,
-            (refl, refl),
-            (
-              committed,
-              inr (gone committed refl (joint_done A_and_B), (refl, refl)),
-              (last, inl (quiet committed [] refl refl (λ tx. refl) refl refl, refl, refl), refl),
-            ),
-          ),
-        ),
-      ),
-    ),
-  )
+  answers_all =
+      (again, inl (lends three_posted A_B_and_C refl everyone _ _ three_together refl not_out refl))
+      ▸ (joined, inl (joins again A_B_and_C refl everyone _ _ three_together refl (joint_job A_and_B ∷ []) behind))
+      ▸ (preparing joined (answered 1 1 1 A_for_B), (refl, refl))
+      ▸ (two_prepared, (refl, refl))
+      ▸ (committed, (refl, refl))
+      ▸ (committed, inr (gone committed refl (joint_done A_and_B), (refl, refl)))
+      ▸ (last, inl (quiet committed [] refl refl (λ tx. refl) refl refl, refl, refl))
+      ▸ refl
 
   pub played : Plays resolved (opened partners_opening) (job_is_late one two three ++ all_are_answered) last
   played =

@@ -19,7 +19,7 @@ use Rattle.ent_examples.proofs.Choice.{taken}
 use Rattle.ent_examples.proofs.Component.{everyone}
 use Rattle.ent_examples.proofs.Members.{fresh, answered}
 use Rattle.ent_examples.proofs.Safe.{safe, first_unsafe}
-use Rattle.ent_examples.proofs.Steps.{plays_on, submits}
+use Rattle.ent_examples.proofs.Steps.{◌▸◌, plays_on, submits}
 use Rattle.ent_examples.proofs.Waiting.{quiet}
 
 abbrev three_friends : List Friend
@@ -59,44 +59,25 @@ module _ {F : Type 0} {resolved : Forms F} (one : ScriptOf resolved 8 (asks_form
   lends_both = lends two_posted two_friends refl everyone _ _ together refl (nothing_out two_posted _ refl) refl
 
   held : Plays resolved (opened partners_opening) (holds_back one two third) joined
-  held = (
-    one_in,
-    submits resolved one (opened partners_opening) refl refl,
-    (
-      two_in,
-      submits resolved two one_in refl refl,
-      (
-        three_in,
-        submits resolved third two_in refl refl,
-        (
-          started,
+  held =
+      (one_in, submits resolved one (opened partners_opening) refl refl)
+      ▸ (two_in, submits resolved two one_in refl refl)
+      ▸ (three_in, submits resolved third two_in refl refl)
+      ▸ (started, (refl, refl))
+      ▸ (one_posted, inl (safe (first_asks 1 mickey ∷ []) refl, refl, refl))
+      ▸ (two_posted, inl (safe two_friends refl, refl, refl))
+      ▸ (
+        two_posted,
+        inr (
+          _,
+          first_unsafe three_friends (first_asks 1 mickey) (first_asks 2 minnie) (first_asks 3 minnie)
+              (0, omega arith, refl) (1, omega arith, refl) (2, omega arith, refl) (omega arith) refl refl refl,
           (refl, refl),
-          (
-            one_posted,
-            inl (safe (first_asks 1 mickey ∷ []) refl, refl, refl),
-            (
-              two_posted,
-              inl (safe two_friends refl, refl, refl),
-              (
-                two_posted,
-                inr (
-                  _,
-                  first_unsafe three_friends (first_asks 1 mickey) (first_asks 2 minnie) (first_asks 3 minnie)
-                      (0, omega arith, refl) (1, omega arith, refl) (2, omega arith, refl) (omega arith) refl refl refl,
-                  (refl, refl),
-                ),
-                (
-                  picked,
-                  inl lends_both,
-                  (joined, inl (joins picked two_friends refl everyone _ _ together refl [] (alone _)), refl),
-                ),
-              ),
-            ),
-          ),
         ),
-      ),
-    ),
-  )
+      )
+      ▸ (picked, inl lends_both)
+      ▸ (joined, inl (joins picked two_friends refl everyone _ _ together refl [] (alone _)))
+      ▸ refl
 
   abbrev one_prepared : State
   one_prepared = preparing joined (answered 1 1 1 mickey)
@@ -111,19 +92,12 @@ module _ {F : Type 0} {resolved : Forms F} (one : ScriptOf resolved 8 (asks_form
   last = ending third_posted
 
   ended : Plays resolved joined posts_later last
-  ended = (
-    one_prepared,
-    (refl, refl),
-    (
-      committed,
-      (refl, refl),
-      (
-        third_posted,
-        inl (safe (first_asks 3 minnie ∷ []) refl, refl, refl),
-        (last, inl (quiet third_posted (first_asks 3 minnie ∷ []) refl refl (λ tx. refl) refl refl, refl, refl), refl),
-      ),
-    ),
-  )
+  ended =
+      (one_prepared, (refl, refl))
+      ▸ (committed, (refl, refl))
+      ▸ (third_posted, inl (safe (first_asks 3 minnie ∷ []) refl, refl, refl))
+      ▸ (last, inl (quiet third_posted (first_asks 3 minnie ∷ []) refl refl (λ tx. refl) refl refl, refl, refl))
+      ▸ refl
 
   pub played : Plays resolved (opened partners_opening) (holds_back one two third ++ posts_later) last
   played =

@@ -2,6 +2,7 @@
 use Rattle.std.proofs.Common.{◌≡◌, ◌⊎◌, inl, inr, ℕ, ◌==◌, Bool, true, false, cond, if◌then◌else◌, List, [], ◌∷◌}
 use Rattle.std.proofs.Common.{◌++◌, map, refl, sym, ap, subst, ◌∙◌, Some, Contains, zip}
 use Rattle.std.specs.List.{AllZip, filter, list_any}
+use Rattle.ent_protocol_laws.proofs.JoinedLabels.{label_same}
 use Rattle.ent_semantics.specs.Entangled.{Valuation}
 use Rattle.ent_coordination.specs.Pool.{Posted}
 use Rattle.ent_protocol.specs.Member.{is_tx}
@@ -42,11 +43,6 @@ labelled groups group = by (list_any (λ joined. joined == group) groups) refl
         inr (λ at. clash (group == group) (number_itself group)
         (any_none (λ joined. joined == group) groups is group at))
 
-both_in : (groups : List ℕ) (one other : ℕ) → In one groups → In other groups
-    → joined_label groups one ≡ joined_label groups other
-both_in [] one other at bt = absurd at
-both_in (first ∷ more) one other at bt = all_labelled first more one at ∙ sym (all_labelled first more other bt)
-
 in_and_out : (groups : List ℕ) (one other : ℕ) → In one groups → (In other groups → ⊥)
     → joined_label groups one ≡ joined_label groups other → ⊥
 in_and_out [] one other at out same = at
@@ -68,7 +64,7 @@ labels_part groups one other same =
 labels_meet : (groups : List ℕ) (one other : ℕ) → (one ≡ other) ⊎ (In one groups × In other groups)
     → joined_label groups one ≡ joined_label groups other
 labels_meet groups one other (inl same) = ap (joined_label groups) same
-labels_meet groups one other (inr h) = both_in groups one other h.0 h.1
+labels_meet groups one other (inr h) = label_same groups one other h.0 h.1
 
 -- ---- groups of those that are answered
 

@@ -32,7 +32,7 @@ use Rattle.ent_examples.proofs.Choice.{taken}
 use Rattle.ent_examples.proofs.Component.{everyone}
 use Rattle.ent_examples.proofs.Members.{fresh, answered, books, holds, booked, books_in}
 use Rattle.ent_examples.proofs.Safe.{safe}
-use Rattle.ent_examples.proofs.Steps.{plays_on, submits}
+use Rattle.ent_examples.proofs.Steps.{◌▸◌, plays_on, submits}
 
 abbrev all_three : List Friend
 all_three = first_asks 1 A_for_B ∷ first_asks 2 B_for_A ∷ first_asks 3 C_for_B ∷ []
@@ -100,62 +100,36 @@ module _ {F : Type 0} {resolved : Forms F}
       lends three_posted all_three refl first_two _ _ first_together refl (nothing_out three_posted _ refl) refl
 
   links : Plays resolved (opened partners_opening) (first_link one two three) A_booked
-  links = (
-    one_in,
-    submits resolved one (opened partners_opening) refl refl,
-    (
-      two_in,
-      submits resolved two one_in refl refl,
-      (
+  links =
+      (one_in, submits resolved one (opened partners_opening) refl refl)
+      ▸ (two_in, submits resolved two one_in refl refl)
+      ▸ (
         submitting two_in (script three) (asks_form C_for_B ∷ updates_form ∷ []),
         submits resolved three two_in refl refl,
-        (
-          started,
-          (refl, refl),
-          (
-            one_posted,
-            inl (safe (first_asks 1 A_for_B ∷ []) refl, refl, refl),
-            (
-              two_posted,
-              inl (safe A_and_B refl, refl, refl),
-              (
-                three_posted,
-                inl (safe all_three refl, refl, refl),
-                (
-                  picked,
-                  inl first_lent,
-                  (
-                    joined,
-                    inl (joins picked all_three refl first_two _ _ first_together refl [] (alone _)),
-                    (
-                      lending joined (answered 1 1 1 A_for_B) (books (codes "A")),
-                      (refl, refl),
-                      (
-                        A_booked,
-                        inl (
-                          _,
-                          refl,
-                          record {
-                            meant = one_evaluated;
-                            left = [];
-                            taken = alone _;
-                            member = holds (answered 1 1 1 A_for_B);
-                            is_member = refl;
-                            steps = (refl, refl);
-                          },
-                        ),
-                        refl,
-                      ),
-                    ),
-                  ),
-                ),
-              ),
-            ),
-          ),
+      )
+      ▸ (started, (refl, refl))
+      ▸ (one_posted, inl (safe (first_asks 1 A_for_B ∷ []) refl, refl, refl))
+      ▸ (two_posted, inl (safe A_and_B refl, refl, refl))
+      ▸ (three_posted, inl (safe all_three refl, refl, refl))
+      ▸ (picked, inl first_lent)
+      ▸ (joined, inl (joins picked all_three refl first_two _ _ first_together refl [] (alone _)))
+      ▸ (lending joined (answered 1 1 1 A_for_B) (books (codes "A")), (refl, refl))
+      ▸ (
+        A_booked,
+        inl (
+          _,
+          refl,
+          record {
+            meant = one_evaluated;
+            left = [];
+            taken = alone _;
+            member = holds (answered 1 1 1 A_for_B);
+            is_member = refl;
+            steps = (refl, refl);
+          },
         ),
-      ),
-    ),
-  )
+      )
+      ▸ refl
 
   abbrev B_posted : State
   B_posted = posting A_booked (answered 2 1 1 B_for_A) (wants B_for_C)
@@ -184,42 +158,33 @@ module _ {F : Type 0} {resolved : Forms F}
   last = rolled_back 1 (Asked 3) C_updated
 
   rolls_back : Plays resolved A_booked second_link last
-  rolls_back = (
-    B_posted,
-    inl (safe (first_asks 3 C_for_B ∷ B_again ∷ []) refl, refl, refl),
-    (
-      picked_again,
-      inl (lends B_posted B_and_C refl everyone _ _ second_together refl (nothing_out B_posted _ refl) refl),
-      (
-        all_joined,
-        inl (joins picked_again B_and_C refl everyone _ _ second_together refl [] (alone _)),
-        (
-          A_prepared,
-          (refl, refl),
-          (
-            C_updates,
-            (refl, refl),
-            (
-              C_updated,
-              inl (
-                _,
-                refl,
-                record {
-                  meant = update_evaluated;
-                  left = [];
-                  taken = alone _;
-                  member = holds (answered 3 1 1 C_for_B);
-                  is_member = refl;
-                  steps = (refl, refl);
-                },
-              ),
-              (last, (refl, refl), refl),
-            ),
-          ),
+  rolls_back =
+      (B_posted, inl (safe (first_asks 3 C_for_B ∷ B_again ∷ []) refl, refl, refl))
+      ▸ (
+        picked_again,
+        inl (lends B_posted B_and_C refl everyone _ _ second_together refl
+            (nothing_out B_posted _ refl) refl),
+      )
+      ▸ (all_joined, inl (joins picked_again B_and_C refl everyone _ _ second_together refl [] (alone _)))
+      ▸ (A_prepared, (refl, refl))
+      ▸ (C_updates, (refl, refl))
+      ▸ (
+        C_updated,
+        inl (
+          _,
+          refl,
+          record {
+            meant = update_evaluated;
+            left = [];
+            taken = alone _;
+            member = holds (answered 3 1 1 C_for_B);
+            is_member = refl;
+            steps = (refl, refl);
+          },
         ),
-      ),
-    ),
-  )
+      )
+      ▸ (last, (refl, refl))
+      ▸ refl
 
   pub played : Plays resolved (opened partners_opening) (first_link one two three ++ second_link) last
   played =

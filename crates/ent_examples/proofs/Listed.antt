@@ -1,12 +1,10 @@
 -- Elements of lists, taken off one by one, and what a test of all of them says of each.
-use Rattle.std.proofs.Common.{◌≡◌, ◌⊎◌, inl, inr, zero, suc, ◌<◌, Bool, true, false, ◌||◌, List, [], ◌∷◌, map}
+use Rattle.std.proofs.Common.{◌≡◌, ◌⊎◌, inl, inr, zero, suc, Bool, true, false, ◌||◌, List, [], ◌∷◌}
 use Rattle.std.proofs.Common.{refl, sym, ap, arith, ◌∙◌}
 use Rattle.std.specs.Prelude.{All, Contains, not}
-use Rattle.std.specs.List.{filter, list_all, list_any}
-use Rattle.ent_lists.specs.Elements.{and_both, any_some, contains_in, in_contains, of_filter, of_map, to_filter, to_map}
-
-pub none_there : {A : Type 0} (z : A) → Contains [] z → ⊥
-none_there z h = let r : h.0 < 0 = h.1 in omega arith
+use Rattle.std.specs.List.{list_all, list_any}
+use Rattle.ent_lists.specs.Elements.{and_both, any_some, in_contains}
+use Rattle.ent_lists.proofs.Contained.{contains_none}
 
 pub first_or_later : {A : Type 0} (x z : A) (xs : List A) → Contains (x ∷ xs) z → (z ≡ x) ⊎ Contains xs z
 first_or_later x z xs (zero, h, e) = inl (sym e)
@@ -26,17 +24,9 @@ by_first {P = P} x z xs first later there = of (first_or_later x z xs there)
     of (inl e) = first e
     of (inr h) = later h
 
-pub image_there : {A B : Type 0} (f : A → B) (xs : List A) (x : A) → Contains xs x → Contains (map f xs) (f x)
-image_there f xs x h = in_contains (map f xs) (f x) (to_map f xs x (contains_in xs x h))
-
--- an element of the images is the image of an element
-pub image_of : {A B : Type 0} (f : A → B) (xs : List A) (z : B) → Contains (map f xs) z
-    → (x : A) × Contains xs x × (z ≡ f x)
-image_of f xs z h = let r = of_map f xs z (contains_in (map f xs) z h) in (r.0, in_contains xs r.0 r.1, r.2)
-
 pub each_passes : {A : Type 0} (p : A → Bool) (xs : List A) (x : A) → list_all p xs ≡ true → Contains xs x
     → p x ≡ true
-each_passes p [] x h there = absurd (none_there x there)
+each_passes p [] x h there = absurd (contains_none x there)
 each_passes p (y ∷ ys) x h there =
     let parts = and_both (p y) (list_all p ys) h in
     by_first y x ys (λ e. ap p e ∙ parts.0) (λ later. each_passes p ys x parts.1 later) there
@@ -45,15 +35,6 @@ each_passes p (y ∷ ys) x h there =
 pub one_passes : {A : Type 0} (p : A → Bool) (xs : List A) → list_any p xs ≡ true
     → (x : A) × Contains xs x × (p x ≡ true)
 one_passes p xs h = let r = any_some p xs h in (r.0, in_contains xs r.0 r.1, r.2)
-
-pub filtered_there : {A : Type 0} (p : A → Bool) (xs : List A) (x : A) → Contains xs x → p x ≡ true
-    → Contains (filter p xs) x
-filtered_there p xs x h e = in_contains (filter p xs) x (to_filter p xs x (contains_in xs x h) e)
-
-pub filtered_of : {A : Type 0} (p : A → Bool) (xs : List A) (x : A) → Contains (filter p xs) x
-    → Contains xs x × (p x ≡ true)
-filtered_of p xs x h =
-    let r = of_filter p xs x (contains_in (filter p xs) x h) in (in_contains xs x r.0, r.1)
 
 -- what holds of each element holds at each index
 pub all_where : {A : Type 0} (P : A → Type 0) (xs : List A) → ((x : A) → Contains xs x → P x) → All P xs

@@ -12,9 +12,10 @@ use Rattle.ent_semantics.specs.Database.{Name, same_name}
 use Rattle.ent_semantics.specs.Names.{equal_names, name_itself}
 use Rattle.ent_coordination.specs.Pool.{CanMeet, Unify, fact_under}
 use Rattle.ent_lists.specs.Elements.{and_both, both_and}
+use Rattle.ent_lists.proofs.Contained.{contains_none}
 use Rattle.ent_protocol.specs.Partners.{flight_122}
 use Rattle.ent_examples.specs.Wish.{Wish, Friend, posted}
-use Rattle.ent_examples.proofs.Listed.{first_or_later, none_there}
+use Rattle.ent_examples.proofs.Listed.{first_or_later}
 
 -- the other is the one that is asked for
 abbrev pub meets : Wish → Wish → Bool
@@ -80,5 +81,5 @@ met_by friend other zero h = (refl, of (first_or_later _ h.head [] h.is_head))
         unified friend.wish.relation friend.wish.partner other.wish.relation other.wish.own h.unify.values
         h.unify.other_values (ap (fact_under h.unify.values) (same_post _ h.post h.is_post) ∙ h.unify.one_fact
         ∙ ap (fact_under h.unify.other_values) e)
-    of (inr more) = absurd (none_there _ more)
+    of (inr more) = absurd (contains_none _ more)
 met_by friend other (suc k) h = absurd (no_post k friend h.post h.is_post)

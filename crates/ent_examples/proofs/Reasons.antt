@@ -4,26 +4,28 @@ use Rattle.std.proofs.Common.{map, refl, sym, ap, subst, ◌∙◌, arith}
 use Rattle.std.specs.Prelude.{All, Contains, nat_le}
 use Rattle.std.specs.List.{list_all}
 use Rattle.std.proofs.lemmas.List.Elements.{All-contains}
+use Rattle.std.proofs.lemmas.Bool.{leb-true}
 use Rattle.ent_group.specs.Cycle.{IsOnCycle, Closes, links, links_to}
 use Rattle.ent_coordination.specs.Pool.{Posted}
 use Rattle.ent_protocol.specs.Member.{is_lent, pool}
 use Rattle.ent_lists.specs.Elements.{contains_in, in_contains}
+use Rattle.ent_lists.proofs.Contained.{of_mapped, contains_none}
 use Rattle.ent_lock.specs.Use.{IsLeast}
 use Rattle.ent_protocol.specs.Quiet.{NoneIs, HasJobOut, OutJoint, CanMove, IsUntried}
 use Rattle.ent_protocol.specs.PostedBy.{is_present}
 use Rattle.ent_protocol.specs.State.{State, Member}
 use Rattle.ent_protocol.specs.Waits.{waits, IsDeadlock}
 use Rattle.ent_examples.specs.Wish.{Friend, posted}
-use Rattle.ent_examples.proofs.Answered.{at_most, first_at_least}
+use Rattle.ent_examples.proofs.Answered.{first_at_least}
 use Rattle.ent_examples.proofs.Lists.{two_apart}
-use Rattle.ent_examples.proofs.Listed.{none_there, by_first, first_there, later_there, each_passes, image_of}
+use Rattle.ent_examples.proofs.Listed.{by_first, first_there, later_there, each_passes}
 
 not_true : (b : Bool) → b ≡ false → b ≡ true → ⊥
 not_true b e h = cc
 
 pub none_out : (s : State) → s.lent ≡ [] → ((tx : ℕ) → is_lent s tx ≡ false) → NoneIs (HasJobOut s)
 none_out s lent_is no_single tx (inl h) = not_true _ (no_single tx) h
-none_out s lent_is no_single tx (inr h) = none_there h.out.0 (subst (λ jobs. Contains jobs h.out.0) lent_is h.out.1)
+none_out s lent_is no_single tx (inr h) = contains_none h.out.0 (subst (λ jobs. Contains jobs h.out.0) lent_is h.out.1)
 
 -- the least of those that aren't prepared
 pub least_mover : (s : State) (n : ℕ) → list_all (λ (member : Member). nat_le n member.tx) s.active ≡ true
@@ -31,7 +33,7 @@ pub least_mover : (s : State) (n : ℕ) → list_all (λ (member : Member). nat_
 least_mover s n h can = (
   can,
   λ other moves.
-      subst (λ tx. n ≤ tx) moves.own (at_most n moves.member.tx (each_passes _ s.active moves.member h moves.active)),
+      subst (λ tx. n ≤ tx) moves.own (leb-true n moves.member.tx (each_passes _ s.active moves.member h moves.active)),
 )
 
 pub least_untried : (s : State) (friends : List Friend) → pool s ≡ map posted friends → (n : ℕ)
@@ -53,20 +55,20 @@ least_out s friends asked n h no_single out = (inr out, least)
     least other (inr is) =
         let there = in_contains (pool s) is.query
         (is_present (pool s) is.asked is.component is.query (contains_in is.asked is.query is.is_in)) in
-        let x = image_of posted friends is.query (subst (λ xs. Contains xs is.query) asked there) in
+        let x = of_mapped posted friends is.query (subst (λ xs. Contains xs is.query) asked there) in
         subst (λ tx. n ≤ tx) (sym (ap (λ (a : Posted). a.tx) x.2) ∙ is.own)
-        (at_most n x.0.tx (each_passes _ friends x.0 h x.1))
+        (leb-true n x.0.tx (each_passes _ friends x.0 h x.1))
 
 -- ---- two who wait for each other
 
 each_waits : (xs : List ℕ) (end tx : ℕ) → Contains xs tx → (other : ℕ) × Contains (links_to xs end) (tx, other)
-each_waits [] end tx h = absurd (none_there tx h)
+each_waits [] end tx h = absurd (contains_none tx h)
 each_waits (x ∷ []) end tx h =
     by_first x tx [] (λ e. (
       end,
       subst (λ z. Contains {X = ℕ × ℕ} ((x, end) ∷ []) (z, end)) (sym e) (first_there (x, end) []),
     ))
-    (λ later. absurd (none_there tx later)) h
+    (λ later. absurd (contains_none tx later)) h
 each_waits (x ∷ y ∷ ys) end tx h =
     by_first x tx (y ∷ ys) (λ e. (
       y,
@@ -83,10 +85,10 @@ at_most_2 : (tx : ℕ) → IsOnCycle each_other tx → tx ≤ 2
 at_most_2 tx h = of h.0 h.1 h.2
   where
     of : (members : List ℕ) → Closes each_other members → Contains members tx → tx ≤ 2
-    of [] closes there = absurd (none_there tx there)
+    of [] closes there = absurd (contains_none tx there)
     of (x ∷ xs) closes there =
         let waiting = each_waits (x ∷ xs) x tx there in
-        at_most tx 2 (each_passes (λ (pair : ℕ × ℕ). nat_le pair.0 2) each_other (tx, waiting.0) refl
+        leb-true tx 2 (each_passes (λ (pair : ℕ × ℕ). nat_le pair.0 2) each_other (tx, waiting.0) refl
         (All-contains (Contains each_other) (links (x ∷ xs)) (tx, waiting.0) closes.linked waiting.1))
 
 both_linked : All (Contains each_other) (links (2 ∷ 1 ∷ []))

@@ -1,11 +1,11 @@
 -- What the runs of the friends' scripts are, and that wrong books aren't legal.
 use Rattle.std.proofs.Common.{◌≡◌, ◌⊎◌, inl, inr, ℕ, Bool, true, false, List, [], ◌∷◌, map, refl}
 use Rattle.std.proofs.Common.{sym, ap, subst, ◌∙◌, arith, Some}
+use Rattle.std.proofs.lemmas.Option.{same_Some}
 use Rattle.std.specs.Prelude.{Contains, slice_index_or}
 use Rattle.std.specs.Ordering.{is_eq}
 use Rattle.ent_value.specs.Value.{row_cmp}
 use Rattle.ent_value.specs.declared.value.Value.{Value}
-use Rattle.ent_tree.specs.declared.script.Script.{Script}
 use Rattle.ent_semantics.specs.declared.answer.Fact.{Fact}
 use Rattle.ent_semantics.specs.declared.book.JointAnswer.{JointAnswer}
 use Rattle.ent_semantics.specs.declared.book.Member.{Member}
@@ -23,9 +23,6 @@ use Rattle.ent_protocol.proofs.PartnersPool.{one_case, two_cases}
 
 -- ---- the turns of a book of the friends
 
-some_script : (one other : Script) → Some one ≡ Some other → one ≡ other
-some_script one other e = cc
-
 tx_at : (k : ℕ) {xs ys : List ℕ} → xs ≡ ys → slice_index_or xs k 0 ≡ slice_index_or ys k 0
 tx_at k e = ap (λ xs. slice_index_or xs k 0) e
 
@@ -34,7 +31,7 @@ is_turn : (tx : ℕ) (own partner : Value) (x : Turn) → x.tx ≡ tx
     → numbered friends_scripts x.tx ≡ Some x.script → x ≡ turn tx own partner x.oracle
 is_turn tx own partner x e is own_script =
     let script : x.script ≡ alone (flies_with own partner) =
-    some_script x.script (alone (flies_with own partner))
+    same_Some x.script (alone (flies_with own partner))
     (sym own_script ∙ ap (numbered friends_scripts) e ∙ is) in
     λ i. record { tx = e i; script = script i; oracle = x.oracle }
 

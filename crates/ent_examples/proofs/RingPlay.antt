@@ -19,7 +19,7 @@ use Rattle.ent_examples.proofs.Choice.{taken}
 use Rattle.ent_examples.proofs.Component.{everyone}
 use Rattle.ent_examples.proofs.Members.{fresh, answered}
 use Rattle.ent_examples.proofs.Safe.{safe}
-use Rattle.ent_examples.proofs.Steps.{plays_on, submits}
+use Rattle.ent_examples.proofs.Steps.{◌▸◌, plays_on, submits}
 use Rattle.ent_examples.proofs.Waiting.{quiet}
 
 three_together : AreTogether ring_of_three everyone (first_asks 1 A_for_B)
@@ -57,40 +57,21 @@ module _ {F : Type 0} {resolved : Forms F} (one : ScriptOf resolved 8 (asks_form
   joined = joining (record picked { lent = [] }) (map posted ring_of_three) (taken ring_of_three)
 
   closes : Plays resolved (opened partners_opening) (ring_closes one two three) joined
-  closes = (
-    one_in,
-    submits resolved one (opened partners_opening) refl refl,
-    (
-      two_in,
-      submits resolved two one_in refl refl,
-      (
-        three_in,
-        submits resolved three two_in refl refl,
-        (
-          started,
-          (refl, refl),
-          (
-            one_posted,
-            inl (safe (first_asks 1 A_for_B ∷ []) refl, refl, refl),
-            (
-              two_posted,
-              inl (safe (first_asks 1 A_for_B ∷ first_asks 2 B_for_C ∷ []) refl, refl, refl),
-              (
-                three_posted,
-                inl (safe ring_of_three refl, refl, refl),
-                (
-                  picked,
-                  inl (lends three_posted ring_of_three refl everyone _ _ three_together refl
-                      (nothing_out three_posted _ refl) refl),
-                  (joined, inl (joins picked ring_of_three refl everyone _ _ three_together refl [] (alone _)), refl),
-                ),
-              ),
-            ),
-          ),
-        ),
-      ),
-    ),
-  )
+  closes =
+      (one_in, submits resolved one (opened partners_opening) refl refl)
+      ▸ (two_in, submits resolved two one_in refl refl)
+      ▸ (three_in, submits resolved three two_in refl refl)
+      ▸ (started, (refl, refl))
+      ▸ (one_posted, inl (safe (first_asks 1 A_for_B ∷ []) refl, refl, refl))
+      ▸ (two_posted, inl (safe (first_asks 1 A_for_B ∷ first_asks 2 B_for_C ∷ []) refl, refl, refl))
+      ▸ (three_posted, inl (safe ring_of_three refl, refl, refl))
+      ▸ (
+        picked,
+        inl (lends three_posted ring_of_three refl everyone _ _ three_together refl
+            (nothing_out three_posted _ refl) refl),
+      )
+      ▸ (joined, inl (joins picked ring_of_three refl everyone _ _ three_together refl [] (alone _)))
+      ▸ refl
 
   abbrev two_prepared : State
   two_prepared = preparing (preparing joined (answered 1 1 1 A_for_B)) (answered 2 1 1 B_for_C)
@@ -102,19 +83,12 @@ module _ {F : Type 0} {resolved : Forms F} (one : ScriptOf resolved 8 (asks_form
   last = ending committed
 
   commits : Plays resolved joined ring_commits last
-  commits = (
-    preparing joined (answered 1 1 1 A_for_B),
-    (refl, refl),
-    (
-      two_prepared,
-      (refl, refl),
-      (
-        committed,
-        (refl, refl),
-        (last, inl (quiet committed [] refl refl (λ tx. refl) refl refl, refl, refl), refl),
-      ),
-    ),
-  )
+  commits =
+      (preparing joined (answered 1 1 1 A_for_B), (refl, refl))
+      ▸ (two_prepared, (refl, refl))
+      ▸ (committed, (refl, refl))
+      ▸ (last, inl (quiet committed [] refl refl (λ tx. refl) refl refl, refl, refl))
+      ▸ refl
 
   pub played : Plays resolved (opened partners_opening) (ring_closes one two three ++ ring_commits) last
   played =

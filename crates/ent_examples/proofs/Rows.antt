@@ -1,6 +1,7 @@
 -- The rows of the table give what the definition of `begin` gives, and no more.
 use Rattle.std.proofs.Common.{◌≡◌, inl, inr, ℕ, ◌==◌, Bool, true, false, not, ◌||◌, if◌then◌else◌, List, [], ◌∷◌}
 use Rattle.std.proofs.Common.{refl, sym, ap, subst, ◌∙◌, Option, Some, None}
+use Rattle.std.proofs.lemmas.Bool.{or_from, not-false}
 use Rattle.std.specs.List.{filter, list_any}
 use Rattle.ent_value.specs.declared.value.Value.{Value}
 use Rattle.ent_semantics.specs.declared.entangled.Entangled.{Entangled}
@@ -58,10 +59,6 @@ none_prepared s tx none =
 
 -- ---- whose group is prepared
 
-unready : (b : Bool) → not b ≡ false → b ≡ true
-unready true e = refl
-unready false e = sym e
-
 abbrev is_other : Member → Member → Bool
 is_other member other = not (is_tx member.tx other)
 
@@ -79,7 +76,7 @@ others_prepared s m ready other there group = by (other.tx == m.tx) refl
 waits : (s : State) (m : Member) → is_ready (preparing s m) m.group ≡ false → WaitsForOther s m
 waits s m ready =
     let r = any_some (is_of m.group) (preparing s m).active
-    (unready (list_any (is_of m.group) (preparing s m).active) ready) in
+    (not-false (list_any (is_of m.group) (preparing s m).active) ready) in
     let there = of_filter (is_other m) s.active r.0 r.1 in (
       r.0,
       in_contains s.active r.0 there.0,
@@ -111,10 +108,6 @@ busy s tx m is h =
       | inl a ↦ is_posted m is a
       | inr b ↦ is_out m is b
     ]
-
-both_false : (a b : Bool) → a ≡ false → b ≡ false → (a || b) ≡ false
-both_false true b e f = cc
-both_false false b e f = f
 
 module _ {F : Type 0} (s : State) (tx : ℕ) where
   -- ---- from the definition to its row
@@ -215,7 +208,7 @@ module _ {F : Type 0} (s : State) (tx : ℕ) where
   of_next m is reply new at h =
       of_member m reply new at.is_member
       (subst (λ b. BeginsUnless b s m reply new)
-      (sym (both_false m.posted (is_lent s tx) at.not_posted at.not_out))
+      (sym (or_from m.posted (is_lent s tx) at.not_posted at.not_out))
       (subst (λ (x : Next). BeginsNext s m x reply new) (sym at.is_next) h))
 
   of_ordinary : (m : Member) (c : Statement Value) (by : Option ℕ) (reply : Reply F) (new : State)

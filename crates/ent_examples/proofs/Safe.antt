@@ -1,6 +1,7 @@
 -- Pools of friends: where they are safe, and where a post is the first unsafe one.
-use Rattle.std.proofs.Common.{◌≡◌, ◌≢◌, ℕ, ◌<◌, Bool, true, false, ◌&&◌, ◌||◌, not, List, map, refl, sym, ap}
-use Rattle.std.proofs.Common.{subst, ◌∙◌, arith, rules}
+use Rattle.std.proofs.Common.{◌≡◌, ◌≢◌, ℕ, ◌<◌, Bool, true, ◌&&◌, ◌||◌, not, List, map, refl, sym, ap}
+use Rattle.std.proofs.Common.{subst, ◌∙◌}
+use Rattle.std.proofs.lemmas.Bool.{lt-ltb, both_ways, not-true}
 use Rattle.std.specs.Prelude.{Contains, ◌==◌, nat_lt}
 use Rattle.std.specs.List.{list_all}
 use Rattle.std.specs.Ordering.{is_lt}
@@ -8,8 +9,9 @@ use Rattle.std.specs.declared.cmp.Ordering.TheVariants.{Less}
 use Rattle.ent_coordination.specs.Pool.{Posted, CanMeet, IsSafe, Unsafe, HasHeadFor, IsFirstUnsafe, IsUnsafeAt}
 use Rattle.ent_coordination.specs.Pool.{unsafe_cmp}
 use Rattle.ent_lists.specs.Elements.{both_and, number_itself, same_number}
+use Rattle.ent_lists.proofs.Contained.{of_mapped, to_mapped}
 use Rattle.ent_examples.specs.Wish.{Friend, posted}
-use Rattle.ent_examples.proofs.Listed.{image_of, image_there, each_passes, unless}
+use Rattle.ent_examples.proofs.Listed.{each_passes, unless}
 use Rattle.ent_examples.proofs.Meets.{meets, met_by, can_meet}
 
 -- two of the pool whose posted statements meet
@@ -27,8 +29,8 @@ pub met_in : (friends : List Friend) (asker : Posted) (index : ℕ) (owner : Pos
     → Contains (map posted friends) asker → Contains (map posted friends) owner → CanMeet asker index owner
     → Met friends asker index owner
 met_in friends asker index owner a b h =
-    let x = image_of posted friends asker a in
-    let y = image_of posted friends owner b in
+    let x = of_mapped posted friends asker a in
+    let y = of_mapped posted friends owner b in
     let is = met_by x.0 y.0 index
     (subst (λ p. CanMeet p index (posted y.0)) x.2 (subst (λ p. CanMeet asker index p) y.2 h))
     in record {
@@ -89,25 +91,18 @@ pub head_for : (friends : List Friend) (friend other : Friend) → Contains frie
 head_for friends friend other a b h =
     record {
       asker = posted friend;
-      asks = image_there posted friends friend a;
+      asks = to_mapped posted friends friend a;
       asker_is = refl;
       partner = posted other;
-      offers = image_there posted friends other b;
+      offers = to_mapped posted friends other b;
       partner_is = refl;
       meets = can_meet friend other h;
     }
 
-below : (n m : ℕ) → n < m → nat_lt n m ≡ true
-below n m h = grind (arith, rules)
-
-not_both : (b : Bool) → not b ≡ true → b ≡ true → ⊥
-not_both true h e = cc
-not_both false h e = cc
-
 pub none_less : (friends : List Friend) (fault : Unsafe) → none_earlier fault friends ≡ true → (other : Unsafe)
     → IsUnsafeAt (map posted friends) other → unsafe_cmp other fault ≢ Less
 none_less friends fault h other at less =
-    not_both _ later (ap is_lt (sym (ap (λ (u : Unsafe). unsafe_cmp u fault) is) ∙ less))
+    both_ways _ (not-true _ later) (ap is_lt (sym (ap (λ (u : Unsafe). unsafe_cmp u fault) is) ∙ less))
   where
     one : Met friends at.1.asker other.index at.1.partner
     one = met_in friends at.1.asker other.index at.1.partner at.1.asks at.1.offers at.1.meets
@@ -139,7 +134,7 @@ none_less friends fault h other at less =
         not (nat_lt first.tx second.tx) || not (is_lt (unsafe_cmp (fault_of friend first second) fault))) friends h
         one.friend one.other two.friend two.other one.asks one.offers two.asks two.offers
         (ap (λ n. n == two.friend.tx) (sym asker ∙ again) ∙ number_itself two.friend.tx) one.meet two.meet)
-        (sym (λ i. nat_lt (first i) (second i)) ∙ below other.first other.second at.0)
+        (sym (λ i. nat_lt (first i) (second i)) ∙ lt-ltb other.first other.second at.0)
 
 pub first_unsafe : (friends : List Friend) (friend first second : Friend) → Contains friends friend
     → Contains friends first → Contains friends second → first.tx < second.tx

@@ -22,7 +22,7 @@ use Rattle.ent_examples.proofs.Component.{everyone}
 use Rattle.ent_examples.proofs.GrownPlay.{two_together}
 use Rattle.ent_examples.proofs.Members.{fresh, answered}
 use Rattle.ent_examples.proofs.Safe.{safe}
-use Rattle.ent_examples.proofs.Steps.{plays_on, submits}
+use Rattle.ent_examples.proofs.Steps.{◌▸◌, plays_on, submits}
 use Rattle.ent_examples.proofs.Waiting.{quiet}
 
 C_and_D_together : AreTogether C_and_D everyone (first_asks 3 C_for_D) (first_asks 4 D_for_C ∷ [])
@@ -73,39 +73,17 @@ module _ {F : Type 0} {resolved : Forms F} (one : ScriptOf resolved 8 (asks_form
   first_joined = joins C_and_D_picked C_and_D refl everyone _ _ C_and_D_together refl [] (alone _)
 
   forms : Plays resolved (opened partners_opening) (group_forms one two three four) group_formed
-  forms = (
-    one_in,
-    submits resolved one (opened partners_opening) refl refl,
-    (
-      two_in,
-      submits resolved two one_in refl refl,
-      (
-        three_in,
-        submits resolved three two_in refl refl,
-        (
-          four_in,
-          submits resolved four three_in refl refl,
-          (
-            started,
-            (refl, refl),
-            (
-              C_posted,
-              inl (safe (first_asks 3 C_for_D ∷ []) refl, refl, refl),
-              (
-                D_posted,
-                inl (safe C_and_D refl, refl, refl),
-                (
-                  C_and_D_picked,
-                  inl first_lent,
-                  (group_formed, inl first_joined, refl),
-                ),
-              ),
-            ),
-          ),
-        ),
-      ),
-    ),
-  )
+  forms =
+      (one_in, submits resolved one (opened partners_opening) refl refl)
+      ▸ (two_in, submits resolved two one_in refl refl)
+      ▸ (three_in, submits resolved three two_in refl refl)
+      ▸ (four_in, submits resolved four three_in refl refl)
+      ▸ (started, (refl, refl))
+      ▸ (C_posted, inl (safe (first_asks 3 C_for_D ∷ []) refl, refl, refl))
+      ▸ (D_posted, inl (safe C_and_D refl, refl, refl))
+      ▸ (C_and_D_picked, inl first_lent)
+      ▸ (group_formed, inl first_joined)
+      ▸ refl
 
   abbrev A_posted : State
   A_posted = posting group_formed (fresh 1 1) (wants A_for_B)
@@ -128,31 +106,15 @@ module _ {F : Type 0} {resolved : Forms F} (one : ScriptOf resolved 8 (asks_form
       (2, omega arith, refl) refl refl
 
   comes : Plays resolved group_formed comes_and_goes gone_back
-  comes = (
-    A_posted,
-    inl (safe (first_asks 1 A_for_B ∷ []) refl, refl, refl),
-    (
-      B_posted,
-      inl (safe A_and_B refl, refl, refl),
-      (
-        picked,
-        inl (lends B_posted A_and_B refl everyone _ _ two_together refl (nothing_out B_posted _ refl) refl),
-        (
-          C_comes,
-          inl (safe with_C refl, refl, refl),
-          (
-            C_comes,
-            inr (late_for_C, (refl, refl)),
-            (
-              gone_back,
-              (refl, refl),
-              (gone_back, inr (stale_joint gone_back (joint_done A_and_B) refl, (refl, refl)), refl),
-            ),
-          ),
-        ),
-      ),
-    ),
-  )
+  comes =
+      (A_posted, inl (safe (first_asks 1 A_for_B ∷ []) refl, refl, refl))
+      ▸ (B_posted, inl (safe A_and_B refl, refl, refl))
+      ▸ (picked, inl (lends B_posted A_and_B refl everyone _ _ two_together refl (nothing_out B_posted _ refl) refl))
+      ▸ (C_comes, inl (safe with_C refl, refl, refl))
+      ▸ (C_comes, inr (late_for_C, (refl, refl)))
+      ▸ (gone_back, (refl, refl))
+      ▸ (gone_back, inr (stale_joint gone_back (joint_done A_and_B) refl, (refl, refl)))
+      ▸ refl
 
   abbrev picked_again : State
   picked_again = record gone_back { lent = joint_job A_and_B ∷ [] }
@@ -172,21 +134,14 @@ module _ {F : Type 0} {resolved : Forms F} (one : ScriptOf resolved 8 (asks_form
   again : Plays resolved gone_back is_picked_again last
   again = (
     picked_again,
-    inl (lends gone_back A_and_B refl everyone _ _ two_together refl (nothing_out gone_back _ refl) refl),
-    (
-      joined,
-      inl (joins picked_again A_and_B refl everyone _ _ two_together refl [] (alone _)),
-      (
-        A_prepared,
-        (refl, refl),
-        (
-          committed,
-          (refl, refl),
-          (last, inl (quiet committed [] refl refl (λ tx. refl) refl refl, refl, refl), refl),
-        ),
-      ),
-    ),
+    inl (lends gone_back A_and_B refl everyone _ _ two_together refl
+        (nothing_out gone_back _ refl) refl),
   )
+      ▸ (joined, inl (joins picked_again A_and_B refl everyone _ _ two_together refl [] (alone _)))
+      ▸ (A_prepared, (refl, refl))
+      ▸ (committed, (refl, refl))
+      ▸ (last, inl (quiet committed [] refl refl (λ tx. refl) refl refl, refl, refl))
+      ▸ refl
 
   pub played : Plays resolved (opened partners_opening)
       (group_forms one two three four ++ (comes_and_goes ++ is_picked_again)) last

@@ -13,6 +13,11 @@ use Rattle.ent_protocol.specs.State.{State}
 use Rattle.ent_protocol.specs.Step.{Step}
 use Rattle.ent_examples.specs.Scripts.{ScriptOf, script}
 
+infixr 5 ◌▸◌
+-- an event, with the state that it leads to, and then those that follow
+pub ◌▸◌ : {A : Type 0} {P Q : A → Type 0} (first : (a : A) × P a) → Q first.0 → (a : A) × P a × Q a
+first ▸ rest = (first.0, first.1, rest)
+
 module _ {F : Type 0} (resolved : Forms F) where
   -- one part after another
   pub plays_on : (xs ys : List (Event × Reply F)) (s mid last : State) → Plays resolved s xs mid

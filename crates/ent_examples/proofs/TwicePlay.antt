@@ -26,7 +26,7 @@ use Rattle.ent_examples.proofs.Component.{everyone}
 use Rattle.ent_examples.proofs.HeldBackPlay.{together}
 use Rattle.ent_examples.proofs.Members.{fresh, answered, books, holds, booked, books_in}
 use Rattle.ent_examples.proofs.Safe.{safe}
-use Rattle.ent_examples.proofs.Steps.{plays_on, submits}
+use Rattle.ent_examples.proofs.Steps.{◌▸◌, plays_on, submits}
 use Rattle.ent_examples.proofs.Waiting.{quiet}
 
 abbrev Mickeys : List Value
@@ -66,39 +66,21 @@ module _ {F : Type 0} {resolved : Forms F}
   joined = joining two_posted (map posted two_friends) (taken two_friends)
 
   joins_once : Plays resolved (opened partners_opening) (joint_comes_twice one two) joined
-  joins_once = (
-    one_in,
-    submits resolved one (opened partners_opening) refl refl,
-    (
-      two_in,
-      submits resolved two one_in refl refl,
-      (
-        started,
-        (refl, refl),
-        (
-          one_posted,
-          inl (safe (first_asks 1 mickey ∷ []) refl, refl, refl),
-          (
-            two_posted,
-            inl (safe two_friends refl, refl, refl),
-            (
-              picked,
-              inl (lends two_posted two_friends refl everyone _ _ together refl (nothing_out two_posted _ refl) refl),
-              (
-                picked,
-                inr (not_single picked (joint_done two_friends) _ refl, (refl, refl)),
-                (
-                  joined,
-                  inl (joins picked two_friends refl everyone _ _ together refl [] (alone _)),
-                  (joined, inr (stale_joint joined (joint_done two_friends) refl, (refl, refl)), refl),
-                ),
-              ),
-            ),
-          ),
-        ),
-      ),
-    ),
-  )
+  joins_once =
+      (one_in, submits resolved one (opened partners_opening) refl refl)
+      ▸ (two_in, submits resolved two one_in refl refl)
+      ▸ (started, (refl, refl))
+      ▸ (one_posted, inl (safe (first_asks 1 mickey ∷ []) refl, refl, refl))
+      ▸ (two_posted, inl (safe two_friends refl, refl, refl))
+      ▸ (
+        picked,
+        inl (lends two_posted two_friends refl everyone _ _ together refl
+            (nothing_out two_posted _ refl) refl),
+      )
+      ▸ (picked, inr (not_single picked (joint_done two_friends) _ refl, (refl, refl)))
+      ▸ (joined, inl (joins picked two_friends refl everyone _ _ together refl [] (alone _)))
+      ▸ (joined, inr (stale_joint joined (joint_done two_friends) refl, (refl, refl)))
+      ▸ refl
 
   abbrev Mickey_books : State
   Mickey_books = lending joined (answered 1 1 1 mickey) (books (codes "Mickey"))
@@ -119,13 +101,10 @@ module _ {F : Type 0} {resolved : Forms F}
   last = ending committed
 
   steps_once : Plays resolved joined single_comes_twice last
-  steps_once = (
-    Mickey_books,
-    (refl, refl),
-    (
-      Mickey_books,
-      inr (not_joint Mickey_books Mickey_booked _ refl, (refl, refl)),
-      (
+  steps_once =
+      (Mickey_books, (refl, refl))
+      ▸ (Mickey_books, inr (not_joint Mickey_books Mickey_booked _ refl, (refl, refl)))
+      ▸ (
         Mickey_done,
         inl (
           _,
@@ -139,53 +118,31 @@ module _ {F : Type 0} {resolved : Forms F}
             steps = (refl, refl);
           },
         ),
-        (
-          Mickey_done,
-          inr (stale_single Mickey_done Mickey_booked refl, (refl, refl)),
-          (
-            Mickey_done,
-            (refl, refl),
-            (
-              Mickey_prepared,
-              (refl, refl),
-              (
-                lending Mickey_prepared (answered 2 1 1 minnie) (books (codes "Minnie")),
-                (refl, refl),
-                (
-                  Minnie_done,
-                  inl (
-                    _,
-                    refl,
-                    record {
-                      meant = two_evaluated;
-                      left = [];
-                      taken = alone _;
-                      member = holds (answered 2 1 1 minnie);
-                      is_member = refl;
-                      steps = (refl, refl);
-                    },
-                  ),
-                  (
-                    Minnie_done,
-                    (refl, refl),
-                    (
-                      committed,
-                      (refl, refl),
-                      (
-                        committed,
-                        (refl, refl),
-                        (last, inl (quiet committed [] refl refl (λ tx. refl) refl refl, refl, refl), refl),
-                      ),
-                    ),
-                  ),
-                ),
-              ),
-            ),
-          ),
+      )
+      ▸ (Mickey_done, inr (stale_single Mickey_done Mickey_booked refl, (refl, refl)))
+      ▸ (Mickey_done, (refl, refl))
+      ▸ (Mickey_prepared, (refl, refl))
+      ▸ (lending Mickey_prepared (answered 2 1 1 minnie) (books (codes "Minnie")), (refl, refl))
+      ▸ (
+        Minnie_done,
+        inl (
+          _,
+          refl,
+          record {
+            meant = two_evaluated;
+            left = [];
+            taken = alone _;
+            member = holds (answered 2 1 1 minnie);
+            is_member = refl;
+            steps = (refl, refl);
+          },
         ),
-      ),
-    ),
-  )
+      )
+      ▸ (Minnie_done, (refl, refl))
+      ▸ (committed, (refl, refl))
+      ▸ (committed, (refl, refl))
+      ▸ (last, inl (quiet committed [] refl refl (λ tx. refl) refl refl, refl, refl))
+      ▸ refl
 
   pub played : Plays resolved (opened partners_opening) (joint_comes_twice one two ++ single_comes_twice) last
   played =

@@ -1,8 +1,10 @@
 -- A run in which nobody is left but friends that nobody answers may end.
 use Rattle.std.proofs.Common.{◌≡◌, inl, inr, ℕ, zero, ◌<◌, Bool, true, false, ◌||◌, not, List, [], ◌∷◌, map}
 use Rattle.std.proofs.Common.{ap, subst, arith}
+use Rattle.std.proofs.lemmas.Bool.{both_ways, not-true}
 use Rattle.std.specs.Prelude.{slice_get}
 use Rattle.std.specs.List.{list_all}
+use Rattle.ent_lists.proofs.Contained.{of_mapped, contains_none}
 use Rattle.ent_group.specs.Cycle.{IsOnCycle, Closes}
 use Rattle.ent_coordination.specs.Component.{IsInRemainder}
 use Rattle.ent_coordination.specs.Pool.{Posted}
@@ -12,7 +14,7 @@ use Rattle.ent_protocol.specs.Quiet.{IsQuiet, HasJobOut}
 use Rattle.ent_protocol.specs.State.{State, Member}
 use Rattle.ent_protocol.specs.Waits.{waits}
 use Rattle.ent_examples.specs.Wish.{Friend, posted}
-use Rattle.ent_examples.proofs.Listed.{none_there, each_passes, image_of}
+use Rattle.ent_examples.proofs.Listed.{each_passes}
 use Rattle.ent_examples.proofs.Meets.{meets}
 use Rattle.ent_examples.proofs.Safe.{met_in}
 
@@ -20,25 +22,22 @@ use Rattle.ent_examples.proofs.Safe.{met_in}
 abbrev pub nobody_meets : List Friend → Bool
 nobody_meets friends = list_all (λ friend. list_all (λ other. not (meets friend.wish other.wish)) friends) friends
 
-not_both : (b : Bool) → not b ≡ true → b ≡ true → ⊥
-not_both true h e = cc
-not_both false h e = cc
-
 pub none_remains : (friends : List Friend) → nobody_meets friends ≡ true → (x : Posted)
     → IsInRemainder (map posted friends) x → ⊥
 none_remains friends h x remains =
-    let is = image_of posted friends x remains.is_in.0 in
+    let is = of_mapped posted friends x remains.is_in.0 in
     let met = remains.supported x 0 _ remains.is_in (ap (λ (p : Posted). slice_get p.statement.posts 0) is.2) in
     let two = met_in friends x 0 met.0 remains.is_in.0 met.1.0 met.2 in
-    not_both _ (each_passes _ friends two.other (each_passes _ friends two.friend h two.asks) two.offers) two.meet
+    both_ways _
+    (not-true _ (each_passes _ friends two.other (each_passes _ friends two.friend h two.asks) two.offers)) two.meet
 
 none_on_cycle : (waiting : List (ℕ × ℕ)) → waiting ≡ [] → (tx : ℕ) → IsOnCycle waiting tx → ⊥
 none_on_cycle waiting e tx h = of h.0 (subst (λ xs. Closes xs h.0) e h.1)
   where
     of : (members : List ℕ) → Closes [] members → ⊥
     of [] closes = absurd (let r : 0 < 0 = closes.not_empty in omega arith)
-    of (x ∷ []) closes = none_there _ (closes.linked zero (x, x) (omega arith))
-    of (x ∷ y ∷ more) closes = none_there _ (closes.linked zero (x, y) (omega arith))
+    of (x ∷ []) closes = contains_none _ (closes.linked zero (x, x) (omega arith))
+    of (x ∷ y ∷ more) closes = contains_none _ (closes.linked zero (x, y) (omega arith))
 
 -- whoever isn't prepared is posted
 abbrev pub all_wait : State → Bool

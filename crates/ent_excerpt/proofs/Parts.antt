@@ -43,9 +43,6 @@ beginning_is_shorter text part (b ∷ rest, whole) =
     equal_lengths text (part ++ b ∷ rest) whole ∙ length-append part (b ∷ rest) in
     (not_shorter part text, (λ differs. grind (arith, lengths)))
 
-pub in_turn : {A B C : Type 0} → A ↔ B → B ↔ C → A ↔ C
-in_turn first second = ((λ a. second.0 (first.0 a)), (λ b. first.1 (second.1 b)))
-
 -- a part that is all of the text isn't cut
 pub not_cut : (cut : Bool) (part text : List ℕ) → IsTrue cut ↔ ¬ (part ≡ text) → part ≡ text → cut ≡ false
 not_cut true part text told same = absurd (told.0 refl same)

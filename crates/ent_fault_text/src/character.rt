@@ -1,12 +1,12 @@
 //! What is said of faults of tokens.
 use crate::scene::Scene;
-use crate::words::{Counted, Told};
+use crate::words::{Quantity, Wording};
 use ent_text::TextFault;
 use ent_value::{LONGEST_NAME, LONGEST_TEXT};
 use std::alloc::AllocError;
 
 /// What is said of the first fault of the tokens.
-pub(crate) fn text_fault(scene: &Scene<'_>, fault: TextFault) -> Result<Told, AllocError> {
+pub(crate) fn text_fault(scene: &Scene<'_>, fault: TextFault) -> Result<Wording, AllocError> {
     let alloc = scene.alloc;
     let rest = scene.rest();
     match fault {
@@ -14,14 +14,14 @@ pub(crate) fn text_fault(scene: &Scene<'_>, fault: TextFault) -> Result<Told, Al
             Some(c) if c.is_control() => control_character(scene, c),
             Some(c) if is_unseen(c) => unseen_character(scene, c),
             Some(c) => other_character(scene, c),
-            None => Ok(Told::plain(format!(in alloc; "a character can't stand here")?)),
+            None => Ok(Wording::plain(format!(in alloc; "a character can't stand here")?)),
         },
-        TextFault::OpenText(_) => Told::hinted(
+        TextFault::OpenText(_) => Wording::hinted(
             alloc,
             format!(in alloc; "this text has no closing quote")?,
             "a ' in a text is written twice: ''",
         ),
-        TextFault::NumberTooLarge(_) => Ok(Told::plain(format!(in alloc;
+        TextFault::NumberTooLarge(_) => Ok(Wording::plain(format!(in alloc;
             "this number is above 9223372036854775807, the greatest"
         )?)),
         TextFault::TextTooLong(_) => too_long(scene, rest),
@@ -29,18 +29,18 @@ pub(crate) fn text_fault(scene: &Scene<'_>, fault: TextFault) -> Result<Told, Al
 }
 
 /// A text or a word that is too long; its beginning says which.
-fn too_long(scene: &Scene<'_>, rest: &str) -> Result<Told, AllocError> {
+fn too_long(scene: &Scene<'_>, rest: &str) -> Result<Wording, AllocError> {
     let alloc = scene.alloc;
     if rest.starts_with('\'') {
         let most = LONGEST_TEXT;
         let sentence = format!(in alloc; "this text has more than {most} bytes")?;
-        return Ok(Told::plain(sentence));
+        return Ok(Wording::plain(sentence));
     }
     let length = word_length(rest.strip_prefix('@').unwrap_or(rest));
-    let bytes = Counted(length, "byte");
+    let bytes = Quantity(length, "byte");
     let most = LONGEST_NAME;
     let sentence = format!(in alloc; "this word has {bytes}, and at most {most} can stand in one")?;
-    Ok(Told::plain(sentence))
+    Ok(Wording::plain(sentence))
 }
 
 /// How many letters, digits and `_` stand in front.
@@ -51,18 +51,18 @@ pub(crate) fn word_length(text: &str) -> usize {
 }
 
 /// A control character: in a text, or alone.
-fn control_character(scene: &Scene<'_>, c: char) -> Result<Told, AllocError> {
+fn control_character(scene: &Scene<'_>, c: char) -> Result<Wording, AllocError> {
     let alloc = scene.alloc;
     let code = c as u32;
     if c == '\n' || c == '\r' {
-        return Told::hinted(
+        return Wording::hinted(
             alloc,
             format!(in alloc; "a text ends on its line, and this one doesn't")?,
             "perhaps its closing quote is missing, or a ' in it isn't written twice",
         );
     }
     let sentence = format!(in alloc; "the control character U+{code:04X} can't stand here")?;
-    Ok(Told::plain(sentence))
+    Ok(Wording::plain(sentence))
 }
 
 /// Whether a character can't be seen: white space other than a blank, or one without width at a text's beginning.
@@ -71,25 +71,25 @@ fn is_unseen(c: char) -> bool {
 }
 
 /// A character that can't be seen, by its number.
-fn unseen_character(scene: &Scene<'_>, c: char) -> Result<Told, AllocError> {
+fn unseen_character(scene: &Scene<'_>, c: char) -> Result<Wording, AllocError> {
     let alloc = scene.alloc;
     let code = c as u32;
     let sentence = format!(in alloc; "the character U+{code:04X} can't stand here")?;
     if c == '\u{feff}' {
         let whole = scene.whole.with_article();
         let hint = Some(format!(in alloc; "{whole} has no byte order mark")?);
-        return Ok(Told { sentence, hint });
+        return Ok(Wording { sentence, hint });
     }
-    Told::hinted(alloc, sentence, "white space is space, tab, CR and LF")
+    Wording::hinted(alloc, sentence, "white space is space, tab, CR and LF")
 }
 
 /// A character that begins no token.
-fn other_character(scene: &Scene<'_>, c: char) -> Result<Told, AllocError> {
+fn other_character(scene: &Scene<'_>, c: char) -> Result<Wording, AllocError> {
     let alloc = scene.alloc;
     let sentence = format!(in alloc; "{c} can't stand here")?;
     match hint_of(c) {
-        Some(hint) => Told::hinted(alloc, sentence, hint),
-        None => Ok(Told::plain(sentence)),
+        Some(hint) => Wording::hinted(alloc, sentence, hint),
+        None => Ok(Wording::plain(sentence)),
     }
 }
 

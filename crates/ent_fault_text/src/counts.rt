@@ -1,7 +1,7 @@
 //! What is said where numbers of values differ.
 use crate::mark::{Mark, marks_behind};
 use crate::scene::Scene;
-use crate::words::{Counted, Told, listed};
+use crate::words::{Quantity, Wording, listed};
 use ent_text::{Keyword, Symbol};
 use std::alloc::AllocError;
 
@@ -28,14 +28,14 @@ fn things(marks: &[Mark<'_>], end: Keyword) -> usize {
 
 /// A row with another number of values than its table has columns, or a sub-select with another number of items than
 /// its tuple has terms.
-pub(crate) fn arity(scene: &Scene<'_>) -> Result<Told, AllocError> {
+pub(crate) fn arity(scene: &Scene<'_>) -> Result<Wording, AllocError> {
     if scene.follows(Keyword::Values) {
         return row_arity(scene);
     }
     tuple_arity(scene)
 }
 
-fn row_arity(scene: &Scene<'_>) -> Result<Told, AllocError> {
+fn row_arity(scene: &Scene<'_>) -> Result<Wording, AllocError> {
     let alloc = scene.alloc;
     let name = match scene.back(2) {
         Some(mark) => mark.text,
@@ -43,9 +43,9 @@ fn row_arity(scene: &Scene<'_>) -> Result<Told, AllocError> {
     };
     let columns = column_names(scene, name)?;
     let inside = marks_behind(scene.coming(), 1);
-    let wanted = Counted(columns.len(), "column");
+    let wanted = Quantity(columns.len(), "column");
     let count = things(inside, Keyword::Values);
-    let values = Counted(count, "value");
+    let values = Quantity(count, "value");
     let verb = if count == 1 { "stands" } else { "stand" };
     let sentence = format!(in alloc; "{name} has {wanted}, and here {verb} {values}")?;
     let list = listed(alloc, columns.as_slice(), " and ")?;
@@ -55,7 +55,7 @@ fn row_arity(scene: &Scene<'_>) -> Result<Told, AllocError> {
         "columns are"
     };
     let hint = format!(in alloc; "the {be} {list}")?;
-    Ok(Told {
+    Ok(Wording {
         sentence,
         hint: Some(hint),
     })
@@ -72,7 +72,7 @@ fn column_names<'a>(scene: &Scene<'a>, name: &str) -> Result<Vec<&'a str>, Alloc
     Ok(names)
 }
 
-fn tuple_arity(scene: &Scene<'_>) -> Result<Told, AllocError> {
+fn tuple_arity(scene: &Scene<'_>) -> Result<Wording, AllocError> {
     let alloc = scene.alloc;
     let coming = scene.coming();
     let is_enclosed = scene
@@ -83,10 +83,10 @@ fn tuple_arity(scene: &Scene<'_>) -> Result<Told, AllocError> {
     } else {
         coming.get(..)
     };
-    let terms = Counted(things(inside.unwrap_or(coming), Keyword::In), "term");
-    let items = Counted(items_behind(scene, coming)?, "item");
+    let terms = Quantity(things(inside.unwrap_or(coming), Keyword::In), "term");
+    let items = Quantity(items_behind(scene, coming)?, "item");
     let sentence = format!(in alloc; "this tuple has {terms}, and its sub-select has {items}")?;
-    Ok(Told::plain(sentence))
+    Ok(Wording::plain(sentence))
 }
 
 /// How many items the first sub-select of these tokens has; `*` stands for all columns of its sources.

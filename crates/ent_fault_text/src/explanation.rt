@@ -14,7 +14,7 @@ use crate::scene::Scene;
 use crate::schema::tables_of;
 use crate::tokens::scene_at;
 use crate::whole::Whole;
-use crate::words::Told;
+use crate::words::Wording;
 use ent_excerpt::{Excerpt, Line, Place, columns};
 use ent_sql::SqlFault;
 use ent_tree::Opening;
@@ -78,7 +78,7 @@ fn explained<'a>(
         → IsExcerptAt text.now (offset_of fault text.now) told.excerpt) }
 {
     let offset = fault.offset(text);
-    let Told { sentence, hint } = told(&scene, fault)?;
+    let Wording { sentence, hint } = told(&scene, fault)?;
     let place = Place::of(text, offset);
     let line = Line::of(text, offset);
     let excerpt = Excerpt::of(line, marked(&scene));
@@ -91,7 +91,7 @@ fn explained<'a>(
 }
 
 /// The sentence and the hint.
-fn told(scene: &Scene<'_>, fault: InputFault) -> Result<Told, AllocError> {
+fn told(scene: &Scene<'_>, fault: InputFault) -> Result<Wording, AllocError> {
     match fault {
         InputFault::NotUtf8 => not_utf8(scene),
         InputFault::Sql(SqlFault::Text(fault)) => text_fault(scene, fault),
@@ -102,12 +102,12 @@ fn told(scene: &Scene<'_>, fault: InputFault) -> Result<Told, AllocError> {
 }
 
 /// A text that isn't UTF-8 behind its end.
-fn not_utf8(scene: &Scene<'_>) -> Result<Told, AllocError> {
+fn not_utf8(scene: &Scene<'_>) -> Result<Wording, AllocError> {
     let alloc = scene.alloc;
     let sentence = format!(in alloc; "what stands here isn't UTF-8")?;
     let whole = scene.whole.with_article();
     let hint = Some(format!(in alloc; "{whole} is a text in UTF-8")?);
-    Ok(Told { sentence, hint })
+    Ok(Wording { sentence, hint })
 }
 
 /// How many columns are marked: those of the token at the place, or of the word where a fault of tokens stands.

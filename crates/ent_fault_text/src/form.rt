@@ -8,7 +8,7 @@ use crate::repeated::{ambiguous, repeated};
 use crate::scene::Scene;
 use crate::schema::Table;
 use crate::typed::wrong_kind;
-use crate::words::{Told, listed};
+use crate::words::{Wording, listed};
 use ent_form::FormFault;
 use ent_text::{Keyword, Symbol};
 use std::alloc::AllocError;
@@ -17,7 +17,7 @@ use std::alloc::AllocError;
 const MOST_NAMED: usize = 8;
 
 /// What is said of the first fault of form.
-pub(crate) fn form_fault(scene: &Scene<'_>, fault: FormFault) -> Result<Told, AllocError> {
+pub(crate) fn form_fault(scene: &Scene<'_>, fault: FormFault) -> Result<Wording, AllocError> {
     match fault {
         FormFault::NoTable(_) => no_table(scene),
         FormFault::NoColumn(_) => no_column(scene),
@@ -31,7 +31,7 @@ pub(crate) fn form_fault(scene: &Scene<'_>, fault: FormFault) -> Result<Told, Al
 }
 
 /// No table of this name, or no source that goes by it.
-fn no_table(scene: &Scene<'_>) -> Result<Told, AllocError> {
+fn no_table(scene: &Scene<'_>) -> Result<Wording, AllocError> {
     let alloc = scene.alloc;
     let name = scene.word();
     if scene.ahead(1).is_some_and(|mark| mark.is_sign(Symbol::Dot)) {
@@ -40,7 +40,7 @@ fn no_table(scene: &Scene<'_>) -> Result<Told, AllocError> {
     let sentence = format!(in alloc; "there is no table {name}")?;
     if scene.relations.iter().any(|relation| *relation == name) {
         let hint = format!(in alloc; "{name} is an answer relation, and no table")?;
-        return Ok(Told {
+        return Ok(Wording {
             sentence,
             hint: Some(hint),
         });
@@ -51,11 +51,11 @@ fn no_table(scene: &Scene<'_>) -> Result<Told, AllocError> {
         .map(|table| table.name.text)
         .collect(alloc)?;
     let hint = hint_among(scene, name, names.as_slice(), "the tables are")?;
-    Ok(Told { sentence, hint })
+    Ok(Wording { sentence, hint })
 }
 
 /// No source that goes by this name.
-fn no_source(scene: &Scene<'_>, name: &str) -> Result<Told, AllocError> {
+fn no_source(scene: &Scene<'_>, name: &str) -> Result<Wording, AllocError> {
     let alloc = scene.alloc;
     let sentence = format!(in alloc; "no source goes by the name {name} here")?;
     let sources = scene.sources()?;
@@ -63,7 +63,7 @@ fn no_source(scene: &Scene<'_>, name: &str) -> Result<Told, AllocError> {
         if source.table == name {
             let alias = source.name;
             let hint = format!(in alloc; "{name} goes by {alias} here")?;
-            return Ok(Told {
+            return Ok(Wording {
                 sentence,
                 hint: Some(hint),
             });
@@ -71,7 +71,7 @@ fn no_source(scene: &Scene<'_>, name: &str) -> Result<Told, AllocError> {
     }
     let names: Vec<&str> = sources.iter().map(|source| source.name).collect(alloc)?;
     let hint = hint_among(scene, name, names.as_slice(), "the sources are")?;
-    Ok(Told { sentence, hint })
+    Ok(Wording { sentence, hint })
 }
 
 /// The name that was meant; else all that there are, where they are few.
@@ -91,7 +91,7 @@ fn hint_among(
 }
 
 /// No column of this name in the sources here.
-fn no_column(scene: &Scene<'_>) -> Result<Told, AllocError> {
+fn no_column(scene: &Scene<'_>) -> Result<Wording, AllocError> {
     let alloc = scene.alloc;
     let name = scene.word();
     let is_qualified = scene.back(1).is_some_and(|mark| mark.is_sign(Symbol::Dot));
@@ -113,7 +113,7 @@ fn no_column(scene: &Scene<'_>) -> Result<Told, AllocError> {
         _ => format!(in alloc; "none of {list} has a column {name}")?,
     };
     let hint = column_hint(scene, name, columns.as_slice(), is_qualified)?;
-    Ok(Told { sentence, hint })
+    Ok(Wording { sentence, hint })
 }
 
 /// Adds the names of a table's columns that aren't there yet.
@@ -153,14 +153,14 @@ fn column_hint(
 }
 
 /// A written variable without a value.
-fn unbound(scene: &Scene<'_>) -> Result<Told, AllocError> {
+fn unbound(scene: &Scene<'_>) -> Result<Wording, AllocError> {
     let alloc = scene.alloc;
     let name = scene.word();
     let sentence = format!(in alloc;
         "{name} has no value: it stands in no tuple with IN (SELECT ..) of its statement"
     )?;
     let hint = Some(unbound_hint(scene, name)?);
-    Ok(Told { sentence, hint })
+    Ok(Wording { sentence, hint })
 }
 
 /// What helps: another variable's name, a column that the variable may stand for, or quotes.
@@ -180,7 +180,7 @@ fn unbound_hint(scene: &Scene<'_>, name: &str) -> Result<String, AllocError> {
 }
 
 /// A host variable without a value.
-fn no_host_variable(scene: &Scene<'_>) -> Result<Told, AllocError> {
+fn no_host_variable(scene: &Scene<'_>) -> Result<Wording, AllocError> {
     let alloc = scene.alloc;
     let name = scene.word();
     let sentence = format!(in alloc;
@@ -192,7 +192,7 @@ fn no_host_variable(scene: &Scene<'_>) -> Result<Told, AllocError> {
             let hint = format!(in alloc;
                 "AS {name} gives it one for the statements behind this one"
             )?;
-            return Ok(Told {
+            return Ok(Wording {
                 sentence,
                 hint: Some(hint),
             });
@@ -200,5 +200,5 @@ fn no_host_variable(scene: &Scene<'_>) -> Result<Told, AllocError> {
     }
     let others = scene.host_variables()?;
     let hint = hint_among(scene, name, others.as_slice(), "those that have one are")?;
-    Ok(Told { sentence, hint })
+    Ok(Wording { sentence, hint })
 }

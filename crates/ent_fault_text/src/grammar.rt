@@ -6,7 +6,7 @@ use crate::misspelt::misspelt;
 use crate::naming::hint_of_naming;
 use crate::scene::Scene;
 use crate::whole::Whole;
-use crate::words::Told;
+use crate::words::Wording;
 use ent_text::{Keyword, Symbol};
 use ent_tree::{
     MOST_OPENING_ROWS, MOST_PARTS, MOST_RUNS, MOST_SCRIPTS, MOST_SOURCES, MOST_STATEMENTS,
@@ -15,19 +15,19 @@ use ent_tree::{
 use std::alloc::AllocError;
 
 /// A token that can't follow what stands before it.
-pub(crate) fn unexpected(scene: &Scene<'_>) -> Result<Told, AllocError> {
+pub(crate) fn unexpected(scene: &Scene<'_>) -> Result<Wording, AllocError> {
     let alloc = scene.alloc;
     let expected = Expected::behind(alloc, scene.whole, scene.lead())?;
     let list = expected.listed(alloc)?;
     let Some(found) = scene.ahead(0) else {
         let whole = scene.whole.name();
         let sentence = format!(in alloc; "the {whole} ends here, and {list} is missing")?;
-        return Ok(Told::plain(sentence));
+        return Ok(Wording::plain(sentence));
     };
     let word = found.text;
     let sentence = format!(in alloc; "{word} can't stand here: expected {list}")?;
     let hint = hint_at(scene, &found, &expected)?;
-    Ok(Told { sentence, hint })
+    Ok(Wording { sentence, hint })
 }
 
 /// What helps where a token can't stand.
@@ -247,7 +247,7 @@ struct Limit {
 }
 
 /// A thing beyond a limit.
-pub(crate) fn too_many(scene: &Scene<'_>) -> Result<Told, AllocError> {
+pub(crate) fn too_many(scene: &Scene<'_>) -> Result<Wording, AllocError> {
     let alloc = scene.alloc;
     let sentence = if scene.follows(Keyword::Within) {
         let most = MOST_RUNS;
@@ -260,7 +260,7 @@ pub(crate) fn too_many(scene: &Scene<'_>) -> Result<Told, AllocError> {
         } = limit_at(scene);
         format!(in alloc; "there are too many {things}: {holder} at most {most}")?
     };
-    Ok(Told::plain(sentence))
+    Ok(Wording::plain(sentence))
 }
 
 fn limit_on(things: &'static str, holder: &'static str, most: usize) -> Limit {

@@ -9,14 +9,14 @@ use std::alloc::{AllocError, Global};
 
 /// A source: a table and the name that it goes by.
 #[derive(Clone, Copy)]
-pub(crate) struct Source<'a> {
+pub(crate) struct SourceNames<'a> {
     pub(crate) table: &'a str,
     pub(crate) name: &'a str,
 }
 
 /// What stands on one side of a test: its text, and its kind where that is known.
 #[derive(Clone, Copy)]
-pub(crate) struct Side<'a> {
+pub(crate) struct TestSide<'a> {
     pub(crate) text: &'a str,
     pub(crate) kind: Option<Kind>,
 }
@@ -70,13 +70,13 @@ fn introduces(mark: &Mark<'_>) -> bool {
 }
 
 /// The sources that these tokens begin with.
-fn sources_of<'a>(alloc: Global, marks: &[Mark<'a>]) -> Result<Vec<Source<'a>>, AllocError> {
-    let mut sources: Vec<Source<'a>> = Vec::new(alloc);
+fn sources_of<'a>(alloc: Global, marks: &[Mark<'a>]) -> Result<Vec<SourceNames<'a>>, AllocError> {
+    let mut sources: Vec<SourceNames<'a>> = Vec::new(alloc);
     let mut is_new = true;
     for mark in marks {
         let name = mark.text;
         if mark.is_name() && is_new {
-            sources.push(Source { table: name, name })?;
+            sources.push(SourceNames { table: name, name })?;
             is_new = false;
         } else if mark.is_name() {
             rename(&mut sources, name);
@@ -90,7 +90,7 @@ fn sources_of<'a>(alloc: Global, marks: &[Mark<'a>]) -> Result<Vec<Source<'a>>, 
 }
 
 /// Lets the last source go by another name.
-fn rename<'a>(sources: &mut Vec<Source<'a>>, name: &'a str) {
+fn rename<'a>(sources: &mut Vec<SourceNames<'a>>, name: &'a str) {
     if let Some(source) = sources.last_mut() {
         source.name = name;
     }
@@ -106,7 +106,7 @@ impl<'a> Scene<'a> {
     }
 
     /// The sources of the innermost SELECT that holds the place; of another statement its table.
-    pub(crate) fn sources(&self) -> Result<Vec<Source<'a>>, AllocError> {
+    pub(crate) fn sources(&self) -> Result<Vec<SourceNames<'a>>, AllocError> {
         sources_of(self.alloc, introduced(self.scope()))
     }
 
@@ -114,7 +114,7 @@ impl<'a> Scene<'a> {
     pub(crate) fn sources_behind<'b>(
         &self,
         marks: &[Mark<'b>],
-    ) -> Result<Vec<Source<'b>>, AllocError> {
+    ) -> Result<Vec<SourceNames<'b>>, AllocError> {
         sources_of(self.alloc, introduced(marks))
     }
 
@@ -154,9 +154,9 @@ impl<'a> Scene<'a> {
     }
 
     /// What begins at the place.
-    pub(crate) fn side_ahead(&self) -> Result<Side<'a>, AllocError> {
+    pub(crate) fn side_ahead(&self) -> Result<TestSide<'a>, AllocError> {
         let (Some(first), dot, second) = (self.ahead(0), self.ahead(1), self.ahead(2)) else {
-            return Ok(Side {
+            return Ok(TestSide {
                 text: "",
                 kind: None,
             });
@@ -165,7 +165,7 @@ impl<'a> Scene<'a> {
         let is_qualified = first.is_name() && dot.is_some_and(|mark| mark.is_sign(Symbol::Dot));
         if is_qualified && let Some(column) = second {
             let kind = self.kind_of(Some(first.text), &column)?;
-            return Ok(Side {
+            return Ok(TestSide {
                 text: self.between(&first, &column),
                 kind,
             });
@@ -175,11 +175,11 @@ impl<'a> Scene<'a> {
             Some(number) if is_pair => self.between(&first, &number),
             _ => first.text,
         };
-        Ok(Side { text, kind })
+        Ok(TestSide { text, kind })
     }
 
     /// What ends just before the comparison that stands before the place.
-    pub(crate) fn side_back(&self) -> Result<Option<Side<'a>>, AllocError> {
+    pub(crate) fn side_back(&self) -> Result<Option<TestSide<'a>>, AllocError> {
         let (Some(sign), Some(last)) = (self.back(1), self.back(2)) else {
             return Ok(None);
         };
@@ -189,13 +189,13 @@ impl<'a> Scene<'a> {
         let is_qualified = self.back(3).is_some_and(|mark| mark.is_sign(Symbol::Dot));
         if is_qualified && let Some(qualifier) = self.back(4) {
             let kind = self.kind_of(Some(qualifier.text), &last)?;
-            return Ok(Some(Side {
+            return Ok(Some(TestSide {
                 text: self.between(&qualifier, &last),
                 kind,
             }));
         }
         let kind = self.kind_of(None, &last)?;
-        Ok(Some(Side {
+        Ok(Some(TestSide {
             text: last.text,
             kind,
         }))

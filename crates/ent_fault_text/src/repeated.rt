@@ -1,18 +1,18 @@
 //! What is said where a name stands for two things, or a thing stands twice.
 use crate::mark::{Mark, Sort};
 use crate::scene::Scene;
-use crate::words::{Told, listed};
+use crate::words::{Wording, listed};
 use ent_excerpt::Place;
 use ent_text::{Keyword, Symbol};
 use std::alloc::AllocError;
 
 /// A plain name that two sources have as a column, or two sources that go by one name.
-pub(crate) fn ambiguous(scene: &Scene<'_>) -> Result<Told, AllocError> {
+pub(crate) fn ambiguous(scene: &Scene<'_>) -> Result<Wording, AllocError> {
     let alloc = scene.alloc;
     let name = scene.word();
     if is_source(scene) {
         let sentence = format!(in alloc; "two sources go by the name {name}")?;
-        return Told::hinted(alloc, sentence, "give one of them an alias of its own");
+        return Wording::hinted(alloc, sentence, "give one of them an alias of its own");
     }
     let sentence = format!(in alloc; "two sources have a column {name}")?;
     let mut choices: Vec<String> = Vec::new(alloc);
@@ -28,7 +28,7 @@ pub(crate) fn ambiguous(scene: &Scene<'_>) -> Result<Told, AllocError> {
     let names: Vec<&str> = choices.iter().map(|choice| choice.as_str()).collect(alloc)?;
     let list = listed(alloc, names.as_slice(), " or ")?;
     let hint = format!(in alloc; "write {list}")?;
-    Ok(Told {
+    Ok(Wording {
         sentence,
         hint: Some(hint),
     })
@@ -77,7 +77,7 @@ fn repeated_at(scene: &Scene<'_>) -> RepeatedThing {
 }
 
 /// A thing that stands a second time.
-pub(crate) fn repeated(scene: &Scene<'_>) -> Result<Told, AllocError> {
+pub(crate) fn repeated(scene: &Scene<'_>) -> Result<Wording, AllocError> {
     let alloc = scene.alloc;
     let name = scene.word();
     let thing = repeated_at(scene);
@@ -97,7 +97,7 @@ pub(crate) fn repeated(scene: &Scene<'_>) -> Result<Told, AllocError> {
         }
         None => None,
     };
-    Ok(Told { sentence, hint })
+    Ok(Wording { sentence, hint })
 }
 
 /// Where the first of the two stands.

@@ -1,14 +1,14 @@
 //! What is said where kinds differ.
-use crate::kinds::Side;
+use crate::kinds::TestSide;
 use crate::scene::Scene;
 use crate::schema::Column;
-use crate::words::{Told, other_than, with_article};
+use crate::words::{Wording, other_than, with_article};
 use ent_text::{Keyword, Symbol};
 use ent_value::Kind;
 use std::alloc::AllocError;
 
 /// What isn't of the kind that is wanted at its place. There are two kinds, so what isn't of one is of the other.
-pub(crate) fn wrong_kind(scene: &Scene<'_>) -> Result<Told, AllocError> {
+pub(crate) fn wrong_kind(scene: &Scene<'_>) -> Result<Wording, AllocError> {
     let side = scene.side_ahead()?;
     if is_beside_sign(scene) && side.kind != Some(Kind::Int) {
         return beside_sign(scene, side);
@@ -43,13 +43,13 @@ fn is_before_sign(scene: &Scene<'_>) -> bool {
     scene.ahead(3).is_some_and(|mark| mark.is_sign(Symbol::Plus) || mark.is_sign(Symbol::Minus))
 }
 
-fn beside_sign(scene: &Scene<'_>, side: Side<'_>) -> Result<Told, AllocError> {
+fn beside_sign(scene: &Scene<'_>, side: TestSide<'_>) -> Result<Wording, AllocError> {
     let alloc = scene.alloc;
     let text = side.text;
     let sentence = format!(in alloc;
         "{text} is a TEXT, and only an INT can be added or subtracted"
     )?;
-    Ok(Told::plain(sentence))
+    Ok(Wording::plain(sentence))
 }
 
 /// The column for which the value at the place is, in a row of values.
@@ -72,24 +72,24 @@ fn inserted_column<'a>(scene: &Scene<'a>) -> Option<Column<'a>> {
 fn other_kind(
     scene: &Scene<'_>,
     wanted: &str,
-    side: Side<'_>,
+    side: TestSide<'_>,
     given: Option<Kind>,
-) -> Result<Told, AllocError> {
+) -> Result<Wording, AllocError> {
     let alloc = scene.alloc;
     let text = side.text;
     let Some(given) = given else {
         let sentence = format!(in alloc; "{wanted} and {text} are of two kinds")?;
-        return Ok(Told::plain(sentence));
+        return Ok(Wording::plain(sentence));
     };
     let kind = with_article(given);
     let other = with_article(other_than(given));
     let sentence = format!(in alloc; "{wanted} is {other}, and {text} is {kind}")?;
     let hint = quotes_hint(scene, text)?;
-    Ok(Told { sentence, hint })
+    Ok(Wording { sentence, hint })
 }
 
 /// A term of a tuple that isn't of the kind of its sub-select's item.
-fn of_item(scene: &Scene<'_>, side: Side<'_>) -> Result<Told, AllocError> {
+fn of_item(scene: &Scene<'_>, side: TestSide<'_>) -> Result<Wording, AllocError> {
     let alloc = scene.alloc;
     let text = side.text;
     let sentence = match side.kind {
@@ -101,7 +101,7 @@ fn of_item(scene: &Scene<'_>, side: Side<'_>) -> Result<Told, AllocError> {
         None => format!(in alloc; "{text} is of another kind than the item of its sub-select")?,
     };
     let hint = quotes_hint(scene, text)?;
-    Ok(Told { sentence, hint })
+    Ok(Wording { sentence, hint })
 }
 
 /// What helps where a number is written as a text, or a text as a number.

@@ -5,15 +5,15 @@ use std::fmt;
 
 /// What is said of a fault: a sentence, and where one helps another one.
 #[derive(Debug, Drop)]
-pub(crate) struct Told {
+pub(crate) struct Wording {
     pub(crate) sentence: String,
     pub(crate) hint: Option<String>,
 }
 
-impl Told {
+impl Wording {
     /// A sentence without a hint.
     pub(crate) fn plain(sentence: String) -> Self {
-        Told {
+        Wording {
             sentence,
             hint: None,
         }
@@ -22,15 +22,15 @@ impl Told {
     /// A sentence, and a hint that is always the same.
     pub(crate) fn hinted(alloc: Global, sentence: String, hint: &str) -> Result<Self, AllocError> {
         let hint = Some(String::from_str(alloc, hint)?);
-        Ok(Told { sentence, hint })
+        Ok(Wording { sentence, hint })
     }
 }
 
 /// So many of something, as `1 value` or `3 values`.
 #[derive(Clone, Copy)]
-pub(crate) struct Counted<'a>(pub(crate) usize, pub(crate) &'a str);
+pub(crate) struct Quantity<'a>(pub(crate) usize, pub(crate) &'a str);
 
-impl fmt::Display for Counted<'_> {
+impl fmt::Display for Quantity<'_> {
     fn fmt<W: fmt::Write>(&self, f: &mut fmt::Formatter<W>) -> fmt::Result {
         let count = self.0;
         let thing = self.1;

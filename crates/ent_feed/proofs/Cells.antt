@@ -6,20 +6,16 @@ use Rattle.std.specs.Ordering.{nat_cmp, ordering_then}
 use Rattle.std.specs.declared.cmp.Ordering.{Ordering}
 use Rattle.std.specs.declared.cmp.Ordering.TheVariants.{Less, Equal, Greater}
 use Rattle.std.proofs.lemmas.Bool.Decides.{nat_tests}
+use Rattle.ent_lists.proofs.Lists.{drop_at}
 use Rattle.ent_value.specs.Value.{row_cmp, value_cmp}
 use Rattle.ent_value.specs.declared.value.Value.{Value}
-
-drop_from : {X : Type 0} (xs : List X) (i : ℕ) (x : X) → slice_get xs i ≡ Some x → drop i xs ≡ x ∷ drop (suc i) xs
-drop_from [] i x h = absurd cc
-drop_from (y ∷ ys) zero x h = let e : y ≡ x = cc in ap (λ z. z ∷ ys) e
-drop_from (y ∷ ys) (suc i) x h = drop_from ys i x h
 
 -- at the next cell of both rows
 module _ (left right : List Value) (i : ℕ) (x y : Value) (here : slice_get left i ≡ Some x)
     (there : slice_get right i ≡ Some y) where
   next_cell : row_cmp (drop i left) (drop i right)
       ≡ ordering_then (value_cmp x y) (row_cmp (drop (suc i) left) (drop (suc i) right))
-  next_cell = λ j. row_cmp (drop_from left i x here j) (drop_from right i y there j)
+  next_cell = λ j. row_cmp (drop_at left i x here j) (drop_at right i y there j)
 
   -- it decides where it differs
   pub cell_decides : (o : Ordering) → o ≡ value_cmp x y → (o ≡ Equal → ⊥)

@@ -67,7 +67,7 @@ each_applied tickets first last groups count told =
 
 -- ---- the journal
 
-commits-append : (tickets : List ℕ) (number : ℕ) (entries more : List Entry)
+pub commits-append : (tickets : List ℕ) (number : ℕ) (entries more : List Entry)
     → commits_of tickets number (entries ++ more)
     ≡ commits_of tickets number entries ++ commits_of tickets (number + length entries) more
 commits-append tickets number [] more =

@@ -38,7 +38,7 @@ pub column_within : (columns : List ColumnSchema) (name : Name) (found : ℕ) (k
 column_within columns name found kind e =
     let within = column_within_from 0 columns name found kind e in omega arith
 
-own_length_from : (number : ℕ) (columns : List ColumnSchema) → length (own_from number columns) ≡ length columns
+pub own_length_from : (number : ℕ) (columns : List ColumnSchema) → length (own_from number columns) ≡ length columns
 own_length_from number [] = refl
 own_length_from number (column ∷ columns) = ap suc (own_length_from (suc number) columns)
 

@@ -8,6 +8,7 @@ use Rattle.std.proofs.lemmas.Bool.{eqb-true}
 use Rattle.std.proofs.lemmas.List.{append-nil, append_assoc, map-append, length-map}
 use Rattle.std.proofs.lemmas.List.Folds.{list_any-append}
 use Rattle.std.proofs.lemmas.Simd.{map-map}
+use Rattle.std.proofs.Math.Bool.{or_assoc, or-false}
 use Rattle.ent_value.specs.declared.value.Kind.{Kind}
 use Rattle.ent_value.specs.Kinds.{same_kind}
 use Rattle.ent_tree.specs.declared.entangled.Condition.{Condition}
@@ -166,19 +167,11 @@ module _ (names : List Name) (bound : Bound) where
 
 -- ---- which variables are demanded
 
-or_none : (b : Bool) → (b || false) ≡ b
-or_none true = refl
-or_none false = refl
-
-or_assoc : (a b c : Bool) → ((a || b) || c) ≡ (a || (b || c))
-or_assoc true b c = refl
-or_assoc false b c = refl
-
 -- a name is among those of a term's variable or is demanded before
 demanding_there : (demanded : Bound) (kind : Kind) (term : TreeTerm) (name : Name)
     → is_some (demanding demanded (Some kind) term name)
     ≡ (is_some (demanded name) || is_among (term_variables term) name)
-demanding_there demanded kind (terms.Value value) name = sym (or_none (is_some (demanded name)))
+demanding_there demanded kind (terms.Value value) name = sym (or-false (is_some (demanded name)))
 demanding_there demanded kind (terms.Variable variable) name = by (demanded variable.name) refl
   where
     within : (b : Bool) → same_name variable.name name ≡ b → (earlier : Kind) → demanded variable.name ≡ Some earlier
@@ -187,7 +180,7 @@ demanding_there demanded kind (terms.Variable variable) name = by (demanded vari
         let there : is_some (demanded name) ≡ true =
         ap (λ (n : Name). is_some (demanded n)) (sym (equal_names variable.name name same)) ∙ ap is_some is in
         there ∙ sym (ap (λ b. b || true) there)
-    within false same earlier is = sym (or_none (is_some (demanded name)))
+    within false same earlier is = sym (or-false (is_some (demanded name)))
 
     without : (b : Bool)
         → is_some (if b then Some kind else demanded name) ≡ (is_some (demanded name) || (b || false))
@@ -196,7 +189,7 @@ demanding_there demanded kind (terms.Variable variable) name = by (demanded vari
         true_behind : (b : Bool) → (b || true) ≡ true
         true_behind true = refl
         true_behind false = refl
-    without false = sym (or_none (is_some (demanded name)))
+    without false = sym (or-false (is_some (demanded name)))
 
     by : (earlier : Option Kind) → demanded variable.name ≡ earlier
         → is_some ((if is_some earlier then demanded else with_kind demanded variable.name kind) name)
@@ -208,7 +201,7 @@ demanding_all_there : (kinds : List Kind) (all : List TreeTerm) (demanded : Boun
     → length all ≡ length kinds
     → is_some (demanding_all demanded (map Some kinds) all name)
     ≡ (is_some (demanded name) || is_among (flat_map term_variables all) name)
-demanding_all_there [] [] demanded name l = sym (or_none (is_some (demanded name)))
+demanding_all_there [] [] demanded name l = sym (or-false (is_some (demanded name)))
 demanding_all_there [] (term ∷ more) demanded name l = absurd (omega arith)
 demanding_all_there (kind ∷ kinds) [] demanded name l = absurd (omega arith)
 demanding_all_there (kind ∷ kinds) (term ∷ more) demanded name l =
@@ -311,7 +304,7 @@ module _ (tables : List TableSchema) (bound : Bound) (names : List Name) where
       → is_some (found.1 name) ≡ (is_some (demanded name) || is_among (body_variables all) name)
   memberships_there [] made demanded found e name =
       ap (λ (f : List (Membership Known) × Bound). is_some (f.1 name)) (sym (one_answer (made, demanded) found e))
-      ∙ sym (or_none (is_some (demanded name)))
+      ∙ sym (or-false (is_some (demanded name)))
   memberships_there (conditions.InSelect tuple select ∷ more) made demanded found e name =
       let w = found_of (membership_in tables bound names demanded tuple select) _ found e in
       let here = flat_map term_variables tuple.terms in

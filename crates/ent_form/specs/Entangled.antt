@@ -25,7 +25,7 @@ use Rattle.ent_semantics.specs.declared.entangled.Membership.{Membership}
 use Rattle.ent_semantics.specs.declared.entangled.Term.{Term}
 use Rattle.ent_semantics.specs.declared.entangled.Term.TheVariants as resolved
 use Rattle.ent_semantics.specs.declared.operand.Known.{Known}
-use Rattle.ent_form.specs.declared.binding.Binding.{Binding}
+use Rattle.ent_form.specs.declared.binding.KindBinding.{KindBinding}
 use Rattle.ent_form.specs.declared.catalogue.TableSchema.{TableSchema}
 use Rattle.ent_form.specs.declared.fault.FormFault.{FormFault}
 use Rattle.ent_form.specs.declared.fault.FormFault.TheVariants.{Arity, WrongKind, Unbound, Repeated}
@@ -128,7 +128,7 @@ terms_in names demanded bound = record { find = term_in names demanded bound; pl
 pub record Offer : Type 0 where
   pub terms : List (Term Known)
   pub binds : List (Bind Known)
-  pub bound : List Binding
+  pub bound : List KindBinding
 
 abbrev pub no_offer : Offer
 no_offer = record { terms = []; binds = []; bound = [] }

@@ -8,7 +8,7 @@ use std::alloc::{AllocError, Global};
 
 /// A host variable, and the kind of the value that it was bound to.
 #[derive(Drop)]
-pub(crate) struct Binding {
+pub(crate) struct KindBinding {
     pub name: Name,
     pub kind: Kind,
 }
@@ -17,7 +17,7 @@ pub(crate) struct Binding {
 #[derive(Drop)]
 pub(crate) struct Bindings {
     /// The last one of a name counts.
-    pub bindings: Sequence<Binding>,
+    pub bindings: Sequence<KindBinding>,
 }
 
 impl Bindings {
@@ -48,7 +48,7 @@ impl Bindings {
         ensures ok { OnOk result (bound_in self.new ≡ with_kind (bound_in self.old) name kind) }
         ensures err { OnErr result (self.new ≡ self.old) }
     {
-        self.bindings.push(Binding { name, kind })?;
+        self.bindings.push(KindBinding { name, kind })?;
         Ok(())
     }
 }

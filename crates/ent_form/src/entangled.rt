@@ -10,7 +10,7 @@ ghost use Rattle.ent_form.specs.Kinds.{none_bound};
 ghost use Rattle.ent_form.specs.Lookup.{test_in};
 ghost use Rattle.ent_form.specs.Seen.{offer_of};
 
-use crate::binding::{Binding, Bindings};
+use crate::binding::{Bindings, KindBinding};
 use crate::catalogue::Catalogue;
 use crate::fault::FormFault;
 use crate::lookup::value;
@@ -32,7 +32,7 @@ use std::alloc::{AllocError, Global};
 struct SeenOffer {
     terms: Limited<ResolvedTerm<Known>, MOST_PARTS>,
     binds: Limited<Bind<Known>, MOST_PARTS>,
-    bound: Sequence<Binding>,
+    bound: Sequence<KindBinding>,
 }
 
 /// A value, or a written variable that is demanded in some column.
@@ -86,7 +86,7 @@ fn test(
 }
 
 /// Whether a host variable of this name is among those that are bound.
-fn is_bound(bound: &[Binding], name: &Name) -> bool
+fn is_bound(bound: &[KindBinding], name: &Name) -> bool
     ensures { result ≡ is_among (map (λ binding. binding.name) bound.now) name.now }
 {
     for binding in bound {
@@ -122,7 +122,7 @@ fn offer(
         };
         let name = variable.name.copy(alloc)?;
         offer.binds.push(bind)?;
-        offer.bound.push(Binding { name, kind })?;
+        offer.bound.push(KindBinding { name, kind })?;
     }
     offer.terms.push(term)?;
     Ok(())
@@ -289,7 +289,7 @@ fn variable_kinds(
 
 /// Binds what an entangled statement binds.
 #[tactic(auto, using(crate::proofs::Steps::bound_push))]
-fn bind_all(bindings: &mut Bindings, bound: Sequence<Binding>) -> Result<(), AllocError>
+fn bind_all(bindings: &mut Bindings, bound: Sequence<KindBinding>) -> Result<(), AllocError>
     ensures { OnOk result (bound_in bindings.new ≡ bound_from (bound_in bindings.old) bound) }
 {
     for binding in bound.into_vec() {

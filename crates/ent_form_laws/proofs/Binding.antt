@@ -52,11 +52,12 @@ use Rattle.ent_form.specs.Lookup.{value_in, values_in, expression_in}
 use Rattle.ent_form.specs.Ordinary.{tests_in, select_in, row_from, insert_in, delete_in, image_in, update_in, set_in}
 use Rattle.ent_form.specs.Scope.{table_in, table_scope}
 use Rattle.ent_form.specs.Steps.{there}
+use Rattle.ent_form.proofs.Heads.{found_of, there_of}
 use Rattle.ent_form_laws.specs.Kinds.{HasKinds, AnswersInKind}
 use Rattle.ent_form_laws.proofs.Kept.{over_overflow}
 use Rattle.ent_form_laws.proofs.Known.{value_kinded, expression_kinded}
 use Rattle.ent_form_laws.proofs.Noted.{OfVariable, OfItems, conditions_keep, items_weaker, items_noted}
-use Rattle.ent_form_laws.proofs.Steps.{one_answer, bound_given, demand_given, there_given}
+use Rattle.ent_form_laws.proofs.Steps.{one_answer, demand_given}
 
 -- ---- one host variable more
 
@@ -153,15 +154,15 @@ module _ (bound : Bound) (environment : Environment) (have : HasKinds bound envi
   term_kinded : (term : TreeTerm) (found : Term Known × Kind) → OfVariable IsAmong term
       → term_in names demanded bound term ≡ Ok found → kind_of (worth found.0) ≡ found.1
   term_kinded (terms.Value value) found among e =
-      let w = bound_given (value_in bound value) _ found e in
+      let w = found_of (value_in bound value) _ found e in
       subst (λ (f : Term Known × Kind). kind_of (worth f.0) ≡ f.1)
       (one_answer (resolved.Known w.0.0, w.0.1) found w.2) (value_kinded bound environment have value w.0 w.1)
   term_kinded (terms.Variable variable) found among e =
-      let w = bound_given (there (demanded variable.name) (Unbound variable.place)) _ found e in
+      let w = found_of (there (demanded variable.name) (Unbound variable.place)) _ found e in
       subst (λ (f : Term Known × Kind). kind_of (worth f.0) ≡ f.1)
       (one_answer (resolved.Variable (index_of names variable.name), w.0) found w.2)
       (variable_kind demanded names valuation variable.name w.0 answers among
-      (there_given (demanded variable.name) (Unbound variable.place) w.0 w.1))
+      (there_of (demanded variable.name) (Unbound variable.place) w.0 w.1))
 
   abbrev OfferAlike : Offer → Type 0
   OfferAlike offer = Alike worth offer.binds (bound_kinds offer)
@@ -183,8 +184,8 @@ module _ (bound : Bound) (environment : Environment) (have : HasKinds bound envi
   unfolding item_in
   offer_alike [] offer out among h e = subst OfferAlike (one_answer offer out e) h
   offer_alike (item ∷ more) offer out among h e =
-      let w = bound_given (item_in names demanded bound offer item) _ out e in
-      let t = bound_given (term_in names demanded bound item.term) _ w.0 w.1 in
+      let w = found_of (item_in names demanded bound offer item) _ out e in
+      let t = found_of (term_in names demanded bound item.term) _ w.0 w.1 in
       offer_alike more w.0 out among.1
       (bind_alike offer w.0 item.binds t.0 h (term_kinded item.term t.0 among.0 t.1) t.2) w.2
 
@@ -253,34 +254,34 @@ module _ (schemas : List TableSchema) (bound : Bound) (tables : Tables) (environ
       → BindsNothing form
   unfolding insert_in
   insert_binds insert form e =
-      let table = bound_given (table_in schemas insert.table) _ form e in
+      let table = found_of (table_in schemas insert.table) _ form e in
       let kept = demand_given (length insert.values == length table.0.1.columns) (Arity insert.place) _ form table.2 in
-      let row = bound_given (row_from bound [] table.0.1.columns insert.values) _ form kept.1 in
+      let row = found_of (row_from bound [] table.0.1.columns insert.values) _ form kept.1 in
       subst BindsNothing (one_answer (forms.Insert table.0.0 row.0) form row.2) tt
 
   delete_binds : (delete : Delete) (form : Statement Known) → delete_in schemas bound delete ≡ Ok form
       → BindsNothing form
   unfolding delete_in
   delete_binds delete form e =
-      let table = bound_given (table_in schemas delete.table) _ form e in
-      let tests = bound_given (tests_in (table_scope delete.table.name table.0) bound delete.tests) _ form table.2 in
+      let table = found_of (table_in schemas delete.table) _ form e in
+      let tests = found_of (tests_in (table_scope delete.table.name table.0) bound delete.tests) _ form table.2 in
       subst BindsNothing (one_answer (forms.Delete table.0.0 tests.0) form tests.2) tt
 
   update_binds : (update : Update) (form : Statement Known) → update_in schemas bound update ≡ Ok form
       → BindsNothing form
   unfolding update_in
   update_binds update form e =
-      let table = bound_given (table_in schemas update.table) _ form e in
+      let table = found_of (table_in schemas update.table) _ form e in
       let scope = table_scope update.table.name table.0 in
-      let tests = bound_given (tests_in scope bound update.tests) _ form table.2 in
-      let image = bound_given (image_in scope bound table.0.1.columns update.assignments) _ form tests.2 in
+      let tests = found_of (tests_in scope bound update.tests) _ form table.2 in
+      let image = found_of (image_in scope bound table.0.1.columns update.assignments) _ form tests.2 in
       subst BindsNothing (one_answer (forms.Update table.0.0 image.0 tests.0) form image.2) tt
 
   set_leaves : (set : Set) (found : Statement Known × Bound) (valuation : Valuation) (effect : Effect Tables)
       → set_in bound set ≡ Ok found → Leaves valuation effect found
   unfolding set_in
   set_leaves set found valuation effect e =
-      let w = bound_given (expression_in (values_in bound) set.expression) _ found e in
+      let w = found_of (expression_in (values_in bound) set.expression) _ found e in
       subst (Leaves valuation effect)
       (one_answer (forms.Set set.variable.name w.0.0, with_kind bound set.variable.name w.0.1) found w.2)
       (λ _ is. IfOk-at_ok (λ effect. HasKinds (with_kind bound set.variable.name w.0.1) effect.environment) is
@@ -299,10 +300,10 @@ module _ (schemas : List TableSchema) (bound : Bound) (tables : Tables) (environ
   unfolding entangled_in
   entangled_leaves entangled found valuation effect e =
       let names = variables_of entangled in
-      let body = bound_given (memberships_from schemas bound names [] none_bound entangled.conditions) _ found e in
-      let offer = bound_given (offer_from names body.0.1 bound no_offer entangled.items) _ found body.2 in
-      let heads = bound_given (heads_from offer.0.terms [] [] entangled.relations) _ found offer.2 in
-      let others = bound_given (others_from names body.0.1 bound [] [] entangled.conditions) _ found heads.2 in
+      let body = found_of (memberships_from schemas bound names [] none_bound entangled.conditions) _ found e in
+      let offer = found_of (offer_from names body.0.1 bound no_offer entangled.items) _ found body.2 in
+      let heads = found_of (heads_from offer.0.terms [] [] entangled.relations) _ found offer.2 in
+      let others = found_of (others_from names body.0.1 bound [] [] entangled.conditions) _ found heads.2 in
       subst (λ (f : Entangled Known × Bound). Leaves valuation effect (forms.Entangled f.0, f.1))
       (one_answer _ found others.2)
       (λ answers is.
@@ -325,23 +326,23 @@ module _ (schemas : List TableSchema) (bound : Bound) (tables : Tables) (environ
       → Leaves valuation effect (form, after)
   unfolding statement_in
   statement_leaves (statements.Select select) form after valuation effect e =
-      let w = bound_given (select_in schemas bound select) _ (form, after) e in
+      let w = found_of (select_in schemas bound select) _ (form, after) e in
       subst (Leaves valuation effect) (one_answer (forms.Select w.0.0, bound) (form, after) w.2)
       (λ _ is. unbound_kept (forms.Select w.0.0) valuation effect tt is)
   statement_leaves (statements.Entangled entangled) form after valuation effect e =
-      let w = bound_given (entangled_in schemas bound entangled) _ (form, after) e in
+      let w = found_of (entangled_in schemas bound entangled) _ (form, after) e in
       subst (Leaves valuation effect) (one_answer (forms.Entangled w.0.0, w.0.1) (form, after) w.2)
       (entangled_leaves entangled w.0 valuation effect w.1)
   statement_leaves (statements.Insert insert) form after valuation effect e =
-      let w = bound_given (insert_in schemas bound insert) _ (form, after) e in
+      let w = found_of (insert_in schemas bound insert) _ (form, after) e in
       subst (Leaves valuation effect) (one_answer (w.0, bound) (form, after) w.2)
       (λ _ is. unbound_kept w.0 valuation effect (insert_binds insert w.0 w.1) is)
   statement_leaves (statements.Delete delete) form after valuation effect e =
-      let w = bound_given (delete_in schemas bound delete) _ (form, after) e in
+      let w = found_of (delete_in schemas bound delete) _ (form, after) e in
       subst (Leaves valuation effect) (one_answer (w.0, bound) (form, after) w.2)
       (λ _ is. unbound_kept w.0 valuation effect (delete_binds delete w.0 w.1) is)
   statement_leaves (statements.Update update) form after valuation effect e =
-      let w = bound_given (update_in schemas bound update) _ (form, after) e in
+      let w = found_of (update_in schemas bound update) _ (form, after) e in
       subst (Leaves valuation effect) (one_answer (w.0, bound) (form, after) w.2)
       (λ _ is. unbound_kept w.0 valuation effect (update_binds update w.0 w.1) is)
   statement_leaves (statements.Set set) form after valuation effect e =

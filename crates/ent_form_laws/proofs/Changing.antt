@@ -32,12 +32,13 @@ use Rattle.ent_form.specs.Kinds.{Bound}
 use Rattle.ent_form.specs.Lookup.{value_in, values_in, kind_in, expression_in}
 use Rattle.ent_form.specs.Ordinary.{row_from, insert_in, tests_in, delete_in, set_in}
 use Rattle.ent_form.specs.Scope.{table_in, table_scope}
+use Rattle.ent_form.proofs.Heads.{found_of, there_of}
 use Rattle.ent_form_laws.specs.Tables.{database_of, AreWide, effect_of}
 use Rattle.ent_form_laws.proofs.Heads.{grown}
 use Rattle.ent_form_laws.proofs.Putting.{put_table, insertion_same, deletion_same}
 use Rattle.ent_form_laws.proofs.Selecting.{where_same}
 use Rattle.ent_form_laws.proofs.Sources.{name_of, names_seen}
-use Rattle.ent_form_laws.proofs.Steps.{one_answer, bound_given, demand_given, there_given}
+use Rattle.ent_form_laws.proofs.Steps.{one_answer, demand_given}
 use Rattle.ent_form_laws.proofs.Terms.{value_same, kind_value_same}
 
 module _ (environment : Environment) (bound : Bound) where
@@ -50,7 +51,7 @@ module _ (environment : Environment) (bound : Bound) where
   row_same [] (value ∷ values) made out l e = absurd (omega arith)
   row_same (column ∷ columns) [] made out l e = absurd (omega arith)
   row_same (column ∷ columns) (value ∷ values) made out l e =
-      let w = bound_given (kind_in (values_in bound) column.kind value) _ out e in
+      let w = found_of (kind_in (values_in bound) column.kind value) _ out e in
       row_same columns values (made ++ w.0 ∷ []) out (omega arith) w.2
       ∙ grown (known_worth environment) made w.0 (known_value environment value) (map (known_value environment) values)
       (sym (kind_value_same environment bound column.kind value w.0 w.1))
@@ -59,19 +60,19 @@ module _ (environment : Environment) (bound : Bound) where
       → expression_in (values_in bound) expression ≡ Ok found
       → expression_value (known_value environment) expression ≡ expression_value (known_worth environment) found.0
   expression_same (Single term) found e =
-      let w = bound_given (value_in bound term) _ found e in
+      let w = found_of (value_in bound term) _ found e in
       ap (λ (v : Value). Some v) (value_same environment bound term w.0 w.1)
       ∙ ap (λ (f : Expression Known × Kind). expression_value (known_worth environment) f.0) (one_answer _ found w.2)
   expression_same (Sum left right) found e =
-      let v = bound_given (kind_in (values_in bound) kinds.Int left) _ found e in
-      let w = bound_given (kind_in (values_in bound) kinds.Int right) _ found v.2 in
+      let v = found_of (kind_in (values_in bound) kinds.Int left) _ found e in
+      let w = found_of (kind_in (values_in bound) kinds.Int right) _ found v.2 in
       let l = kind_value_same environment bound kinds.Int left v.0 v.1 in
       let r = kind_value_same environment bound kinds.Int right w.0 w.1 in
       (λ i. expression_value (λ (x : Value). x) (Sum (l i) (r i)))
       ∙ ap (λ (f : Expression Known × Kind). expression_value (known_worth environment) f.0) (one_answer _ found w.2)
   expression_same (Difference left right) found e =
-      let v = bound_given (kind_in (values_in bound) kinds.Int left) _ found e in
-      let w = bound_given (kind_in (values_in bound) kinds.Int right) _ found v.2 in
+      let v = found_of (kind_in (values_in bound) kinds.Int left) _ found e in
+      let w = found_of (kind_in (values_in bound) kinds.Int right) _ found v.2 in
       let l = kind_value_same environment bound kinds.Int left v.0 v.1 in
       let r = kind_value_same environment bound kinds.Int right w.0 w.1 in
       (λ i. expression_value (λ (x : Value). x) (Difference (l i) (r i)))
@@ -90,11 +91,11 @@ module _ (creates : List Create) (tables : Tables) (fitting : AreWide creates ta
   unfolding insert_in
   insert_same insert form e =
       let name = insert.table.name in
-      let found = bound_given (table_in (schemas_of creates) insert.table) _ form e in
-      let there_it_is = there_given (catalogue.table_named (schemas_of creates) name) (NoTable insert.table.place)
+      let found = found_of (table_in (schemas_of creates) insert.table) _ form e in
+      let there_it_is = there_of (catalogue.table_named (schemas_of creates) name) (NoTable insert.table.place)
       found.0 found.1 in
       let kept = demand_given (length insert.values == length found.0.1.columns) (Arity insert.place) _ form found.2 in
-      let row = bound_given (row_from bound [] found.0.1.columns insert.values) _ form kept.1 in
+      let row = found_of (row_from bound [] found.0.1.columns insert.values) _ form kept.1 in
       let table = put_table creates tables name found.0 fitting there_it_is in
       ap (λ values. insertion (table_named name) values (database_of creates tables) environment)
       (sym (row_same environment bound found.0.1.columns insert.values [] row.0 (same_number _ _ kept.0) row.1))
@@ -112,11 +113,11 @@ module _ (creates : List Create) (tables : Tables) (fitting : AreWide creates ta
   unfolding delete_in
   delete_same delete form e =
       let name = delete.table.name in
-      let found = bound_given (table_in (schemas_of creates) delete.table) _ form e in
-      let there_it_is = there_given (catalogue.table_named (schemas_of creates) name) (NoTable delete.table.place)
+      let found = found_of (table_in (schemas_of creates) delete.table) _ form e in
+      let there_it_is = there_of (catalogue.table_named (schemas_of creates) name) (NoTable delete.table.place)
       found.0 found.1 in
       let scope = table_scope name found.0 in
-      let tests = bound_given (tests_in scope bound delete.tests) _ form found.2 in
+      let tests = found_of (tests_in scope bound delete.tests) _ form found.2 in
       let table = put_table creates tables name found.0 fitting there_it_is in
       let columns : table_columns creates name name ≡ map name_of scope.columns =
       ap (map (λ column. record { source = name; column = column })) table.here.columns
@@ -144,7 +145,7 @@ module _ (creates : List Create) (tables : Tables) (fitting : AreWide creates ta
       ≡ effect_of creates (meaning form)
   unfolding set_in
   set_same set form after e =
-      let found = bound_given (expression_in (values_in bound) set.expression) _ (form, after) e in
+      let found = found_of (expression_in (values_in bound) set.expression) _ (form, after) e in
       ap (λ value. setting set.variable.name value (database_of creates tables) environment)
       (expression_same environment bound set.expression found.0 found.1)
       ∙ setting_same set.variable.name (expression_value (known_worth environment) found.0.0)

@@ -31,11 +31,11 @@ use Rattle.ent_form.specs.Ordinary.{Image, own_from, assignment_in, assignments_
 use Rattle.ent_form.specs.Scope.{Visible, Scope, visible, referred_from, only_one, column_in, qualifier_in}
 use Rattle.ent_form.specs.Steps.{there}
 use Rattle.ent_semantics.specs.FormKinds.{operand_kind, expression_kind}
-use Rattle.ent_form.proofs.Heads.{unqualified}
+use Rattle.ent_form.proofs.Heads.{unqualified, found_of, there_of}
 use Rattle.ent_form.specs.declared.fault.FormFault.{FormFault}
 use Rattle.ent_form_laws.specs.Kinds.{HasKinds}
 use Rattle.ent_form_laws.proofs.Known.{value_kinded}
-use Rattle.ent_form_laws.proofs.Steps.{one_answer, bound_given, demand_given, there_given}
+use Rattle.ent_form_laws.proofs.Steps.{one_answer, demand_given}
 
 -- ---- columns
 
@@ -119,12 +119,12 @@ module _ (bound : Bound) (environment : Environment) (have : HasKinds bound envi
       → operand_in scope bound operand ≡ Ok found
       → operand_kind columns (operand_over worth found.0) ≡ Some found.1
   operand_kinded (operands.Value value) found e =
-      let w = bound_given (value_in bound value) _ found e in
+      let w = found_of (value_in bound value) _ found e in
       subst (λ (f : Operand Known × Kind). operand_kind columns (operand_over worth f.0) ≡ Some f.1)
       (one_answer (resolved.Known w.0.0, w.0.1) found w.2)
       (ap (λ (kind : Kind). Some kind) (value_kinded bound environment have value w.0 w.1))
   operand_kinded (operands.Column reference) found e =
-      let w = bound_given (column_in scope reference) _ found e in
+      let w = found_of (column_in scope reference) _ found e in
       subst (λ (f : Operand Known × Kind). operand_kind columns (operand_over worth f.0) ≡ Some f.1)
       (one_answer (resolved.Column w.0.0, w.0.1) found w.2) (column_kinded scope reference w.0 w.1)
 
@@ -136,17 +136,17 @@ module _ (bound : Bound) (environment : Environment) (have : HasKinds bound envi
       → expression_in (operands_in scope bound) expression ≡ Ok found
       → expression_kind_over columns found.0 ≡ Some found.1
   assigned_kinded (Single term) found e =
-      let w = bound_given (operand_in scope bound term) _ found e in
+      let w = found_of (operand_in scope bound term) _ found e in
       subst (λ (f : Expression (Operand Known) × Kind). expression_kind_over columns f.0 ≡ Some f.1)
       (one_answer (Single w.0.0, w.0.1) found w.2) (operand_kinded term w.0 w.1)
   assigned_kinded (Sum left right) found e =
-      let l = bound_given (kind_in (operands_in scope bound) kinds.Int left) _ found e in
-      let r = bound_given (kind_in (operands_in scope bound) kinds.Int right) _ found l.2 in
+      let l = found_of (kind_in (operands_in scope bound) kinds.Int left) _ found e in
+      let r = found_of (kind_in (operands_in scope bound) kinds.Int right) _ found l.2 in
       subst (λ (f : Expression (Operand Known) × Kind). expression_kind_over columns f.0 ≡ Some f.1)
       (one_answer (Sum l.0 r.0, kinds.Int) found r.2) refl
   assigned_kinded (Difference left right) found e =
-      let l = bound_given (kind_in (operands_in scope bound) kinds.Int left) _ found e in
-      let r = bound_given (kind_in (operands_in scope bound) kinds.Int right) _ found l.2 in
+      let l = found_of (kind_in (operands_in scope bound) kinds.Int left) _ found e in
+      let r = found_of (kind_in (operands_in scope bound) kinds.Int right) _ found l.2 in
       subst (λ (f : Expression (Operand Known) × Kind). expression_kind_over columns f.0 ≡ Some f.1)
       (one_answer (Difference l.0 r.0, kinds.Int) found r.2) refl
 
@@ -207,12 +207,12 @@ module _ (bound : Bound) (environment : Environment) (have : HasKinds bound envi
   unfolding assignment_in
   assignment_kept earlier image out assignment kept e =
       let name = assignment.column.name in
-      let w = bound_given (there (column_named columns name) (NoColumn assignment.column.place)) _ out e in
+      let w = found_of (there (column_named columns name) (NoColumn assignment.column.place)) _ out e in
       let column : ℕ × Kind = w.0 in
       let at = named_kind columns name 0 column
-      (there_given (column_named columns name) (NoColumn assignment.column.place) column w.1) in
+      (there_of (column_named columns name) (NoColumn assignment.column.place) column w.1) in
       let new = demand_given (not (is_among earlier name)) (Repeated assignment.column.place) _ out w.2 in
-      let right = bound_given (expression_in (operands_in scope bound) assignment.expression) _ out new.1 in
+      let right = found_of (expression_in (operands_in scope bound) assignment.expression) _ out new.1 in
       let found : Expression (Operand Known) × Kind = right.0 in
       let compared = demand_given (same_kind column.1 found.1)
       (WrongKind (expression_place operand_place assignment.expression)) _ out right.2 in
@@ -232,7 +232,7 @@ module _ (bound : Bound) (environment : Environment) (have : HasKinds bound envi
   assignments_kept [] earlier image out kept e =
       sym (ap (map (kind_of_image column_kinds)) (one_answer image out e)) ∙ kept
   assignments_kept (assignment ∷ more) earlier image out kept e =
-      let w = bound_given (assignment_in scope bound columns earlier image assignment) _ out e in
+      let w = found_of (assignment_in scope bound columns earlier image assignment) _ out e in
       assignments_kept more (earlier ++ assignment.column.name ∷ []) w.0 out
       (assignment_kept earlier image w.0 assignment kept w.1) w.2
 

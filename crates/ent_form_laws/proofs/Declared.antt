@@ -1,5 +1,5 @@
 -- Tables that are declared without a fault have columns of distinct names.
-use Rattle.std.proofs.Common.{◌≡◌, Bool, true, false, ◌||◌, List, [], ◌∷◌, ◌++◌, map, Some, None, refl, sym, ◌∙◌}
+use Rattle.std.proofs.Common.{◌≡◌, Bool, true, false, ◌||◌, List, [], ◌∷◌, ◌++◌, map, None, refl, sym, ◌∙◌}
 use Rattle.std.proofs.Common.{ap, subst}
 use Rattle.std.specs.List.{AllByRecursion, IsDistinct}
 use Rattle.std.proofs.lemmas.Bool.{or_parts}
@@ -9,17 +9,10 @@ use Rattle.ent_tree.specs.declared.operand.Identifier.{Identifier}
 use Rattle.ent_semantics.specs.Database.{Name, same_name, is_among}
 use Rattle.ent_form.specs.declared.fault.FormFault.{FormFault}
 use Rattle.ent_form.specs.declared.fault.FormFault.TheVariants.{Repeated}
-use Rattle.ent_form.specs.OpeningFault.{Check, ◌before◌, refused_where, repeated, declarations_fault}
+use Rattle.ent_form.specs.OpeningFault.{◌before◌, refused_where, repeated, declarations_fault}
 use Rattle.ent_form_laws.specs.Tables.{HaveDistinctColumns}
 use Rattle.ent_form_laws.proofs.Variables.{among_behind}
-
-first_none : (check later : Check) → (check before later) ≡ None → check ≡ None
-first_none None later e = refl
-first_none (Some fault) later e = cc
-
-later_none : (check later : Check) → (check before later) ≡ None → later ≡ None
-later_none None later e = e
-later_none (Some fault) later e = cc
+use Rattle.ent_form_laws.proofs.Steps.{nothing_first, nothing_later}
 
 not_refused : (test : Bool) (fault : FormFault) → refused_where test fault ≡ None → test ≡ false
 not_refused true fault e = cc
@@ -51,8 +44,8 @@ repeated_new earlier (identifier ∷ more) e =
     let rest = repeated (earlier ++ name ∷ []) more in
     let here = refused_where (is_among earlier name) (Repeated identifier.place) in
     let new : is_among earlier name ≡ false =
-    not_refused (is_among earlier name) (Repeated identifier.place) (first_none here rest e) in
-    let behind = repeated_new (earlier ++ name ∷ []) more (later_none here rest e) in
+    not_refused (is_among earlier name) (Repeated identifier.place) (nothing_first here rest e) in
+    let behind = repeated_new (earlier ++ name ∷ []) more (nothing_later here rest e) in
     let split = split_new earlier name (map (λ identifier. identifier.name) more) behind.0 in
     ((new, split.0), (split.1, behind.1))
 
@@ -71,8 +64,8 @@ columns_distinct earlier (create ∷ creates) e =
     let inside = repeated [] identifiers in
     let rest = declarations_fault (earlier ++ name ∷ []) creates in
     let here = refused_where (is_among earlier name) (Repeated create.name.place) in
-    let behind : (inside before rest) ≡ None = later_none here (inside before rest) e in (
+    let behind : (inside before rest) ≡ None = nothing_later here (inside before rest) e in (
       subst (λ (names : List Name). IsDistinct same_name names) (names_alike create.columns)
-          (repeated_new [] identifiers (first_none inside rest behind)).1,
-      columns_distinct (earlier ++ name ∷ []) creates (later_none inside rest behind),
+          (repeated_new [] identifiers (nothing_first inside rest behind)).1,
+      columns_distinct (earlier ++ name ∷ []) creates (nothing_later inside rest behind),
     )

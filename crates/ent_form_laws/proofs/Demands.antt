@@ -4,6 +4,7 @@ use Rattle.std.proofs.Common.{sym, ap}
 use Rattle.std.proofs.Common.{◌∙◌}
 use Rattle.std.specs.Prelude.{◌↔◌, is_some, if◌then◌else◌}
 use Rattle.std.specs.List.{AllByRecursion, flat_map, zip}
+use Rattle.ent_lists.proofs.Truth.{in_turn}
 use Rattle.ent_value.specs.declared.value.Kind.{Kind}
 use Rattle.ent_tree.specs.declared.entangled.Condition.{Condition}
 use Rattle.ent_tree.specs.declared.entangled.Condition.TheVariants as conditions
@@ -18,7 +19,7 @@ use Rattle.ent_form.specs.AllFaults.{select_faults}
 use Rattle.ent_form_laws.specs.Demanded.{sides_unless, condition_sides, kind_demanded, IsDemandedFirst}
 use Rattle.ent_form.specs.EntangledFaults.{select_kinds, demanding, demanding_all, demanding_unless, demanded_from}
 use Rattle.ent_form_laws.specs.EntangledStanding.{demanding_sides}
-use Rattle.ent_form_laws.proofs.Membership.{both, turned, CutWhere, cut_nil, cut_cons}
+use Rattle.ent_form_laws.proofs.Membership.{turned, CutWhere, cut_nil, cut_cons}
 
 -- ---- term by term
 
@@ -132,7 +133,7 @@ module _ (name : Name) where
       → (walk None sides ≡ Some kind) ↔ CutWhere (IsFirst kind) sides
   first_walked kind [] = (λ e. cc, λ h. absurd (cut_nil (IsFirst kind) h))
   first_walked kind (side ∷ more) =
-      both (by (of_side side) refl (first_walked kind more)) (turned (cut_cons (IsFirst kind) side more))
+      in_turn (by (of_side side) refl (first_walked kind more)) (turned (cut_cons (IsFirst kind) side more))
     where
       by : (found : Option Kind) → of_side side ≡ found → (walk None more ≡ Some kind) ↔ CutWhere (IsFirst kind) more
           → (walk found more ≡ Some kind)
@@ -150,6 +151,6 @@ demanded_first tables bound all name kind =
     let sides = flat_map (condition_sides tables bound) all in
     let same : demanded_from tables bound none_bound all name ≡ walk name None sides =
     ap (λ (demanded : Bound). demanded name) (from_sides tables bound all none_bound) ∙ walked name sides none_bound in
-    both (λ e. sym same ∙ e, λ e. same ∙ e)
-    (both (first_walked name kind sides)
+    in_turn (λ e. sym same ∙ e, λ e. same ∙ e)
+    (in_turn (first_walked name kind sides)
     (λ h. (h.0, h.1, h.2, h.3, h.4.0, h.4.1), λ h. (h.0, h.1, h.2, h.3, (h.4, h.5))))

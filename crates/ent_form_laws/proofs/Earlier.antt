@@ -5,6 +5,7 @@ use Rattle.std.proofs.Common.{subst, ◌∙◌}
 use Rattle.std.specs.Prelude.{◌↔◌, if◌then◌else◌}
 use Rattle.std.specs.List.{Contains, flat_map}
 use Rattle.std.proofs.lemmas.List.{append-nil, append_assoc}
+use Rattle.ent_lists.proofs.Truth.{in_turn}
 use Rattle.ent_tree.specs.declared.entangled.Condition.{Condition}
 use Rattle.ent_tree.specs.declared.entangled.Condition.TheVariants as conditions
 use Rattle.ent_tree.specs.declared.entangled.EntangledItem.{EntangledItem}
@@ -20,7 +21,7 @@ use Rattle.ent_form.specs.EntangledFaults.{taking}
 use Rattle.ent_form_laws.specs.EntangledStanding.{IsTermFault, IsTermsFault, item_variables, item_hosts, IsOtherFault}
 use Rattle.ent_form_laws.specs.EntangledStanding.{other_variables}
 use Rattle.ent_form_laws.proofs.StandsWhere.{among}
-use Rattle.ent_form_laws.proofs.Membership.{both, turned, alike, either, contains_cons, contains_append, cut_same}
+use Rattle.ent_form_laws.proofs.Membership.{turned, alike, either, contains_cons, contains_append, cut_same}
 use Rattle.ent_form_laws.proofs.Membership.{none_there}
 
 -- lists of the same names
@@ -32,8 +33,8 @@ same_by P e = (subst P e, subst P (sym e))
 
 behind_both : (earlier plain more : List Name) → Alike earlier plain → Alike (earlier ++ more) (plain ++ more)
 behind_both earlier plain more same name =
-    both (contains_append earlier more name)
-    (both (either (same name) alike) (turned (contains_append plain more name)))
+    in_turn (contains_append earlier more name)
+    (in_turn (either (same name) alike) (turned (contains_append plain more name)))
 
 -- a name more that is there already
 already : (names : List Name) (name other : Name) → is_among names name ≡ true
@@ -48,24 +49,24 @@ already names name other there (inr h) = one ((contains_cons name [] other).0 h)
 pub term_noted : (earlier plain : List Name) (term : Term) → Alike earlier plain
     → Alike (noted earlier term) (plain ++ term_variables term)
 term_noted earlier plain (terms.Value value) same name =
-    both (same name) (same_by (λ names. Contains names name) (sym (append-nil plain)))
+    in_turn (same name) (same_by (λ names. Contains names name) (sym (append-nil plain)))
 term_noted earlier plain (terms.Variable variable) same name =
-    both (by (is_among earlier variable.name) refl) (behind_both earlier plain (variable.name ∷ []) same name)
+    in_turn (by (is_among earlier variable.name) refl) (behind_both earlier plain (variable.name ∷ []) same name)
   where
     by : (b : Bool) → is_among earlier variable.name ≡ b
         → Contains (if b then earlier else (earlier ++ variable.name ∷ [])) name
         ↔ Contains (earlier ++ variable.name ∷ []) name
     by true there =
-        both (inl, already earlier variable.name name there)
+        in_turn (inl, already earlier variable.name name there)
         (turned (contains_append earlier (variable.name ∷ []) name))
     by false new = alike
 
 pub terms_noted : (all : List Term) (earlier plain : List Name) → Alike earlier plain
     → Alike (noted_terms earlier all) (plain ++ flat_map term_variables all)
 terms_noted [] earlier plain same name =
-    both (same name) (same_by (λ names. Contains names name) (sym (append-nil plain)))
+    in_turn (same name) (same_by (λ names. Contains names name) (sym (append-nil plain)))
 terms_noted (term ∷ more) earlier plain same name =
-    both (terms_noted more (noted earlier term) (plain ++ term_variables term) (term_noted earlier plain term same)
+    in_turn (terms_noted more (noted earlier term) (plain ++ term_variables term) (term_noted earlier plain term same)
     name)
     (same_by (λ names. Contains names name)
     (append_assoc plain (term_variables term) (flat_map term_variables more)))
@@ -73,9 +74,9 @@ terms_noted (term ∷ more) earlier plain same name =
 pub items_noted : (all : List EntangledItem) (earlier plain : List Name) → Alike earlier plain
     → Alike (noted_items earlier all) (plain ++ flat_map item_variables all)
 items_noted [] earlier plain same name =
-    both (same name) (same_by (λ names. Contains names name) (sym (append-nil plain)))
+    in_turn (same name) (same_by (λ names. Contains names name) (sym (append-nil plain)))
 items_noted (item ∷ more) earlier plain same name =
-    both (items_noted more (noted earlier item.term) (plain ++ item_variables item)
+    in_turn (items_noted more (noted earlier item.term) (plain ++ item_variables item)
     (term_noted earlier plain item.term same) name)
     (same_by (λ names. Contains names name)
     (append_assoc plain (item_variables item) (flat_map item_variables more)))
@@ -90,18 +91,18 @@ noted_others earlier (conditions.Test test ∷ more) = noted_others (noted (note
 pub others_noted : (all : List Condition) (earlier plain : List Name) → Alike earlier plain
     → Alike (noted_others earlier all) (plain ++ flat_map other_variables all)
 others_noted [] earlier plain same name =
-    both (same name) (same_by (λ names. Contains names name) (sym (append-nil plain)))
+    in_turn (same name) (same_by (λ names. Contains names name) (sym (append-nil plain)))
 others_noted (conditions.InSelect tuple select ∷ more) earlier plain same name =
     others_noted more earlier plain same name
 others_noted (conditions.InAnswer tuple relation ∷ more) earlier plain same name =
     let here = flat_map term_variables tuple.terms in
-    both (others_noted more (noted_terms earlier tuple.terms) (plain ++ here)
+    in_turn (others_noted more (noted_terms earlier tuple.terms) (plain ++ here)
     (terms_noted tuple.terms earlier plain same) name)
     (same_by (λ names. Contains names name) (append_assoc plain here (flat_map other_variables more)))
 others_noted (conditions.Test test ∷ more) earlier plain same name =
     let left = term_variables test.left in
     let right = term_variables test.right in
-    both (others_noted more (noted (noted earlier test.left) test.right) ((plain ++ left) ++ right)
+    in_turn (others_noted more (noted (noted earlier test.left) test.right) ((plain ++ left) ++ right)
     (term_noted (noted earlier test.left) (plain ++ left) test.right (term_noted earlier plain test.left same)) name)
     (same_by (λ names. Contains names name)
     (ap (λ names. names ++ flat_map other_variables more) (append_assoc plain left right)

@@ -41,12 +41,13 @@ use Rattle.ent_form.specs.Lookup.{values_in, expression_in}
 use Rattle.ent_form.specs.Ordinary.{tests_in, items_in, select_in, row_from, insert_in, delete_in, image_in}
 use Rattle.ent_form.specs.Ordinary.{update_in, set_in}
 use Rattle.ent_form.specs.Scope.{sources_in, no_source, table_in, table_scope}
+use Rattle.ent_form.proofs.Heads.{found_of}
 use Rattle.ent_semantics.specs.FormKinds.{KeepsKinds, Fits, tables_named}
 use Rattle.ent_form_laws.specs.Kinds.{column_kinds, kinds_numbered, AreDeclared, HasKinds}
 use Rattle.ent_form_laws.proofs.Columns.{kinds_seen, image_kinded}
 use Rattle.ent_form_laws.proofs.Found.{found_in, sources_seen}
 use Rattle.ent_form_laws.proofs.Known.{row_kinded}
-use Rattle.ent_form_laws.proofs.Steps.{one_answer, bound_given, demand_given}
+use Rattle.ent_form_laws.proofs.Steps.{one_answer, demand_given}
 
 -- ---- tables that are declared
 
@@ -58,9 +59,9 @@ module _ (schemas : List TableSchema) (bound : Bound) where
       → select_in schemas bound select ≡ Ok found → AreDeclared schemas found.0.sources
   unfolding select_in
   select_declared select found e =
-      let scope = bound_given (sources_in schemas select.sources) _ found e in
-      let tests = bound_given (tests_in scope.0 bound select.tests) _ found scope.2 in
-      let shown = bound_given (items_in scope.0 bound select.items) _ found tests.2 in
+      let scope = found_of (sources_in schemas select.sources) _ found e in
+      let tests = found_of (tests_in scope.0 bound select.tests) _ found scope.2 in
+      let shown = found_of (items_in scope.0 bound select.items) _ found tests.2 in
       let seen = sources_seen schemas select.sources no_source scope.0
       (record { declared = tt; kinds = refl }) scope.1 in
       subst (λ (f : Select Known × List Kind). AreDeclared schemas f.0.sources)
@@ -71,9 +72,9 @@ module _ (schemas : List TableSchema) (bound : Bound) where
       → names_declared form
   unfolding insert_in
   insert_declared insert form e =
-      let table = bound_given (table_in schemas insert.table) _ form e in
+      let table = found_of (table_in schemas insert.table) _ form e in
       let kept = demand_given (length insert.values == length table.0.1.columns) (Arity insert.place) _ form table.2 in
-      let row = bound_given (row_from bound [] table.0.1.columns insert.values) _ form kept.1 in
+      let row = found_of (row_from bound [] table.0.1.columns insert.values) _ form kept.1 in
       subst names_declared (one_answer (resolved.Insert table.0.0 row.0) form row.2)
       ((found_in schemas insert.table table.0 table.1).declared, tt)
 
@@ -81,8 +82,8 @@ module _ (schemas : List TableSchema) (bound : Bound) where
       → names_declared form
   unfolding delete_in
   delete_declared delete form e =
-      let table = bound_given (table_in schemas delete.table) _ form e in
-      let tests = bound_given (tests_in (table_scope delete.table.name table.0) bound delete.tests) _ form table.2 in
+      let table = found_of (table_in schemas delete.table) _ form e in
+      let tests = found_of (tests_in (table_scope delete.table.name table.0) bound delete.tests) _ form table.2 in
       subst names_declared (one_answer (resolved.Delete table.0.0 tests.0) form tests.2)
       ((found_in schemas delete.table table.0 table.1).declared, tt)
 
@@ -90,17 +91,17 @@ module _ (schemas : List TableSchema) (bound : Bound) where
       → names_declared form
   unfolding update_in
   update_declared update form e =
-      let table = bound_given (table_in schemas update.table) _ form e in
+      let table = found_of (table_in schemas update.table) _ form e in
       let scope = table_scope update.table.name table.0 in
-      let tests = bound_given (tests_in scope bound update.tests) _ form table.2 in
-      let image = bound_given (image_in scope bound table.0.1.columns update.assignments) _ form tests.2 in
+      let tests = found_of (tests_in scope bound update.tests) _ form table.2 in
+      let image = found_of (image_in scope bound table.0.1.columns update.assignments) _ form tests.2 in
       subst names_declared (one_answer (resolved.Update table.0.0 image.0 tests.0) form image.2)
       ((found_in schemas update.table table.0 table.1).declared, tt)
 
   set_declared : (set : Set) (found : Statement Known × Bound) → set_in bound set ≡ Ok found → names_declared found.0
   unfolding set_in
   set_declared set found e =
-      let value = bound_given (expression_in (values_in bound) set.expression) _ found e in
+      let value = found_of (expression_in (values_in bound) set.expression) _ found e in
       subst (λ (f : Statement Known × Bound). names_declared f.0) (one_answer _ found value.2) tt
 
   -- ---- those of sub-selects
@@ -118,9 +119,9 @@ module _ (schemas : List TableSchema) (bound : Bound) where
       → AreDeclared schemas found.0.select.sources
   unfolding membership_in
   membership_declared names demanded tuple select found e =
-      let inner = bound_given (select_in schemas bound select) _ found e in
+      let inner = found_of (select_in schemas bound select) _ found e in
       let kept = demand_given (length tuple.terms == length inner.0.1) (Arity tuple.place) _ found inner.2 in
-      let members = bound_given (members_from names bound [] demanded inner.0.1 tuple.terms) _ found kept.1 in
+      let members = found_of (members_from names bound [] demanded inner.0.1 tuple.terms) _ found kept.1 in
       subst (λ (f : Membership Known × Bound). AreDeclared schemas f.0.select.sources)
       (one_answer (record { terms = members.0.0; select = inner.0.0 }, members.0.1) found members.2)
       (select_declared select inner.0 inner.1)
@@ -133,7 +134,7 @@ module _ (schemas : List TableSchema) (bound : Bound) where
       subst (λ (f : List (Membership Known) × Bound). AreDeclared schemas (tables_of f.0))
       (one_answer (made, demanded) found e) h
   memberships_declared names (conditions.InSelect tuple select ∷ more) made demanded found h e =
-      let w = bound_given (membership_in schemas bound names demanded tuple select) _ found e in
+      let w = found_of (membership_in schemas bound names demanded tuple select) _ found e in
       memberships_declared names more (made ++ w.0.0 ∷ []) w.0.1 found
       (subst (AreDeclared schemas)
       (sym (flat_map-append (λ (membership : Membership Known). membership.select.sources) made (w.0.0 ∷ [])
@@ -150,10 +151,10 @@ module _ (schemas : List TableSchema) (bound : Bound) where
   unfolding entangled_in
   entangled_declared entangled found e =
       let names = variables_of entangled in
-      let body = bound_given (memberships_from schemas bound names [] none_bound entangled.conditions) _ found e in
-      let offer = bound_given (offer_from names body.0.1 bound no_offer entangled.items) _ found body.2 in
-      let heads = bound_given (heads_from offer.0.terms [] [] entangled.relations) _ found offer.2 in
-      let others = bound_given (others_from names body.0.1 bound [] [] entangled.conditions) _ found heads.2 in
+      let body = found_of (memberships_from schemas bound names [] none_bound entangled.conditions) _ found e in
+      let offer = found_of (offer_from names body.0.1 bound no_offer entangled.items) _ found body.2 in
+      let heads = found_of (heads_from offer.0.terms [] [] entangled.relations) _ found offer.2 in
+      let others = found_of (others_from names body.0.1 bound [] [] entangled.conditions) _ found heads.2 in
       subst (λ (f : Entangled Known × Bound). AreDeclared schemas (tables_of f.0.atoms)) (one_answer _ found others.2)
       (memberships_declared names entangled.conditions [] none_bound body.0 tt body.1)
 
@@ -161,23 +162,23 @@ module _ (schemas : List TableSchema) (bound : Bound) where
       → statement_in schemas bound statement ≡ Ok (form, after) → names_declared form
   unfolding statement_in
   statement_declared (statements.Select select) form after e =
-      let w = bound_given (select_in schemas bound select) _ (form, after) e in
+      let w = found_of (select_in schemas bound select) _ (form, after) e in
       subst (λ (f : Statement Known × Bound). names_declared f.0)
       (one_answer (resolved.Select w.0.0, bound) (form, after) w.2) (select_declared select w.0 w.1)
   statement_declared (statements.Entangled entangled) form after e =
-      let w = bound_given (entangled_in schemas bound entangled) _ (form, after) e in
+      let w = found_of (entangled_in schemas bound entangled) _ (form, after) e in
       subst (λ (f : Statement Known × Bound). names_declared f.0)
       (one_answer (resolved.Entangled w.0.0, w.0.1) (form, after) w.2) (entangled_declared entangled w.0 w.1)
   statement_declared (statements.Insert insert) form after e =
-      let w = bound_given (insert_in schemas bound insert) _ (form, after) e in
+      let w = found_of (insert_in schemas bound insert) _ (form, after) e in
       subst (λ (f : Statement Known × Bound). names_declared f.0) (one_answer (w.0, bound) (form, after) w.2)
       (insert_declared insert w.0 w.1)
   statement_declared (statements.Delete delete) form after e =
-      let w = bound_given (delete_in schemas bound delete) _ (form, after) e in
+      let w = found_of (delete_in schemas bound delete) _ (form, after) e in
       subst (λ (f : Statement Known × Bound). names_declared f.0) (one_answer (w.0, bound) (form, after) w.2)
       (delete_declared delete w.0 w.1)
   statement_declared (statements.Update update) form after e =
-      let w = bound_given (update_in schemas bound update) _ (form, after) e in
+      let w = found_of (update_in schemas bound update) _ (form, after) e in
       subst (λ (f : Statement Known × Bound). names_declared f.0) (one_answer (w.0, bound) (form, after) w.2)
       (update_declared update w.0 w.1)
   statement_declared (statements.Set set) form after e = set_declared set (form, after) e
@@ -210,10 +211,10 @@ module _ (schemas : List TableSchema) (bound : Bound) (environment : Environment
     insert_fits : (insert : Insert) (form : Statement Known) → insert_in schemas bound insert ≡ Ok form → fits form
     unfolding insert_in
     insert_fits insert form e =
-        let table = bound_given (table_in schemas insert.table) _ form e in
+        let table = found_of (table_in schemas insert.table) _ form e in
         let columns = table.0.1.columns in
         let kept = demand_given (length insert.values == length columns) (Arity insert.place) _ form table.2 in
-        let row = bound_given (row_from bound [] columns insert.values) _ form kept.1 in
+        let row = found_of (row_from bound [] columns insert.values) _ form kept.1 in
         let here = found_in schemas insert.table table.0 table.1 in
         let is : kinds_of (map (known_worth environment) row.0) ≡ column_kinds table.0.1 =
         map-map kind_of (known_worth environment) row.0
@@ -224,19 +225,19 @@ module _ (schemas : List TableSchema) (bound : Bound) (environment : Environment
     delete_fits : (delete : Delete) (form : Statement Known) → delete_in schemas bound delete ≡ Ok form → fits form
     unfolding delete_in
     delete_fits delete form e =
-        let table = bound_given (table_in schemas delete.table) _ form e in
-        let tests = bound_given (tests_in (table_scope delete.table.name table.0) bound delete.tests) _ form table.2 in
+        let table = found_of (table_in schemas delete.table) _ form e in
+        let tests = found_of (tests_in (table_scope delete.table.name table.0) bound delete.tests) _ form table.2 in
         subst fits (one_answer (resolved.Delete table.0.0 tests.0) form tests.2)
         (kinds_numbered schemas table.0.0, refl)
 
     update_fits : (update : Update) (form : Statement Known) → update_in schemas bound update ≡ Ok form → fits form
     unfolding update_in
     update_fits update form e =
-        let table = bound_given (table_in schemas update.table) _ form e in
+        let table = found_of (table_in schemas update.table) _ form e in
         let columns = table.0.1.columns in
         let scope = table_scope update.table.name table.0 in
-        let tests = bound_given (tests_in scope bound update.tests) _ form table.2 in
-        let image = bound_given (image_in scope bound columns update.assignments) _ form tests.2 in
+        let tests = found_of (tests_in scope bound update.tests) _ form table.2 in
+        let image = found_of (image_in scope bound columns update.assignments) _ form tests.2 in
         let here = found_in schemas update.table table.0 table.1 in
         let over : List _ = map (expression_over (operand_over (known_worth environment))) image.0 in
         subst fits (one_answer (resolved.Update table.0.0 image.0 tests.0) form image.2) (
@@ -250,27 +251,27 @@ module _ (schemas : List TableSchema) (bound : Bound) (environment : Environment
     set_fits : (set : Set) (found : Statement Known × Bound) → set_in bound set ≡ Ok found → fits found.0
     unfolding set_in
     set_fits set found e =
-        let value = bound_given (expression_in (values_in bound) set.expression) _ found e in
+        let value = found_of (expression_in (values_in bound) set.expression) _ found e in
         subst (λ (f : Statement Known × Bound). fits f.0) (one_answer _ found value.2) refl
 
     pub statement_fits : (statement : TreeStatement) (form : Statement Known) (after : Bound)
         → statement_in schemas bound statement ≡ Ok (form, after) → is_entangled statement ≡ false → fits form
     unfolding statement_in
     statement_fits (statements.Select select) form after e ordinary =
-        let w = bound_given (select_in schemas bound select) _ (form, after) e in
+        let w = found_of (select_in schemas bound select) _ (form, after) e in
         subst (λ (f : Statement Known × Bound). fits f.0) (one_answer (resolved.Select w.0.0, bound) (form, after) w.2)
         (length-map w.0.0.sources (kinds_numbered schemas))
     statement_fits (statements.Entangled entangled) form after e ordinary = cc
     statement_fits (statements.Insert insert) form after e ordinary =
-        let w = bound_given (insert_in schemas bound insert) _ (form, after) e in
+        let w = found_of (insert_in schemas bound insert) _ (form, after) e in
         subst (λ (f : Statement Known × Bound). fits f.0) (one_answer (w.0, bound) (form, after) w.2)
         (insert_fits insert w.0 w.1)
     statement_fits (statements.Delete delete) form after e ordinary =
-        let w = bound_given (delete_in schemas bound delete) _ (form, after) e in
+        let w = found_of (delete_in schemas bound delete) _ (form, after) e in
         subst (λ (f : Statement Known × Bound). fits f.0) (one_answer (w.0, bound) (form, after) w.2)
         (delete_fits delete w.0 w.1)
     statement_fits (statements.Update update) form after e ordinary =
-        let w = bound_given (update_in schemas bound update) _ (form, after) e in
+        let w = found_of (update_in schemas bound update) _ (form, after) e in
         subst (λ (f : Statement Known × Bound). fits f.0) (one_answer (w.0, bound) (form, after) w.2)
         (update_fits update w.0 w.1)
     statement_fits (statements.Set set) form after e ordinary = set_fits set (form, after) e

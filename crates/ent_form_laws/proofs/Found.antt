@@ -2,10 +2,11 @@
 use Rattle.std.proofs.Common.{◌≡◌, ℕ, zero, suc, ◌+◌, ◌<◌, true, false, List, [], ◌∷◌, ◌++◌, map, length, Some, Ok}
 use Rattle.std.proofs.Common.{sym, ap, subst, ◌∙◌, arith}
 use Rattle.std.specs.Prelude.{not, slice_index_or, slice_set, if◌then◌else◌}
-use Rattle.std.specs.List.{AllByRecursion, flat_map}
+use Rattle.std.specs.List.{flat_map}
 use Rattle.std.proofs.lemmas.Grind.{flat_map-append}
 use Rattle.std.proofs.lemmas.List.{append-nil, map-append}
 use Rattle.ent_lists.specs.Sets as set
+use Rattle.ent_lists.proofs.Lists.{all_behind}
 use Rattle.ent_tree.specs.declared.operand.Identifier.{Identifier}
 use Rattle.ent_tree.specs.declared.select.Source.{Source}
 use Rattle.ent_semantics.specs.Database.{Name, Rows, same_name, is_among}
@@ -17,9 +18,10 @@ use Rattle.ent_form.specs.declared.fault.FormFault.TheVariants.{NoTable, Ambiguo
 use Rattle.ent_form.specs.Catalogue.{table_from, table_named}
 use Rattle.ent_form.specs.Scope.{Scope, visible, with_source, source_place, sources_from, table_in}
 use Rattle.ent_form.specs.Steps.{there}
+use Rattle.ent_form.proofs.Heads.{found_of, there_of}
 use Rattle.ent_form_laws.specs.Kinds.{column_kinds, kinds_numbered, AreKinded, AreDeclared}
 use Rattle.ent_form_laws.proofs.Columns.{kind_seen, kinds_seen}
-use Rattle.ent_form_laws.proofs.Steps.{one_answer, bound_given, demand_given, there_given}
+use Rattle.ent_form_laws.proofs.Steps.{one_answer, demand_given}
 
 -- a table's number, and the kinds that stand there
 pub record Found (schemas : List TableSchema) (number : ℕ) (schema : TableSchema) : Type 0 where
@@ -63,7 +65,7 @@ pub found_in : (schemas : List TableSchema) (table : Identifier) (found : ℕ ×
     → table_in schemas table ≡ Ok found → Found schemas found.0 found.1
 found_in schemas table found e =
     found_named schemas table.name found
-    (there_given (table_named schemas table.name) (NoTable table.place) found e)
+    (there_of (table_named schemas table.name) (NoTable table.place) found e)
 
 -- ---- the rows of a number
 
@@ -96,11 +98,6 @@ sources_at schemas tables numbers =
       rows = slice_index_or tables number set.empty;
     }) numbers
 
-all_behind : {A : Type 0} (P : A → Type 0) (xs : List A) (x : A) → AllByRecursion P xs → P x
-    → AllByRecursion P (xs ++ x ∷ [])
-all_behind P [] x h k = (k, tt)
-all_behind P (y ∷ ys) x h k = (h.0, all_behind P ys x h.1 k)
-
 pub rows_kinded : (schemas : List TableSchema) (tables : Tables) (numbers : List ℕ) → AreKinded schemas tables
     → AreDeclared schemas numbers → SourcesHaveKinds (sources_at schemas tables numbers)
 rows_kinded schemas tables [] h k = tt
@@ -119,11 +116,11 @@ pub sources_seen : (schemas : List TableSchema) (sources : List Source) (scope o
 sources_seen schemas [] scope out seen e = subst (Seen schemas) (one_answer scope out e) seen
 sources_seen schemas (source ∷ more) scope out seen e =
     let name = source_name source in
-    let w = bound_given (there (table_named schemas source.table.name) (NoTable source.table.place)) _ out e in
+    let w = found_of (there (table_named schemas source.table.name) (NoTable source.table.place)) _ out e in
     let found : ℕ × TableSchema = w.0 in
     let kept = demand_given (not (is_among scope.names name)) (Ambiguous (source_place source)) _ out w.2 in
     let here = found_named schemas source.table.name found
-    (there_given (table_named schemas source.table.name) (NoTable source.table.place) found w.1) in
+    (there_of (table_named schemas source.table.name) (NoTable source.table.place) found w.1) in
     sources_seen schemas more (with_source scope name found) out
     (record {
       declared = all_behind (λ number. number < length schemas) scope.tables found.0 seen.declared here.declared;

@@ -56,13 +56,14 @@ use Rattle.ent_form.specs.Steps.{there}
 use Rattle.ent_semantics.specs.FormKinds.{operand_kind}
 use Rattle.ent_form.specs.Kinds.{Bound, none_bound, with_kind}
 use Rattle.ent_form.specs.Entangled.{variables_of, demanded_in, member_in}
+use Rattle.ent_form.proofs.Heads.{found_of, there_of}
 use Rattle.ent_form_laws.specs.Kinds.{kinds_numbered, AreKinded, HasKinds}
 use Rattle.ent_form_laws.proofs.Columns.{kind_seen, operand_kinded, kind_behind}
 use Rattle.ent_form_laws.proofs.Found.{sources_at, rows_kinded, sources_seen}
 use Rattle.ent_form_laws.proofs.Kept.{operand_value_kind}
 use Rattle.ent_form_laws.proofs.Noted.{OfVariable, OfVariables, OfItems, OfConditions, terms_weaker}
 use Rattle.ent_form_laws.proofs.Noted.{variables_all, variables_once}
-use Rattle.ent_form_laws.proofs.Steps.{one_answer, bound_given, demand_given, there_given}
+use Rattle.ent_form_laws.proofs.Steps.{one_answer, demand_given}
 
 -- ---- the kinds of a sub-select's rows
 
@@ -108,7 +109,7 @@ module _ (bound : Bound) (environment : Environment) (have : HasKinds bound envi
   listed_kinds [] shown out h e =
       subst (λ (s : Shown). map (kind_over columns) s.0 ≡ map Some s.1) (one_answer shown out e) h
   listed_kinds (item ∷ more) shown out h e =
-      let w = bound_given (operand_in scope bound item) _ out e in
+      let w = found_of (operand_in scope bound item) _ out e in
       listed_kinds more (with_item shown w.0) out
       (map-append (kind_over columns) shown.0 (w.0.0 ∷ [])
       ∙ (λ i. h i ++ operand_kinded bound environment have scope item w.0 w.1 i ∷ [])
@@ -135,9 +136,9 @@ select_kinds : ItemLaw → (schemas : List TableSchema) (bound : Bound) (environ
     → RowsHaveKinds found.1 (form_rows (known_worth environment) tables found.0)
 unfolding select_in
 select_kinds law schemas bound environment tables have kinded select found e =
-    let scope = bound_given (sources_in schemas select.sources) _ found e in
-    let tests = bound_given (tests_in scope.0 bound select.tests) _ found scope.2 in
-    let shown = bound_given (items_in scope.0 bound select.items) _ found tests.2 in
+    let scope = found_of (sources_in schemas select.sources) _ found e in
+    let tests = found_of (tests_in scope.0 bound select.tests) _ found scope.2 in
+    let shown = found_of (items_in scope.0 bound select.items) _ found tests.2 in
     let seen = sources_seen schemas select.sources no_source scope.0 (record { declared = tt; kinds = refl }) scope.1 in
     let value = operand_worth (known_worth environment) in
     let kinds : List Kind = map kind_seen scope.0.columns in
@@ -199,7 +200,7 @@ module _ (names : List Name) (bound : Bound) where
       → member_in names bound demanded kind term ≡ Ok found
       → Grows demanded found.1 × OfVariable (IsDemanded found.1) term
   member_grows demanded kind (terms.Value value) found e =
-      let w = bound_given (kind_in (values_in bound) kind value) _ found e in
+      let w = found_of (kind_in (values_in bound) kind value) _ found e in
       subst (λ (f : Term Known × Bound). Grows demanded f.1 × Unit {0})
       (one_answer (resolved.Known w.0, demanded) found w.2) ((λ name h. h), tt)
   member_grows demanded kind (terms.Variable variable) found e =
@@ -215,7 +216,7 @@ module _ (names : List Name) (bound : Bound) where
   members_grow [] (term ∷ more) made demanded found l e = absurd (omega arith)
   members_grow (kind ∷ kinds) [] made demanded found l e = absurd (omega arith)
   members_grow (kind ∷ kinds) (term ∷ more) made demanded found l e =
-      let w = bound_given (member_in names bound demanded kind term) _ found e in
+      let w = found_of (member_in names bound demanded kind term) _ found e in
       let here = member_grows demanded kind term w.0 w.1 in
       let rest = members_grow kinds more (made ++ w.0.0 ∷ []) w.0.1 found (omega arith) w.2 in (
         (λ name h. rest.0 name (here.0 name h)),
@@ -249,9 +250,9 @@ module _ (schemas : List TableSchema) (bound : Bound) (names : List Name) where
       → Grows demanded found.1 × OfVariables (IsDemanded found.1) tuple.terms
   unfolding membership_in
   membership_grows demanded tuple select found e =
-      let inner = bound_given (select_in schemas bound select) _ found e in
+      let inner = found_of (select_in schemas bound select) _ found e in
       let kept = demand_given (length tuple.terms == length inner.0.1) (Arity tuple.place) _ found inner.2 in
-      let members = bound_given (members_from names bound [] demanded inner.0.1 tuple.terms) _ found kept.1 in
+      let members = found_of (members_from names bound [] demanded inner.0.1 tuple.terms) _ found kept.1 in
       subst (λ (f : Membership Known × Bound). Grows demanded f.1 × OfVariables (IsDemanded f.1) tuple.terms)
       (one_answer (record { terms = members.0.0; select = inner.0.0 }, members.0.1) found members.2)
       (members_grow names bound inner.0.1 tuple.terms [] demanded members.0 (eqb-true _ _ kept.0) members.1)
@@ -264,7 +265,7 @@ module _ (schemas : List TableSchema) (bound : Bound) (names : List Name) where
       subst (λ (f : List (Membership Known) × Bound). Grows demanded f.1 × Unit {0})
       (one_answer (made, demanded) found e) ((λ name h. h), tt)
   memberships_grow (conditions.InSelect tuple select ∷ more) made demanded found e =
-      let w = bound_given (membership_in schemas bound names demanded tuple select) _ found e in
+      let w = found_of (membership_in schemas bound names demanded tuple select) _ found e in
       let here = membership_grows demanded tuple select w.0 w.1 in
       let rest = memberships_grow more (made ++ w.0.0 ∷ []) w.0.1 found w.2 in (
         (λ name h. rest.0 name (here.0 name h)),
@@ -282,23 +283,23 @@ module _ (names : List Name) (demanded bound : Bound) where
       → OfVariable (IsDemanded demanded) term
   term_demanded (terms.Value value) found e = tt
   term_demanded (terms.Variable variable) found e =
-      let w = bound_given (there (demanded variable.name) (Unbound variable.place)) _ found e in
-      (w.0, there_given (demanded variable.name) (Unbound variable.place) w.0 w.1)
+      let w = found_of (there (demanded variable.name) (Unbound variable.place)) _ found e in
+      (w.0, there_of (demanded variable.name) (Unbound variable.place) w.0 w.1)
 
   pub items_demanded : (all : List EntangledItem) (offer out : Offer)
       → offer_from names demanded bound offer all ≡ Ok out → OfItems (IsDemanded demanded) all
   unfolding item_in
   items_demanded [] offer out e = tt
   items_demanded (item ∷ more) offer out e =
-      let w = bound_given (item_in names demanded bound offer item) _ out e in
-      let t = bound_given (term_in names demanded bound item.term) _ w.0 w.1 in
+      let w = found_of (item_in names demanded bound offer item) _ out e in
+      let t = found_of (term_in names demanded bound item.term) _ w.0 w.1 in
       (term_demanded item.term t.0 t.1, items_demanded more w.0 out w.2)
 
   terms_demanded : (all : List TreeTerm) (made out : List (Term Known))
       → atom_from names demanded bound made all ≡ Ok out → OfVariables (IsDemanded demanded) all
   terms_demanded [] made out e = tt
   terms_demanded (term ∷ more) made out e =
-      let w = bound_given (term_in names demanded bound term) _ out e in
+      let w = found_of (term_in names demanded bound term) _ out e in
       (term_demanded term w.0 w.1, terms_demanded more (made ++ w.0.0 ∷ []) out w.2)
 
   pub others_demanded : (all : List Condition) (posts : List (Atom Known)) (tests : List (Test (Term Known)))
@@ -310,13 +311,13 @@ module _ (names : List Name) (demanded bound : Bound) where
   others_demanded (conditions.InSelect tuple select ∷ more) posts tests found e =
       (tt, others_demanded more posts tests found e)
   others_demanded (conditions.InAnswer tuple relation ∷ more) posts tests found e =
-      let w = bound_given (post_in names demanded bound tuple relation) _ found e in
-      let t = bound_given (atom_from names demanded bound [] tuple.terms) _ w.0 w.1 in
+      let w = found_of (post_in names demanded bound tuple relation) _ found e in
+      let t = found_of (atom_from names demanded bound [] tuple.terms) _ w.0 w.1 in
       (terms_demanded tuple.terms [] t.0 t.1, others_demanded more (posts ++ w.0 ∷ []) tests found w.2)
   others_demanded (conditions.Test test ∷ more) posts tests found e =
-      let w = bound_given (test_in (terms_in names demanded bound) test) _ found e in
-      let left = bound_given (term_in names demanded bound test.left) _ w.0 w.1 in
-      let right = bound_given (term_in names demanded bound test.right) _ w.0 left.2 in (
+      let w = found_of (test_in (terms_in names demanded bound) test) _ found e in
+      let left = found_of (term_in names demanded bound test.left) _ w.0 w.1 in
+      let right = found_of (term_in names demanded bound test.right) _ w.0 left.2 in (
         (term_demanded test.left left.0 left.1, (term_demanded test.right right.0 right.1, tt)),
         others_demanded more posts (tests ++ w.0 ∷ []) found w.2,
       )
@@ -364,7 +365,7 @@ module _ (law : ItemLaw) (schemas : List TableSchema) (bound : Bound) (environme
         → member_in names bound demanded kind term ≡ Ok found → kind_of (worth found.0) ≡ kind → IsMet demanded
         → IsMet found.1
     member_met demanded kind (terms.Value value) found e =
-        let w = bound_given (kind_in (values_in bound) kind value) _ found e in
+        let w = found_of (kind_in (values_in bound) kind value) _ found e in
         subst (λ (f : Term Known × Bound). kind_of (worth f.0) ≡ kind → IsMet demanded → IsMet f.1)
         (one_answer (resolved.Known w.0, demanded) found w.2) (λ is met. met)
     member_met demanded kind (terms.Variable variable) found e =
@@ -385,7 +386,7 @@ module _ (law : ItemLaw) (schemas : List TableSchema) (bound : Bound) (environme
     members_met [] (term ∷ more) made demanded found l e = absurd (omega arith)
     members_met (kind ∷ kinds) [] made demanded found l e = absurd (omega arith)
     members_met (kind ∷ kinds) (term ∷ more) made demanded found l e =
-        let w = bound_given (member_in names bound demanded kind term) _ found e in
+        let w = found_of (member_in names bound demanded kind term) _ found e in
         let rest = members_met kinds more (made ++ w.0.0 ∷ []) w.0.1 found (omega arith) w.2 in (
           w.0.0 ∷ rest.0,
           rest.1 ∙ append_assoc made (w.0.0 ∷ []) rest.0,
@@ -399,9 +400,9 @@ module _ (law : ItemLaw) (schemas : List TableSchema) (bound : Bound) (environme
         → membership_holds (known_worth environment) tables valuation found.0 ≡ true → IsMet demanded → IsMet found.1
     unfolding membership_in
     membership_met demanded tuple select found e =
-        let inner = bound_given (select_in schemas bound select) _ found e in
+        let inner = found_of (select_in schemas bound select) _ found e in
         let kept = demand_given (length tuple.terms == length inner.0.1) (Arity tuple.place) _ found inner.2 in
-        let members = bound_given (members_from names bound [] demanded inner.0.1 tuple.terms) _ found kept.1 in
+        let members = found_of (members_from names bound [] demanded inner.0.1 tuple.terms) _ found kept.1 in
         let met = members_met inner.0.1 tuple.terms [] demanded members.0 (eqb-true _ _ kept.0) members.1 in
         subst (λ (f : Membership Known × Bound). membership_holds (known_worth environment) tables valuation f.0 ≡ true
         → IsMet demanded → IsMet f.1)
@@ -425,7 +426,7 @@ module _ (law : ItemLaw) (schemas : List TableSchema) (bound : Bound) (environme
         subst (MembershipsMet demanded made) (one_answer (made, demanded) found e)
         ([], sym (append-nil made), (λ held met. met))
     memberships_met (conditions.InSelect tuple select ∷ more) made demanded found e =
-        let w = bound_given (membership_in schemas bound names demanded tuple select) _ found e in
+        let w = found_of (membership_in schemas bound names demanded tuple select) _ found e in
         let rest = memberships_met more (made ++ w.0.0 ∷ []) w.0.1 found w.2 in (
           w.0.0 ∷ rest.0,
           rest.1 ∙ append_assoc made (w.0.0 ∷ []) rest.0,
@@ -480,10 +481,10 @@ pub grounding_kinds : ItemLaw → (schemas : List TableSchema) (bound : Bound) (
 unfolding entangled_in
 grounding_kinds law schemas bound entangled found environment tables valuation e kinded have =
     let names = variables_of entangled in
-    let body = bound_given (memberships_from schemas bound names [] none_bound entangled.conditions) _ found e in
-    let offer = bound_given (offer_from names body.0.1 bound no_offer entangled.items) _ found body.2 in
-    let heads = bound_given (heads_from offer.0.terms [] [] entangled.relations) _ found offer.2 in
-    let others = bound_given (others_from names body.0.1 bound [] [] entangled.conditions) _ found heads.2 in
+    let body = found_of (memberships_from schemas bound names [] none_bound entangled.conditions) _ found e in
+    let offer = found_of (offer_from names body.0.1 bound no_offer entangled.items) _ found body.2 in
+    let heads = found_of (heads_from offer.0.terms [] [] entangled.relations) _ found offer.2 in
+    let others = found_of (others_from names body.0.1 bound [] [] entangled.conditions) _ found heads.2 in
     let demanded : Bound = body.0.1 in
     let grown = memberships_grow schemas bound names entangled.conditions [] none_bound body.0 body.1 in
     let all : AllByRecursion (IsDemanded demanded) names =

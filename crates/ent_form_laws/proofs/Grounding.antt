@@ -4,8 +4,10 @@ use Rattle.std.proofs.Common.{refl, sym, ap, ◌∙◌, arith}
 use Rattle.std.specs.Prelude.{◌==◌}
 use Rattle.std.specs.List.{list_all}
 use Rattle.std.proofs.lemmas.List.{append-nil}
+use Rattle.std.proofs.Math.Bool.{and_assoc, and-true}
 use Rattle.ent_lists.specs.Elements.{same_number}
 use Rattle.ent_lists.specs.Sets as set
+use Rattle.ent_lists.proofs.Lists.{list_all-behind}
 use Rattle.ent_value.specs.declared.value.Kind.{Kind}
 use Rattle.ent_value.specs.declared.value.Value.{Value}
 use Rattle.ent_value.specs.Kinds.{same_kind}
@@ -35,10 +37,11 @@ use Rattle.ent_form.specs.Entangled.{variables_of, entangled_in}
 use Rattle.ent_form.specs.Kinds.{Bound, none_bound, with_kind}
 use Rattle.ent_form.specs.Lookup.{values_in, kind_in}
 use Rattle.ent_form.specs.Ordinary.{select_in}
+use Rattle.ent_form.proofs.Heads.{found_of}
 use Rattle.ent_form_laws.specs.Tables.{database_of, AreWide}
-use Rattle.ent_form_laws.proofs.Heads.{tests_hold, others_same, all_behind, and_assoc, and_true, grown}
+use Rattle.ent_form_laws.proofs.Heads.{tests_hold, others_same, grown}
 use Rattle.ent_form_laws.proofs.Selecting.{select_same}
-use Rattle.ent_form_laws.proofs.Steps.{one_answer, bound_given, demand_given}
+use Rattle.ent_form_laws.proofs.Steps.{one_answer, demand_given}
 use Rattle.ent_form_laws.proofs.Terms.{worth, form_worth, variable_same, kind_value_same}
 use Rattle.ent_form_laws.proofs.Variables.{variables_written}
 use Rattle.ent_form_laws.proofs.Whole.{parts_of, kinds_counted}
@@ -66,7 +69,7 @@ module _ (environment : Environment) (names : List Name) (valuation : Valuation)
   member_same : (bound demanded : Bound) (kind : Kind) (term : TreeTerm) (out : Term Known × Bound)
       → member_in names bound demanded kind term ≡ Ok out → said term ≡ meant out.0
   member_same bound demanded kind (terms.Value value) out e =
-      let w = bound_given (kind_in (values_in bound) kind value) _ out e in
+      let w = found_of (kind_in (values_in bound) kind value) _ out e in
       kind_value_same environment bound kind value w.0 w.1
       ∙ ap (λ (o : Term Known × Bound). meant o.0) (one_answer _ out w.2)
   member_same bound demanded kind (terms.Variable variable) out e =
@@ -82,7 +85,7 @@ module _ (environment : Environment) (names : List Name) (valuation : Valuation)
   members_same bound [] (term ∷ more) made demanded out same e = absurd (omega arith)
   members_same bound (kind ∷ kinds) [] made demanded out same e = absurd (omega arith)
   members_same bound (kind ∷ kinds) (term ∷ more) made demanded out same e =
-      let w = bound_given (member_in names bound demanded kind term) _ out e in
+      let w = found_of (member_in names bound demanded kind term) _ out e in
       members_same bound kinds more (made ++ w.0.0 ∷ []) w.0.1 out (omega arith) w.2
       ∙ grown meant made w.0.0 (said term) (map said more) (sym (member_same bound demanded kind term w.0 w.1))
 
@@ -99,9 +102,9 @@ module _ (environment : Environment) (names : List Name) (valuation : Valuation)
         → in_rows tuple select ≡ holds_there out.0
     unfolding membership_in
     membership_same bound demanded tuple select out e =
-        let found = bound_given (select_in (schemas_of creates) bound select) _ out e in
+        let found = found_of (select_in (schemas_of creates) bound select) _ out e in
         let kept = demand_given (length tuple.terms == length found.0.1) (Arity tuple.place) _ out found.2 in
-        let members = bound_given (members_from names bound [] demanded found.0.1 tuple.terms) _ out kept.1 in
+        let members = found_of (members_from names bound [] demanded found.0.1 tuple.terms) _ out kept.1 in
         let long : length tuple.terms ≡ length found.0.1 = same_number _ _ kept.0 in
         let values : map meant members.0.0 ≡ map said tuple.terms = members_same bound found.0.1 tuple.terms []
         demanded members.0 long members.1 in
@@ -122,11 +125,11 @@ module _ (environment : Environment) (names : List Name) (valuation : Valuation)
         → list_all holds_there out.0 ≡ (list_all holds_there made && selects_hold all)
     memberships_same bound [] made demanded out e =
         ap (λ (o : List (Membership Known) × Bound). list_all holds_there o.0) (sym (one_answer (made, demanded) out e))
-        ∙ sym (and_true (list_all holds_there made))
+        ∙ sym (and-true (list_all holds_there made))
     memberships_same bound (conditions.InSelect tuple select ∷ more) made demanded out e =
-        let w = bound_given (membership_in (schemas_of creates) bound names demanded tuple select) _ out e in
+        let w = found_of (membership_in (schemas_of creates) bound names demanded tuple select) _ out e in
         memberships_same bound more (made ++ w.0.0 ∷ []) w.0.1 out w.2
-        ∙ ap (λ b. b && selects_hold more) (all_behind holds_there made w.0.0)
+        ∙ ap (λ b. b && selects_hold more) (list_all-behind holds_there made w.0.0)
         ∙ and_assoc (list_all holds_there made) (holds_there w.0.0) (selects_hold more)
         ∙ ap (λ b. list_all holds_there made && (b && selects_hold more))
         (sym (membership_same bound demanded tuple select w.0 w.1))

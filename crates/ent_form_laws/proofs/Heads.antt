@@ -1,8 +1,10 @@
 -- The heads, the postconditions and the bound values of a resolved statement.
-use Rattle.std.proofs.Common.{◌≡◌, Bool, true, false, not, ◌&&◌, List, [], ◌∷◌, ◌++◌, map, length, Option, Some, None}
+use Rattle.std.proofs.Common.{◌≡◌, Bool, true, not, ◌&&◌, List, [], ◌∷◌, ◌++◌, map, length, Option, Some, None}
 use Rattle.std.proofs.Common.{Ok, refl, sym, ap, ◌∙◌}
 use Rattle.std.specs.List.{flat_map, list_all}
 use Rattle.std.proofs.lemmas.List.{append-nil, append_assoc, map-append}
+use Rattle.std.proofs.Math.Bool.{and_assoc, and-true}
+use Rattle.ent_lists.proofs.Lists.{list_all-behind}
 use Rattle.ent_value.specs.declared.value.Kind.{Kind}
 use Rattle.ent_value.specs.declared.value.Value.{Value}
 use Rattle.ent_tree.specs.declared.entangled.Condition.{Condition}
@@ -26,7 +28,8 @@ use Rattle.ent_form.specs.Entangled.{term_in, terms_in, Offer, with_term, with_b
 use Rattle.ent_form.specs.Entangled.{heads_from, atom_from, post_in, others_from}
 use Rattle.ent_form.specs.Kinds.{Bound}
 use Rattle.ent_form.specs.Lookup.{test_in}
-use Rattle.ent_form_laws.proofs.Steps.{one_answer, bound_given, demand_given}
+use Rattle.ent_form.proofs.Heads.{found_of}
+use Rattle.ent_form_laws.proofs.Steps.{one_answer, demand_given}
 use Rattle.ent_form_laws.proofs.Terms.{worth, form_worth, term_same, test_same, atom_same}
 
 -- the host variable that is bound to a value, where one is
@@ -38,18 +41,6 @@ item_binds_are : (worth : TreeTerm → Value) (term : TreeTerm) (binds : Option 
     → item_binds worth (record { term = term; binds = binds }) ≡ binds_of binds (worth term)
 item_binds_are worth term None = refl
 item_binds_are worth term (Some variable) = refl
-
-pub and_assoc : (a b c : Bool) → ((a && b) && c) ≡ (a && (b && c))
-and_assoc true b c = refl
-and_assoc false b c = refl
-
-pub and_true : (a : Bool) → (a && true) ≡ a
-and_true true = refl
-and_true false = refl
-
-pub all_behind : {A : Type 0} (p : A → Bool) (xs : List A) (y : A) → list_all p (xs ++ y ∷ []) ≡ (list_all p xs && p y)
-all_behind p [] y = and_true (p y)
-all_behind p (x ∷ xs) y = ap (λ b. p x && b) (all_behind p xs y) ∙ sym (and_assoc (p x) (list_all p xs) (p y))
 
 -- one thing more behind those before, as it is seen
 pub grown : {A B : Type 0} (f : A → B) (made : List A) (x : A) (y : B) (more : List B) → f x ≡ y
@@ -106,8 +97,8 @@ module _ (environment : Environment) (names : List Name) (valuation : Valuation)
             ∙ sym (append-nil (map bound_value offer.binds)),
       )
   offer_same demanded bound (item ∷ more) offer out e =
-      let step = bound_given (item_in names demanded bound offer item) _ out e in
-      let w = bound_given (term_in names demanded bound item.term) _ step.0 step.1 in
+      let step = found_of (item_in names demanded bound offer item) _ out e in
+      let w = found_of (term_in names demanded bound item.term) _ step.0 step.1 in
       let same = term_same environment names valuation l demanded bound item.term w.0 w.1 in
       let one = bind_same offer item.binds w.0 step.0 w.2 in
       let rest = offer_same demanded bound more step.0 out step.2 in (
@@ -139,7 +130,7 @@ module _ (environment : Environment) (names : List Name) (valuation : Valuation)
       → fact post ≡ record { relation = relation.name; values = map said tuple.terms }
   unfolding post_in
   post_same demanded bound tuple relation post e =
-      let w = bound_given (atom_from names demanded bound [] tuple.terms) _ post e in
+      let w = found_of (atom_from names demanded bound [] tuple.terms) _ post e in
       ap fact (sym (one_answer _ post w.2))
       ∙ ap (λ (values : List Value). let f : Fact = record { relation = relation.name; values = values } in f)
       (atom_same environment names valuation l demanded bound tuple.terms [] w.0 w.1)
@@ -161,12 +152,12 @@ module _ (environment : Environment) (names : List Name) (valuation : Valuation)
         ap (λ (o : List (Atom Known) × List (Test (Term Known))). map fact o.0) (sym made)
             ∙ sym (append-nil (map fact posts)),
         ap (λ (o : List (Atom Known) × List (Test (Term Known))). list_all (holds meant) o.1) (sym made)
-            ∙ sym (and_true (list_all (holds meant) tests)),
+            ∙ sym (and-true (list_all (holds meant) tests)),
       )
   others_same demanded bound (conditions.InSelect tuple select ∷ more) posts tests out e =
       others_same demanded bound more posts tests out e
   others_same demanded bound (conditions.InAnswer tuple relation ∷ more) posts tests out e =
-      let w = bound_given (post_in names demanded bound tuple relation) _ out e in
+      let w = found_of (post_in names demanded bound tuple relation) _ out e in
       let rest = others_same demanded bound more (posts ++ w.0 ∷ []) tests out w.2 in (
         rest.0
             ∙ grown fact posts w.0 _ (flat_map (condition_posts said) more)
@@ -174,12 +165,12 @@ module _ (environment : Environment) (names : List Name) (valuation : Valuation)
         rest.1,
       )
   others_same demanded bound (conditions.Test test ∷ more) posts tests out e =
-      let w = bound_given (test_in (terms_in names demanded bound) test) _ out e in
+      let w = found_of (test_in (terms_in names demanded bound) test) _ out e in
       let same = test_same environment names valuation l demanded bound test w.0 w.1 in
       let rest = others_same demanded bound more posts (tests ++ w.0 ∷ []) out w.2 in (
         rest.0,
         rest.1
-            ∙ ap (λ b. b && tests_hold more) (all_behind (holds meant) tests w.0)
+            ∙ ap (λ b. b && tests_hold more) (list_all-behind (holds meant) tests w.0)
             ∙ and_assoc (list_all (holds meant) tests) (holds meant w.0) (tests_hold more)
             ∙ ap (λ b. list_all (holds meant) tests && (b && tests_hold more)) (sym same),
       )

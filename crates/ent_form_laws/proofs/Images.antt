@@ -27,8 +27,9 @@ use Rattle.ent_form.specs.Lookup.{operand_in, operands_in, operand_place, kind_i
 use Rattle.ent_form.specs.Ordinary.{Image, own_from, assignment_in, assignments_from, image_in}
 use Rattle.ent_form.specs.Scope.{Scope}
 use Rattle.ent_form.specs.Steps.{there}
+use Rattle.ent_form.proofs.Heads.{found_of, there_of}
 use Rattle.ent_form_laws.proofs.Selecting.{said, meant, operand_same}
-use Rattle.ent_form_laws.proofs.Steps.{one_answer, bound_given, demand_given, there_given}
+use Rattle.ent_form_laws.proofs.Steps.{one_answer, demand_given}
 use Rattle.ent_form_laws.proofs.Variables.{among_behind}
 
 abbrev pub names_of : List ColumnSchema → List Name
@@ -196,7 +197,7 @@ module _ (environment : Environment) (bound : Bound) (scope : Scope) (row : List
   kind_same : (kind : Kind) (term : TreeOperand) (form : Operand Known)
       → kind_in (operands_in scope bound) kind term ≡ Ok form → seen_as term ≡ known_as form
   kind_same kind term form e =
-      let w = bound_given (operand_in scope bound term) _ form e in
+      let w = found_of (operand_in scope bound term) _ form e in
       let kept = demand_given (same_kind kind w.0.1) (WrongKind (operand_place term)) (Ok w.0.0) form w.2 in
       operand_same environment bound scope row term w.0 w.1 ∙ ap known_as (one_answer w.0.0 form kept.1)
 
@@ -204,19 +205,19 @@ module _ (environment : Environment) (bound : Bound) (scope : Scope) (row : List
       → expression_in (operands_in scope bound) expression ≡ Ok found
       → expression_value seen_as expression ≡ expression_value known_as found.0
   expression_same (Single term) found e =
-      let w = bound_given (operand_in scope bound term) _ found e in
+      let w = found_of (operand_in scope bound term) _ found e in
       ap (λ (v : Value). Some v) (operand_same environment bound scope row term w.0 w.1)
       ∙ ap (λ (f : Expression (Operand Known) × Kind). expression_value known_as f.0) (one_answer _ found w.2)
   expression_same (Sum left right) found e =
-      let v = bound_given (kind_in (operands_in scope bound) kinds.Int left) _ found e in
-      let w = bound_given (kind_in (operands_in scope bound) kinds.Int right) _ found v.2 in
+      let v = found_of (kind_in (operands_in scope bound) kinds.Int left) _ found e in
+      let w = found_of (kind_in (operands_in scope bound) kinds.Int right) _ found v.2 in
       let l = kind_same kinds.Int left v.0 v.1 in
       let r = kind_same kinds.Int right w.0 w.1 in
       (λ i. expression_value (λ (x : Value). x) (Sum (l i) (r i)))
       ∙ ap (λ (f : Expression (Operand Known) × Kind). expression_value known_as f.0) (one_answer _ found w.2)
   expression_same (Difference left right) found e =
-      let v = bound_given (kind_in (operands_in scope bound) kinds.Int left) _ found e in
-      let w = bound_given (kind_in (operands_in scope bound) kinds.Int right) _ found v.2 in
+      let v = found_of (kind_in (operands_in scope bound) kinds.Int left) _ found e in
+      let w = found_of (kind_in (operands_in scope bound) kinds.Int right) _ found v.2 in
       let l = kind_same kinds.Int left v.0 v.1 in
       let r = kind_same kinds.Int right w.0 w.1 in
       (λ i. expression_value (λ (x : Value). x) (Difference (l i) (r i)))
@@ -237,10 +238,10 @@ module _ (environment : Environment) (bound : Bound) (scope : Scope) (row : List
   unfolding assignment_in
   assigned columns earlier before after assignment distinct e =
       let name = assignment.column.name in
-      let column = bound_given (there (column_named columns name) (NoColumn assignment.column.place)) _ after e in
-      let there_it_is = there_given (column_named columns name) (NoColumn assignment.column.place) column.0 column.1 in
+      let column = found_of (there (column_named columns name) (NoColumn assignment.column.place)) _ after e in
+      let there_it_is = there_of (column_named columns name) (NoColumn assignment.column.place) column.0 column.1 in
       let fresh = demand_given (not (is_among earlier name)) (Repeated assignment.column.place) _ after column.2 in
-      let made = bound_given (expression_in (operands_in scope bound) assignment.expression) _ after fresh.1 in
+      let made = found_of (expression_in (operands_in scope bound) assignment.expression) _ after fresh.1 in
       let kept = demand_given (same_kind column.0.1 made.0.1)
       (WrongKind (expression_place operand_place assignment.expression))
       (Ok (slice_set before column.0.0 made.0.0)) after made.2 in
@@ -264,7 +265,7 @@ module _ (environment : Environment) (bound : Bound) (scope : Scope) (row : List
       → AllByRecursion (λ assignment. is_among earlier assignment.column.name ≡ false) assignments
   all_new columns [] earlier before after distinct e = tt
   all_new columns (assignment ∷ more) earlier before after distinct e =
-      let w = bound_given (assignment_in scope bound columns earlier before assignment) _ after e in
+      let w = found_of (assignment_in scope bound columns earlier before assignment) _ after e in
       let rest = all_new columns more (earlier ++ assignment.column.name ∷ []) w.0 after distinct w.2 in (
         (assigned columns earlier before w.0 assignment distinct w.1).0,
         still_new earlier assignment.column.name more
@@ -299,7 +300,7 @@ module _ (environment : Environment) (bound : Bound) (scope : Scope) (row : List
       ap (map worth_of) (sym (one_answer before after e)) ∙ sym
       (none_picked given (names_of columns) (map worth_of before))
   all_assigned columns (assignment ∷ more) earlier before after distinct e =
-      let w = bound_given (assignment_in scope bound columns earlier before assignment) _ after e in
+      let w = found_of (assignment_in scope bound columns earlier before assignment) _ after e in
       let name = assignment.column.name in
       let later = all_new columns more (earlier ++ name ∷ []) w.0 after distinct w.2 in
       all_assigned columns more (earlier ++ name ∷ []) w.0 after distinct w.2

@@ -4,7 +4,7 @@ use Rattle.std.proofs.Common.{None, Result, Ok, Err, refl, sym, ap, subst, ◌�
 use Rattle.std.specs.Prelude.{◌+ℤ◌, ◌-ℤ◌, is_some, nat_le, slice_get, slice_index_or, slice_set, IfOk, if◌then◌else◌}
 use Rattle.std.specs.List.{AllByRecursion, list_all, filter_map, cons_option}
 use Rattle.std.specs.Option.{option_map, option_and_then}
-use Rattle.std.proofs.lemmas.Option.{get_or_from_slice_get, slice_get-map}
+use Rattle.std.proofs.lemmas.Option.{get_or_from_slice_get, slice_get-map, same_Some}
 use Rattle.ent_lists.specs.Sets as set
 use Rattle.ent_value.specs.Value.{kind_of, kinds_of}
 use Rattle.ent_value.specs.declared.limits.TheConstants.{MOST_ROWS}
@@ -37,7 +37,6 @@ use Rattle.ent_form.specs.declared.catalogue.TableSchema.{TableSchema}
 use Rattle.ent_semantics.specs.FormKinds.{operand_kind, expression_kind, KeepsKinds, Fits, tables_named}
 use Rattle.ent_form_laws.specs.Kinds.{kinds_numbered, AreDeclared, AreKinded}
 use Rattle.ent_form_laws.proofs.Found.{kinded_at, kinded_with}
-use Rattle.ent_form_laws.proofs.Known.{one_value}
 
 -- ---- images
 
@@ -66,7 +65,7 @@ module _ (worth : Known → Value) (kinds : List Kind) (row : List Value) (have 
       → expression_kind (operand_kind kinds) (expression_over (operand_over worth) expression) ≡ Some kind
       → expression_value (operand_worth worth row) expression ≡ Some value → kind_of value ≡ kind
   expression_value_kind (Single term) kind value e is =
-      sym (ap kind_of (one_value (operand_worth worth row term) value is)) ∙ operand_value_kind term kind e
+      sym (ap kind_of (same_Some (operand_worth worth row term) value is)) ∙ operand_value_kind term kind e
   expression_value_kind (Sum left right) kind value e is =
       number_kind (number_of (operand_worth worth row left) +ℤ number_of (operand_worth worth row right)) value is
       ∙ one_kind Int kind e

@@ -3,6 +3,7 @@ use Rattle.std.proofs.Common.{◌≡◌, List, [], ◌∷◌, ◌++◌, map, len
 use Rattle.std.proofs.Common.{subst, ◌∙◌, arith}
 use Rattle.std.specs.Prelude.{◌+ℤ◌, ◌-ℤ◌, unwrap_or}
 use Rattle.std.proofs.lemmas.List.{append-nil, append_assoc, map-append}
+use Rattle.std.proofs.lemmas.Option.{same_Some}
 use Rattle.ent_value.specs.Value.{kind_of}
 use Rattle.ent_value.specs.declared.value.Kind.{Kind}
 use Rattle.ent_value.specs.declared.value.Kind.TheVariants as kinds
@@ -26,13 +27,11 @@ use Rattle.ent_form.specs.Kinds.{Bound}
 use Rattle.ent_form.specs.Lookup.{Lookup, value_in, values_in, kind_in, expression_in}
 use Rattle.ent_form.specs.Ordinary.{row_from}
 use Rattle.ent_form.specs.Steps.{there}
+use Rattle.ent_form.proofs.Heads.{found_of, there_of}
 use Rattle.ent_form_laws.specs.Kinds.{HasKinds}
-use Rattle.ent_form_laws.proofs.Steps.{one_answer, bound_given, demand_given, there_given}
+use Rattle.ent_form_laws.proofs.Steps.{one_answer, demand_given}
 
 -- ---- sums and differences
-
-pub one_value : (x y : Value) → Some x ≡ Some y → x ≡ y
-one_value x y e = cc
 
 -- an expression over terms of the kinds that they were looked up in
 module _ {A B : Type 0} (lookup : Lookup A B) (worth : B → Value)
@@ -41,21 +40,21 @@ module _ {A B : Type 0} (lookup : Lookup A B) (worth : B → Value)
       → expression_in lookup expression ≡ Ok found → (value : Value)
       → expression_value worth found.0 ≡ Some value → kind_of value ≡ found.1
   expression_kinded (Single term) found e value is =
-      let w = bound_given (lookup.find term) _ found e in
+      let w = found_of (lookup.find term) _ found e in
       let same : (Single w.0.0, w.0.1) ≡ found = one_answer (Single w.0.0, w.0.1) found w.2 in
-      sym (ap kind_of (one_value (worth w.0.0) value
+      sym (ap kind_of (same_Some (worth w.0.0) value
       (ap (λ (f : Expression B × Kind). expression_value worth f.0) same ∙ is)))
       ∙ each term w.0 w.1 ∙ ap (λ (f : Expression B × Kind). f.1) same
   expression_kinded (Sum left right) found e value is =
-      let l = bound_given (kind_in lookup kinds.Int left) _ found e in
-      let r = bound_given (kind_in lookup kinds.Int right) _ found l.2 in
+      let l = found_of (kind_in lookup kinds.Int left) _ found e in
+      let r = found_of (kind_in lookup kinds.Int right) _ found l.2 in
       let same : (Sum l.0 r.0, kinds.Int) ≡ found = one_answer (Sum l.0 r.0, kinds.Int) found r.2 in
       number_kind (number_of (worth l.0) +ℤ number_of (worth r.0)) value
       (ap (λ (f : Expression B × Kind). expression_value worth f.0) same ∙ is)
       ∙ ap (λ (f : Expression B × Kind). f.1) same
   expression_kinded (Difference left right) found e value is =
-      let l = bound_given (kind_in lookup kinds.Int left) _ found e in
-      let r = bound_given (kind_in lookup kinds.Int right) _ found l.2 in
+      let l = found_of (kind_in lookup kinds.Int left) _ found e in
+      let r = found_of (kind_in lookup kinds.Int right) _ found l.2 in
       let same : (Difference l.0 r.0, kinds.Int) ≡ found = one_answer (Difference l.0 r.0, kinds.Int) found r.2 in
       number_kind (number_of (worth l.0) -ℤ number_of (worth r.0)) value
       (ap (λ (f : Expression B × Kind). expression_value worth f.0) same ∙ is)
@@ -73,8 +72,8 @@ module _ (bound : Bound) (environment : Environment) (have : HasKinds bound envi
       subst (λ (f : Known × Kind). kind_known f.0 ≡ f.1)
       (one_answer (known.Constant literal.value, kind_of literal.value) found e) refl
   value_kinded (specifications.HostVariable variable) found e =
-      let w = bound_given (there (bound variable.name) (NoHostVariable variable.place)) _ found e in
-      let value = have variable.name w.0 (there_given (bound variable.name) (NoHostVariable variable.place) w.0 w.1) in
+      let w = found_of (there (bound variable.name) (NoHostVariable variable.place)) _ found e in
+      let value = have variable.name w.0 (there_of (bound variable.name) (NoHostVariable variable.place) w.0 w.1) in
       subst (λ (f : Known × Kind). kind_known f.0 ≡ f.1)
       (one_answer (known.HostVariable variable.name, w.0) found w.2)
       (ap (λ (there : Option Value). kind_of (unwrap_or there no_value)) value.1 ∙ value.2)
@@ -82,7 +81,7 @@ module _ (bound : Bound) (environment : Environment) (have : HasKinds bound envi
   pub wanted_kinded : (kind : Kind) (value : ValueSpecification) (found : Known)
       → kind_in (values_in bound) kind value ≡ Ok found → kind_known found ≡ kind
   wanted_kinded kind value found e =
-      let w = bound_given (value_in bound value) _ found e in
+      let w = found_of (value_in bound value) _ found e in
       let kept = demand_given (same_kind kind w.0.1) (WrongKind (value_place value)) (Ok w.0.0) found w.2 in
       sym (ap kind_known (one_answer w.0.0 found kept.1)) ∙ value_kinded value w.0 w.1
       ∙ sym (equal_kinds kind w.0.1 kept.0)
@@ -94,7 +93,7 @@ module _ (bound : Bound) (environment : Environment) (have : HasKinds bound envi
       sym (ap (map kind_known) (one_answer made out e)) ∙ sym (append-nil (map kind_known made))
   row_kinded (column ∷ columns) [] made out l e = absurd (omega arith)
   row_kinded (column ∷ columns) (value ∷ values) made out l e =
-      let w = bound_given (kind_in (values_in bound) column.kind value) _ out e in
+      let w = found_of (kind_in (values_in bound) column.kind value) _ out e in
       row_kinded columns values (made ++ w.0 ∷ []) out (omega arith) w.2
       ∙ ap (λ xs. xs ++ map (λ (column : ColumnSchema). column.kind) columns) (map-append kind_known made (w.0 ∷ []))
       ∙ append_assoc (map kind_known made) (kind_known w.0 ∷ []) (map (λ (column : ColumnSchema). column.kind) columns)

@@ -11,10 +11,11 @@ use Rattle.ent_form.specs.declared.catalogue.TableSchema.{TableSchema}
 use Rattle.ent_form.specs.Entangled.{entangled_in}
 use Rattle.ent_form.specs.Form.{statement_in}
 use Rattle.ent_form.specs.Kinds.{Bound}
+use Rattle.ent_form.proofs.Heads.{found_of}
 use Rattle.ent_form_laws.specs.Kinds.{AreKinded, HasKinds}
 use Rattle.ent_form_laws.proofs.Fitted.{statement_fits}
 use Rattle.ent_form_laws.proofs.Kept.{FitsIfOrdinary, if_ordinary}
-use Rattle.ent_form_laws.proofs.Steps.{one_answer, bound_given}
+use Rattle.ent_form_laws.proofs.Steps.{one_answer}
 
 module _ (schemas : List TableSchema) (bound : Bound) (tables : Tables) (environment : Environment)
     (kinded : AreKinded schemas tables) (have : HasKinds bound environment) where
@@ -23,7 +24,7 @@ module _ (schemas : List TableSchema) (bound : Bound) (tables : Tables) (environ
       → FitsIfOrdinary schemas tables environment kinded form
   unfolding statement_in
   form_fits (statements.Entangled entangled) form after e =
-      let w = bound_given (entangled_in schemas bound entangled) _ (form, after) e in
+      let w = found_of (entangled_in schemas bound entangled) _ (form, after) e in
       subst (λ (f : Statement Known × Bound). FitsIfOrdinary schemas tables environment kinded f.0)
       (one_answer (forms.Entangled w.0.0, w.0.1) (form, after) w.2) tt
   form_fits (statements.Select select) form after e =

@@ -3,11 +3,9 @@ use Rattle.std.proofs.Common.{◌≡◌, ℕ, zero, suc, ◌<◌, List, [], ◌�
 use Rattle.std.proofs.Common.{arith}
 use Rattle.std.specs.Prelude.{◌↔◌, slice_index_or}
 use Rattle.std.specs.List.{Any, Contains, flat_map}
+use Rattle.ent_lists.proofs.Truth.{in_turn}
 
 -- ---- either, and both ways
-
-pub both : {A B C : Type 0} → A ↔ B → B ↔ C → A ↔ C
-both f g = (λ a. g.0 (f.0 a), λ c. f.1 (g.1 c))
 
 pub turned : {A B : Type 0} → A ↔ B → B ↔ A
 turned f = (f.1, f.0)
@@ -89,8 +87,9 @@ module _ {A : Type 0} where
   pub contains_append : (xs ys : List A) (x : A) → Contains (xs ++ ys) x ↔ (Contains xs x ⊎ Contains ys x)
   contains_append [] ys x = (inr, none_first)
   contains_append (y ∷ xs) ys x =
-      both (contains_cons y (xs ++ ys) x)
-      (both (either alike (contains_append xs ys x)) (both grouped (either (turned (contains_cons y xs x)) alike)))
+      in_turn (contains_cons y (xs ++ ys) x)
+      (in_turn (either alike (contains_append xs ys x))
+      (in_turn grouped (either (turned (contains_cons y xs x)) alike)))
 
   any_at : (P : A → Type 0) (y : A) (xs : List A) (k : ℕ) (x : A) → k < suc (length xs)
       → slice_index_or (y ∷ xs) k x ≡ x → P x → P y ⊎ Any P xs
@@ -109,7 +108,7 @@ module _ {A : Type 0} where
 
   pub any_two : (P : A → Type 0) (x y : A) → Any P (x ∷ y ∷ []) ↔ (P x ⊎ P y)
   any_two P x y =
-      both (any_cons P x (y ∷ [])) (either alike (both (any_cons P y []) (never (any_nil P), inl)))
+      in_turn (any_cons P x (y ∷ [])) (either alike (in_turn (any_cons P y []) (never (any_nil P), inl)))
 
   pub any_same : (P Q : A → Type 0) → ((x : A) → P x ↔ Q x) → (xs : List A) → Any P xs ↔ Any Q xs
   any_same P Q e xs = (λ h. (h.0, h.1, h.2, h.3, (e h.1).0 h.4), λ h. (h.0, h.1, h.2, h.3, (e h.1).1 h.4))
@@ -118,8 +117,8 @@ pub contains_flat_map : {A B : Type 0} (f : A → List B) (y : B) (xs : List A)
     → Contains (flat_map f xs) y ↔ Any (λ x. Contains (f x) y) xs
 contains_flat_map f y [] = (λ h. absurd (none_there h), λ h. absurd (any_nil (λ x. Contains (f x) y) h))
 contains_flat_map f y (x ∷ xs) =
-    both (contains_append (f x) (flat_map f xs) y)
-    (both (either alike (contains_flat_map f y xs)) (turned (any_cons (λ x. Contains (f x) y) x xs)))
+    in_turn (contains_append (f x) (flat_map f xs) y)
+    (in_turn (either alike (contains_flat_map f y xs)) (turned (any_cons (λ x. Contains (f x) y) x xs)))
 
 -- ---- lists that are cut before one of their items
 

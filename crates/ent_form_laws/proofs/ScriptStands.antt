@@ -4,6 +4,7 @@ use Rattle.std.proofs.Common.{inl}
 use Rattle.std.proofs.Common.{inr, refl}
 use Rattle.std.specs.Prelude.{◌↔◌, ◌==◌}
 use Rattle.std.specs.List.{Contains, flat_map, zip}
+use Rattle.ent_lists.proofs.Truth.{in_turn}
 use Rattle.ent_value.specs.declared.value.Kind.{Kind}
 use Rattle.ent_tree.specs.declared.entangled.Condition.{Condition}
 use Rattle.ent_tree.specs.declared.entangled.Condition.TheVariants as conditions
@@ -42,7 +43,7 @@ use Rattle.ent_form_laws.specs.ScriptStanding.{IsStatementFault, IsScriptFault}
 use Rattle.ent_form_laws.proofs.Earlier.{Alike, taking_all, noted_others, term_noted, terms_noted, items_noted}
 use Rattle.ent_form_laws.proofs.Earlier.{others_noted, all_taken, term_alike, other_alike, same_by}
 use Rattle.ent_form_laws.proofs.StandsWhere.{where_stands, kinds_stand, unless_stands, none_with, among, not_among}
-use Rattle.ent_form_laws.proofs.Membership.{both, turned, either, holding, none_there, contains_append, CutWhere}
+use Rattle.ent_form_laws.proofs.Membership.{turned, either, holding, none_there, contains_append, CutWhere}
 use Rattle.ent_form_laws.proofs.Membership.{cut_nil, cut_cons}
 use Rattle.ent_form_laws.proofs.Membership.{alike, cut_same}
 use Rattle.ent_form_laws.proofs.Stands.{number_stands, repetitions_stand, value_stands, select_stands, insert_stands}
@@ -55,7 +56,7 @@ module _ (bound : Bound) (fault : FormFault) where
       → Contains (member_faults bound demanded kind term) fault ↔ IsMemberFault bound demanded kind term fault
   member_stands demanded kind (terms.Value value) =
       let wrong = WrongKind (value_place value) in
-      both (contains_append (value_faults bound value) (kinds_faults kind (value_kind bound value) wrong) fault)
+      in_turn (contains_append (value_faults bound value) (kinds_faults kind (value_kind bound value) wrong) fault)
       (either (value_stands bound fault value) (kinds_stand kind (value_kind bound value) wrong fault))
   member_stands demanded kind (terms.Variable variable) =
       kinds_stand (demanded variable.name) kind (WrongKind variable.place) fault
@@ -71,9 +72,9 @@ module _ (bound : Bound) (fault : FormFault) where
   members_stand (kind ∷ kinds) [] demanded =
       (λ h. absurd (none_there h), λ h. absurd (cut_nil (IsMemberBehind demanded) h))
   members_stand (kind ∷ kinds) (term ∷ more) demanded =
-      both (contains_append (member_faults bound demanded kind term)
+      in_turn (contains_append (member_faults bound demanded kind term)
       (members_faults bound (demanding demanded kind term) kinds more) fault)
-      (both (either (member_stands demanded kind term) (members_stand kinds more (demanding demanded kind term)))
+      (in_turn (either (member_stands demanded kind term) (members_stand kinds more (demanding demanded kind term)))
       (turned (cut_cons (IsMemberBehind demanded) (kind, term) (zip kinds more))))
 
 membership_stands : (tables : List TableSchema) (bound : Bound) (fault : FormFault) (demanded : Bound) (tuple : Tuple)
@@ -83,11 +84,12 @@ membership_stands : (tables : List TableSchema) (bound : Bound) (fault : FormFau
 membership_stands tables bound fault demanded tuple select =
     let kinds = select_kinds tables bound select in
     let number = faults_where (not (length tuple.terms == length kinds)) (Arity tuple.place) in
-    both (unless_stands (select_faults tables bound select) (number ++ members_faults bound demanded kinds tuple.terms)
+    in_turn (unless_stands (select_faults tables bound select)
+    (number ++ members_faults bound demanded kinds tuple.terms)
     fault)
     (either (select_stands tables bound select fault)
     (none_with (select_stands tables bound select)
-    (both (contains_append number (members_faults bound demanded kinds tuple.terms) fault)
+    (in_turn (contains_append number (members_faults bound demanded kinds tuple.terms) fault)
     (either (number_stands (length tuple.terms) (length kinds) (Arity tuple.place) fault)
     (members_stand bound fault kinds tuple.terms demanded)))))
 
@@ -111,16 +113,16 @@ module _ (tables : List TableSchema) (bound : Bound) (fault : FormFault) where
   memberships_stand (conditions.InSelect tuple select ∷ more) demanded =
       let next = demanding_unless (select_faults tables bound select) demanded (select_kinds tables bound select)
       tuple.terms in
-      both (contains_append (membership_faults tables bound demanded tuple select)
+      in_turn (contains_append (membership_faults tables bound demanded tuple select)
       (memberships_faults tables bound next more) fault)
-      (both (either (membership_stands tables bound fault demanded tuple select) (memberships_stand more next))
+      (in_turn (either (membership_stands tables bound fault demanded tuple select) (memberships_stand more next))
       (turned (cut_cons (IsSubselectBehind demanded) (conditions.InSelect tuple select) more)))
   memberships_stand (conditions.InAnswer tuple relation ∷ more) demanded =
-      both (memberships_stand more demanded)
-      (both none_here (turned (cut_cons (IsSubselectBehind demanded) (conditions.InAnswer tuple relation) more)))
+      in_turn (memberships_stand more demanded)
+      (in_turn none_here (turned (cut_cons (IsSubselectBehind demanded) (conditions.InAnswer tuple relation) more)))
   memberships_stand (conditions.Test test ∷ more) demanded =
-      both (memberships_stand more demanded)
-      (both none_here (turned (cut_cons (IsSubselectBehind demanded) (conditions.Test test) more)))
+      in_turn (memberships_stand more demanded)
+      (in_turn none_here (turned (cut_cons (IsSubselectBehind demanded) (conditions.Test test) more)))
 
 -- ---- all other terms
 
@@ -138,8 +140,8 @@ module _ (body : List Name) (bound : Bound) (fault : FormFault) where
   term_stands earlier (terms.Variable variable) =
       let out = not (is_among body variable.name) in
       let new = not (is_among earlier variable.name) in
-      both (where_stands (out && new) (Unbound variable.place) fault)
-      (holding (both (and_is out new) (each (not_among body variable.name) (not_among earlier variable.name))))
+      in_turn (where_stands (out && new) (Unbound variable.place) fault)
+      (holding (in_turn (and_is out new) (each (not_among body variable.name) (not_among earlier variable.name))))
 
   abbrev IsTermBehind : List Name → List Term → Term → Type 0
   IsTermBehind earlier before term = IsTermFault body bound (noted_terms earlier before) term fault
@@ -148,16 +150,16 @@ module _ (body : List Name) (bound : Bound) (fault : FormFault) where
       → Contains (terms_faults body bound earlier all) fault ↔ CutWhere (IsTermBehind earlier) all
   terms_stand [] earlier = (λ h. absurd (none_there h), λ h. absurd (cut_nil (IsTermBehind earlier) h))
   terms_stand (term ∷ more) earlier =
-      both (contains_append (term_faults body bound earlier term) (terms_faults body bound (noted earlier term) more)
+      in_turn (contains_append (term_faults body bound earlier term) (terms_faults body bound (noted earlier term) more)
       fault)
-      (both (either (term_stands earlier term) (terms_stand more (noted earlier term)))
+      (in_turn (either (term_stands earlier term) (terms_stand more (noted earlier term)))
       (turned (cut_cons (IsTermBehind earlier) term more)))
 
   binds_stand : (taken : List Name) (binds : Option Identifier)
       → Contains (binds_faults taken binds) fault ↔ IsTaken taken binds fault
   binds_stand taken None = (λ h. none_there h, λ h. absurd h)
   binds_stand taken (Some variable) =
-      both (where_stands (is_among taken variable.name) (Repeated variable.place) fault)
+      in_turn (where_stands (is_among taken variable.name) (Repeated variable.place) fault)
       (holding (among taken variable.name))
 
   abbrev IsItemBehind : List Name → List Name → List EntangledItem → EntangledItem → Type 0
@@ -172,9 +174,9 @@ module _ (body : List Name) (bound : Bound) (fault : FormFault) where
       let here = term_faults body bound earlier item.term in
       let again = binds_faults taken item.binds in
       let later = offer_faults body bound (taking taken item.binds) (noted earlier item.term) more in
-      both (contains_append (here ++ again) later fault)
-      (both (either
-      (both (contains_append here again fault)
+      in_turn (contains_append (here ++ again) later fault)
+      (in_turn (either
+      (in_turn (contains_append here again fault)
       (either (term_stands earlier item.term) (binds_stand taken item.binds)))
       (offer_stands more (taking taken item.binds) (noted earlier item.term)))
       (turned (cut_cons (IsItemBehind taken earlier) item more)))
@@ -183,7 +185,7 @@ module _ (body : List Name) (bound : Bound) (fault : FormFault) where
   listed_stands : (all : List Term) (earlier : List Name)
       → Contains (terms_faults body bound earlier all) fault ↔ IsTermsFault body bound earlier all fault
   listed_stands all earlier =
-      both (terms_stand all earlier) (cut_same (IsTermBehind earlier)
+      in_turn (terms_stand all earlier) (cut_same (IsTermBehind earlier)
       (λ before term. IsTermFault body bound (earlier ++ flat_map term_variables before) term fault) (λ before term.
       term_alike body bound fault (noted_terms earlier before) (earlier ++ flat_map term_variables before) term
       (terms_noted before earlier earlier (λ name. alike))) all)
@@ -191,7 +193,7 @@ module _ (body : List Name) (bound : Bound) (fault : FormFault) where
   items_stand : (all : List EntangledItem)
       → Contains (offer_faults body bound [] [] all) fault ↔ IsItemsFault body bound all fault
   items_stand all =
-      both (offer_stands all [] []) (cut_same (IsItemBehind [] [])
+      in_turn (offer_stands all [] []) (cut_same (IsItemBehind [] [])
       (λ before item. IsTermFault body bound (flat_map item_variables before) item.term fault
       ⊎ IsTaken (flat_map item_hosts before) item.binds fault) (λ before item.
       either (term_alike body bound fault (noted_items [] before) (flat_map item_variables before) item.term
@@ -214,13 +216,13 @@ module _ (body : List Name) (bound : Bound) (fault : FormFault) where
         → Contains (others_faults body demanded bound earlier all) fault ↔ CutWhere (IsOtherBehind earlier) all
     others_stand [] earlier = (λ h. absurd (none_there h), λ h. absurd (cut_nil (IsOtherBehind earlier) h))
     others_stand (conditions.InSelect tuple select ∷ more) earlier =
-        both (others_stand more earlier)
-        (both nothing_else (turned (cut_cons (IsOtherBehind earlier) (conditions.InSelect tuple select) more)))
+        in_turn (others_stand more earlier)
+        (in_turn nothing_else (turned (cut_cons (IsOtherBehind earlier) (conditions.InSelect tuple select) more)))
     others_stand (conditions.InAnswer tuple relation ∷ more) earlier =
         let next = noted_terms earlier tuple.terms in
-        both (contains_append (terms_faults body bound earlier tuple.terms)
+        in_turn (contains_append (terms_faults body bound earlier tuple.terms)
         (others_faults body demanded bound next more) fault)
-        (both (either (listed_stands tuple.terms earlier) (others_stand more next))
+        (in_turn (either (listed_stands tuple.terms earlier) (others_stand more next))
         (turned (cut_cons (IsOtherBehind earlier) (conditions.InAnswer tuple relation) more)))
     others_stand (conditions.Test test ∷ more) earlier =
         let middle = noted earlier test.left in
@@ -229,12 +231,12 @@ module _ (body : List Name) (bound : Bound) (fault : FormFault) where
         let left = term_faults body bound earlier test.left in
         let right = term_faults body bound middle test.right in
         let compared = kinds_faults (term_kind demanded bound test.left) (term_kind demanded bound test.right) wrong in
-        both (contains_append (left ++ (right ++ compared)) (others_faults body demanded bound next more) fault)
-        (both (either
-        (both (contains_append left (right ++ compared) fault)
+        in_turn (contains_append (left ++ (right ++ compared)) (others_faults body demanded bound next more) fault)
+        (in_turn (either
+        (in_turn (contains_append left (right ++ compared) fault)
         (either (term_stands earlier test.left)
-        (both (contains_append right compared fault)
-        (either (both (term_stands middle test.right) (term_alike body bound fault middle
+        (in_turn (contains_append right compared fault)
+        (either (in_turn (term_stands middle test.right) (term_alike body bound fault middle
         (earlier ++ term_variables test.left) test.right (term_noted earlier earlier test.left (λ name. alike))))
         (kinds_stand (term_kind demanded bound test.left) (term_kind demanded bound test.right) wrong fault)))))
         (others_stand more next))
@@ -244,7 +246,7 @@ module _ (body : List Name) (bound : Bound) (fault : FormFault) where
         → Contains (others_faults body demanded bound earlier all) fault
         ↔ IsOthersFault body demanded bound plain all fault
     conditions_stand all earlier plain same =
-        both (others_stand all earlier) (cut_same (IsOtherBehind earlier)
+        in_turn (others_stand all earlier) (cut_same (IsOtherBehind earlier)
         (λ before condition. IsOtherFault body demanded bound (plain ++ flat_map other_variables before) condition
         fault) (λ before condition.
         other_alike body demanded bound fault (noted_others earlier before) (plain ++ flat_map other_variables before)
@@ -261,11 +263,11 @@ entangled_stands tables bound entangled fault =
     let offer = offer_faults body bound [] [] entangled.items in
     let again = repeated_names [] entangled.relations in
     let others = others_faults body demanded bound (noted_items [] entangled.items) entangled.conditions in
-    both (contains_append inner (offer ++ (again ++ others)) fault)
+    in_turn (contains_append inner (offer ++ (again ++ others)) fault)
     (either (memberships_stand tables bound fault entangled.conditions none_bound)
-    (both (contains_append offer (again ++ others) fault)
+    (in_turn (contains_append offer (again ++ others) fault)
     (either (items_stand body bound fault entangled.items)
-    (both (contains_append again others fault)
+    (in_turn (contains_append again others fault)
     (either (repetitions_stand entangled.relations fault)
     (conditions_stand body bound fault demanded entangled.conditions (noted_items [] entangled.items)
     (flat_map item_variables entangled.items) (items_noted entangled.items [] [] (λ name. alike))))))))
@@ -290,8 +292,8 @@ module _ (tables : List TableSchema) where
       (λ h. absurd (none_there h), λ h. absurd (cut_nil (IsStatementBehind fault bound) h))
   statements_stand fault (statement ∷ more) bound =
       let next = bound_after tables bound statement in
-      both (contains_append (statement_faults tables bound statement) (statements_faults tables next more) fault)
-      (both (either (statement_stands bound statement fault) (statements_stand fault more next))
+      in_turn (contains_append (statement_faults tables bound statement) (statements_faults tables next more) fault)
+      (in_turn (either (statement_stands bound statement fault) (statements_stand fault more next))
       (turned (cut_cons (IsStatementBehind fault bound) statement more)))
 
   pub script_stands : (script : Script) (fault : FormFault)

@@ -34,11 +34,11 @@ use Rattle.ent_form.specs.Ordinary.{items_in}
 use Rattle.ent_form.specs.Ordinary.{select_in}
 use Rattle.ent_form.specs.Scope.{Visible, Scope, no_source, sources_in, referred_from, only_one}
 use Rattle.ent_form.specs.Scope.{column_in}
-use Rattle.ent_form.proofs.Heads.{unqualified}
+use Rattle.ent_form.proofs.Heads.{unqualified, found_of}
 use Rattle.ent_form_laws.specs.Tables.{database_of, AreWide}
 use Rattle.ent_form_laws.proofs.Rows.{combinations_wide, selected_alike}
 use Rattle.ent_form_laws.proofs.Sources.{name_of, sources_seen}
-use Rattle.ent_form_laws.proofs.Steps.{one_answer, bound_given, demand_given}
+use Rattle.ent_form_laws.proofs.Steps.{one_answer, demand_given}
 use Rattle.ent_form_laws.proofs.Terms.{value_same}
 
 -- ---- a column by its number
@@ -123,11 +123,11 @@ module _ (environment : Environment) (bound : Bound) (scope : Scope) where
   pub operand_same : (row : List Value) (operand : TreeOperand) (found : Operand Known × Kind)
       → operand_in scope bound operand ≡ Ok found → said row operand ≡ meant row found.0
   operand_same row (operands.Value value) found e =
-      let w = bound_given (value_in bound value) _ found e in
+      let w = found_of (value_in bound value) _ found e in
       value_same environment bound value w.0 w.1
       ∙ ap (λ (found : Operand Known × Kind). meant row found.0) (one_answer _ found w.2)
   operand_same row (operands.Column reference) found e =
-      let w = bound_given (column_in scope reference) _ found e in
+      let w = found_of (column_in scope reference) _ found e in
       column_same scope row reference w.0 w.1
       ∙ ap (λ (found : Operand Known × Kind). meant row found.0) (one_answer _ found w.2)
 
@@ -135,8 +135,8 @@ module _ (environment : Environment) (bound : Bound) (scope : Scope) where
       → test_in (operands_in scope bound) test ≡ Ok form → holds (said row) test ≡ holds (meant row) form
   unfolding test_in
   test_same row test form e =
-      let left = bound_given (operand_in scope bound test.left) _ form e in
-      let right = bound_given (operand_in scope bound test.right) _ form left.2 in
+      let left = found_of (operand_in scope bound test.left) _ form e in
+      let right = found_of (operand_in scope bound test.right) _ form left.2 in
       let kept = demand_given (same_kind left.0.1 right.0.1) (WrongKind (operand_place test.right)) _ form right.2 in
       (λ i. compares test.comparison (value_cmp (operand_same row test.left left.0 left.1 i)
       (operand_same row test.right right.0 right.1 i)))
@@ -160,7 +160,7 @@ module _ (environment : Environment) (bound : Bound) (scope : Scope) where
   tests_same row [] made forms e =
       ap (λ xs. meets meant xs row) (sym (one_answer made forms e)) ∙ sym (and_true (meets meant made row))
   tests_same row (test ∷ more) made forms e =
-      let w = bound_given (test_in (operands_in scope bound) test) _ forms e in
+      let w = found_of (test_in (operands_in scope bound) test) _ forms e in
       tests_same row more (made ++ w.0 ∷ []) forms w.2
       ∙ ap (λ b. b && meets said more row) (all_behind (holds (meant row)) made w.0)
       ∙ and_assoc (meets meant made row) (holds (meant row) w.0) (meets said more row)
@@ -178,7 +178,7 @@ module _ (environment : Environment) (bound : Bound) (scope : Scope) where
       ap (λ (s : Shown). map (meant row) s.0) (sym (one_answer shown out e))
       ∙ sym (append-nil (map (meant row) shown.0))
   listed_same row (item ∷ more) shown out e =
-      let w = bound_given (operand_in scope bound item) _ out e in
+      let w = found_of (operand_in scope bound item) _ out e in
       listed_same row more (with_item shown w.0) out w.2
       ∙ ap (λ xs. xs ++ map (said row) more) (map-append (meant row) shown.0 (w.0.0 ∷ []))
       ∙ append_assoc (map (meant row) shown.0) (meant row w.0.0 ∷ []) (map (said row) more)
@@ -216,10 +216,10 @@ module _ (creates : List Create) (tables : Tables) (fitting : AreWide creates ta
       ≡ form_rows (known_worth environment) tables form
   unfolding select_in
   select_same bound select form kinds e =
-      let found = bound_given (sources_in (schemas_of creates) select.sources) _ (form, kinds) e in
+      let found = found_of (sources_in (schemas_of creates) select.sources) _ (form, kinds) e in
       let scope = found.0 in
-      let tests = bound_given (tests_in scope bound select.tests) _ (form, kinds) found.2 in
-      let shown = bound_given (items_in scope bound select.items) _ (form, kinds) tests.2 in
+      let tests = found_of (tests_in scope bound select.tests) _ (form, kinds) found.2 in
+      let shown = found_of (items_in scope bound select.items) _ (form, kinds) tests.2 in
       let seen = sources_seen creates tables fitting select.sources no_source scope found.1 in
       let made : record { sources = scope.tables; items = shown.0.0; tests = tests.0 } ≡ form =
       ap (λ (both : Select Known × List Kind). both.0) (one_answer _ (form, kinds) shown.2) in

@@ -16,8 +16,9 @@ use Rattle.ent_form.specs.declared.catalogue.TableSchema.{TableSchema}
 use Rattle.ent_form.specs.declared.fault.FormFault.TheVariants.{NoTable, Ambiguous}
 use Rattle.ent_form.specs.Catalogue.{column_schema, table_schema, schemas_of, table_from, table_named}
 use Rattle.ent_form.specs.Scope.{Visible, Scope, visible, with_source, source_place, sources_from}
-use Rattle.ent_form_laws.proofs.Steps.{one_answer, bound_given, demand_given, there_given}
+use Rattle.ent_form_laws.proofs.Steps.{one_answer, demand_given}
 use Rattle.ent_form.specs.Steps.{there}
+use Rattle.ent_form.proofs.Heads.{found_of, there_of}
 use Rattle.ent_form_laws.specs.Tables.{database_of, AreWide}
 
 -- the rows of a number
@@ -139,12 +140,12 @@ module _ (creates : List Create) (tables : Tables) (fitting : AreWide creates ta
       }
   sources_seen (source ∷ more) scope out e =
       let name = source_name source in
-      let w = bound_given (there (table_named (schemas_of creates) source.table.name) (NoTable source.table.place)) _
+      let w = found_of (there (table_named (schemas_of creates) source.table.name) (NoTable source.table.place)) _
       out e in
       let found : ℕ × TableSchema = w.0 in
       let kept = demand_given (not (is_among scope.names name)) (Ambiguous (source_place source)) _ out w.2 in
       let here = told creates tables source.table.name 0 found fitting
-      (there_given (table_named (schemas_of creates) source.table.name) (NoTable source.table.place) found w.1) in
+      (there_of (table_named (schemas_of creates) source.table.name) (NoTable source.table.place) found w.1) in
       let rest = sources_seen more (with_source scope name found) out kept.1 in
       let seen : List Visible = map (visible name) found.1.columns in
       let number : found.0 ≡ here.number = let c = here.counted in omega arith in

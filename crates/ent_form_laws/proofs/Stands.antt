@@ -4,6 +4,7 @@ use Rattle.std.proofs.Common.{inl, inr, refl, sym, subst, arith}
 use Rattle.std.specs.Prelude.{◌↔◌, ◌==◌, is_none}
 use Rattle.std.specs.List.{Any, Contains, flat_map, zip}
 use Rattle.std.proofs.lemmas.List.{append-nil, append_assoc}
+use Rattle.ent_lists.proofs.Truth.{in_turn}
 use Rattle.ent_value.specs.Value.{kind_of}
 use Rattle.ent_value.specs.declared.value.Kind.{Kind}
 use Rattle.ent_value.specs.declared.value.Kind.TheVariants as kinds
@@ -61,7 +62,7 @@ use Rattle.ent_form_laws.proofs.StandsWhere.{there_with}
 use Rattle.ent_form_laws.proofs.StandsWhere.{none_is}
 use Rattle.ent_form_laws.proofs.StandsWhere.{unless_stands, none_with, among, not_among, no_table, no_column}
 use Rattle.ent_form_laws.proofs.StandsWhere.{table_stands}
-use Rattle.ent_form_laws.proofs.Membership.{both, turned, alike, either, holding, grouped, crossed, none_there, here}
+use Rattle.ent_form_laws.proofs.Membership.{turned, alike, either, holding, grouped, crossed, none_there, here}
 use Rattle.ent_form_laws.proofs.Membership.{contains_cons, contains_append, any_nil, any_cons, any_two, any_same}
 use Rattle.ent_form_laws.proofs.Membership.{contains_flat_map, CutWhere, cut_nil, cut_cons, cut_same}
 
@@ -74,7 +75,7 @@ behind name earlier x before = append_assoc earlier (name x ∷ []) (map name be
 
 pub number_stands : (m n : ℕ) (one fault : FormFault)
     → Contains (faults_where (not (m == n)) one) fault ↔ ((¬ (m ≡ n)) × (fault ≡ one))
-number_stands m n one fault = both (where_stands (not (m == n)) one fault) (holding (numbers_differ m n))
+number_stands m n one fault = in_turn (where_stands (not (m == n)) one fault) (holding (numbers_differ m n))
 
 -- ---- declarations
 
@@ -89,11 +90,11 @@ repeated_stand earlier [] fault = (λ h. absurd (none_there h), λ h. absurd (cu
 repeated_stand earlier (identifier ∷ more) fault =
     let again = is_among earlier identifier.name in
     let next = earlier ++ identifier.name ∷ [] in
-    both (contains_append (faults_where again (Repeated identifier.place)) (repeated_names next more) fault)
-    (both (either
-    (both (where_stands again (Repeated identifier.place) fault) (holding (both (among earlier identifier.name)
+    in_turn (contains_append (faults_where again (Repeated identifier.place)) (repeated_names next more) fault)
+    (in_turn (either
+    (in_turn (where_stands again (Repeated identifier.place) fault) (holding (in_turn (among earlier identifier.name)
     (same_by (λ names. Contains names identifier.name) (sym (append-nil earlier))))))
-    (both (repeated_stand next more fault)
+    (in_turn (repeated_stand next more fault)
     (cut_same (IsSecond next fault) (λ before. IsSecond earlier fault (identifier ∷ before))
     (λ before second. holding (same_by (λ names. Contains names second.name)
     (behind (λ first. first.name) earlier identifier before))) more)))
@@ -102,7 +103,7 @@ repeated_stand earlier (identifier ∷ more) fault =
 pub repetitions_stand : (identifiers : List Identifier) (fault : FormFault)
     → Contains (repeated_names [] identifiers) fault ↔ IsRepetition identifiers fault
 repetitions_stand identifiers fault =
-    both (repeated_stand [] identifiers fault)
+    in_turn (repeated_stand [] identifiers fault)
     (λ h. (h.0, h.1, h.2, h.3, h.4.0, h.4.1), λ h. (h.0, h.1, h.2, h.3, (h.4, h.5)))
 
 -- a column is declared twice in its table
@@ -121,17 +122,17 @@ apart earlier (create ∷ more) fault =
     let again = faults_where (is_among earlier create.name.name) (Repeated create.name.place) in
     let next = earlier ++ create.name.name ∷ [] in
     let inside = repeated_names [] (map (λ column. column.name) create.columns) in
-    both (contains_append again (inside ++ declarations_faults next more) fault)
-    (both (either alike (both (contains_append inside (declarations_faults next more) fault)
+    in_turn (contains_append again (inside ++ declarations_faults next more) fault)
+    (in_turn (either alike (in_turn (contains_append inside (declarations_faults next more) fault)
     (either alike (apart next more fault))))
-    (both crossed
+    (in_turn crossed
     (either (turned (contains_append again (repeated_names next (map (λ create. create.name) more)) fault))
     (turned (any_cons (Inside fault) create more)))))
 
 declarations_stand : (creates : List Create) (fault : FormFault)
     → Contains (declarations_faults [] creates) fault ↔ IsDeclarationFault creates fault
 declarations_stand creates fault =
-    both (apart [] creates fault)
+    in_turn (apart [] creates fault)
     (either (repetitions_stand (map (λ create. create.name) creates) fault)
     (any_same (Inside fault) (λ create. IsRepetition (map (λ column. column.name) create.columns) fault)
     (λ create. repetitions_stand (map (λ column. column.name) create.columns) fault) creates))
@@ -148,15 +149,15 @@ literals_stand [] literals fault = (λ h. absurd (none_there h), λ h. absurd (a
 literals_stand (column ∷ columns) [] fault = (λ h. absurd (none_there h), λ h. absurd (any_nil (IsOther fault) h))
 literals_stand (column ∷ columns) (literal ∷ literals) fault =
     let differ = not (same_kind column.kind (kind_of literal.value)) in
-    both (contains_append (faults_where differ (WrongKind literal.place)) (literals_faults columns literals) fault)
-    (both (either (both (where_stands differ (WrongKind literal.place) fault)
+    in_turn (contains_append (faults_where differ (WrongKind literal.place)) (literals_faults columns literals) fault)
+    (in_turn (either (in_turn (where_stands differ (WrongKind literal.place) fault)
     (holding (kinds_differ column.kind (kind_of literal.value)))) (literals_stand columns literals fault))
     (turned (any_cons (IsOther fault) (column, literal) (zip columns literals))))
 
 row_stands : (row : OpeningRow) (fault : FormFault) (table : TableSchema)
     → Contains (row_faults table row) fault ↔ IsRowFault table row fault
 row_stands row fault table =
-    both (contains_append (faults_where (not (length row.values == length table.columns)) (Arity row.place))
+    in_turn (contains_append (faults_where (not (length row.values == length table.columns)) (Arity row.place))
     (literals_faults table.columns row.values) fault)
     (either (number_stands (length row.values) (length table.columns) (Arity row.place) fault)
     (literals_stand table.columns row.values fault))
@@ -171,10 +172,11 @@ pub opening_stands : (opening : Opening) (fault : FormFault)
     → Contains (opening_faults opening) fault ↔ IsOpeningFault opening fault
 opening_stands opening fault =
     let schemas = schemas_of opening.tables in
-    both (contains_append (declarations_faults [] opening.tables) (flat_map (opening_row_faults schemas) opening.rows)
+    in_turn (contains_append (declarations_faults [] opening.tables)
+    (flat_map (opening_row_faults schemas) opening.rows)
     fault)
     (either (declarations_stand opening.tables fault)
-    (both (contains_flat_map (opening_row_faults schemas) fault opening.rows)
+    (in_turn (contains_flat_map (opening_row_faults schemas) fault opening.rows)
     (any_same (λ row. Contains (opening_row_faults schemas row) fault) (λ row. IsOpeningRowFault schemas row fault)
     (opening_row_stands schemas fault) opening.rows)))
 
@@ -186,23 +188,23 @@ module _ {A : Type 0} (terms : Terms A) (IsTermFault : A → FormFault → Type 
       → Contains (wanted_faults terms wanted term) fault ↔ IsUnwanted terms IsTermFault wanted term fault
   wanted_stands wanted term =
       let wrong = WrongKind (terms.place term) in
-      both (contains_append (terms.faults term) (kinds_faults (Some wanted) (terms.kind term) wrong) fault)
+      in_turn (contains_append (terms.faults term) (kinds_faults (Some wanted) (terms.kind term) wrong) fault)
       (either (stands term) (kinds_stand (Some wanted) (terms.kind term) wrong fault))
 
   pub test_stands : (test : Test A) → Contains (test_faults terms test) fault ↔ IsTestFault terms IsTermFault test fault
   test_stands test =
       let wrong = WrongKind (terms.place test.right) in
       let compared = kinds_faults (terms.kind test.left) (terms.kind test.right) wrong in
-      both (contains_append (terms.faults test.left) (terms.faults test.right ++ compared) fault)
+      in_turn (contains_append (terms.faults test.left) (terms.faults test.right ++ compared) fault)
       (either (stands test.left)
-      (both (contains_append (terms.faults test.right) compared fault)
+      (in_turn (contains_append (terms.faults test.right) compared fault)
       (either (stands test.right) (kinds_stand (terms.kind test.left) (terms.kind test.right) wrong fault))))
 
   pub tests_stand : (tests : List (Test A))
       → Contains (flat_map (test_faults terms) tests) fault
       ↔ Any (λ test. IsTestFault terms IsTermFault test fault) tests
   tests_stand tests =
-      both (contains_flat_map (test_faults terms) fault tests)
+      in_turn (contains_flat_map (test_faults terms) fault tests)
       (any_same (λ test. Contains (test_faults terms test) fault) (λ test. IsTestFault terms IsTermFault test fault)
       test_stands tests)
 
@@ -210,8 +212,8 @@ module _ {A : Type 0} (terms : Terms A) (IsTermFault : A → FormFault → Type 
       → Contains (wanted_faults terms kinds.Int left ++ wanted_faults terms kinds.Int right) fault
       ↔ Any (λ term. IsUnwanted terms IsTermFault kinds.Int term fault) (left ∷ right ∷ [])
   numbers_stand left right =
-      both (contains_append (wanted_faults terms kinds.Int left) (wanted_faults terms kinds.Int right) fault)
-      (both (either (wanted_stands kinds.Int left) (wanted_stands kinds.Int right))
+      in_turn (contains_append (wanted_faults terms kinds.Int left) (wanted_faults terms kinds.Int right) fault)
+      (in_turn (either (wanted_stands kinds.Int left) (wanted_stands kinds.Int right))
       (turned (any_two (λ term. IsUnwanted terms IsTermFault kinds.Int term fault) left right)))
 
   pub expression_stands : (expression : Expression A)
@@ -224,7 +226,7 @@ pub value_stands : (bound : Bound) (fault : FormFault) (value : ValueSpecificati
     → Contains (value_faults bound value) fault ↔ IsValueFault bound value fault
 value_stands bound fault (specifications.Literal literal) = (λ h. none_there h, λ h. absurd h)
 value_stands bound fault (specifications.HostVariable variable) =
-    both (where_stands (is_none (bound variable.name)) (NoHostVariable variable.place) fault)
+    in_turn (where_stands (is_none (bound variable.name)) (NoHostVariable variable.place) fault)
     (holding (none_is (bound variable.name)))
 
 -- ---- columns
@@ -233,7 +235,7 @@ qualifier_stands : (view : View) (qualifier : Option Identifier) (fault : FormFa
     → Contains (qualifier_faults view qualifier) fault ↔ IsQualifierFault view qualifier fault
 qualifier_stands view None fault = (λ h. none_there h, λ h. absurd h)
 qualifier_stands view (Some qualifier) fault =
-    both (where_stands (not (is_among view.names qualifier.name)) (NoTable qualifier.place) fault)
+    in_turn (where_stands (not (is_among view.names qualifier.name)) (NoTable qualifier.place) fault)
     (holding (not_among view.names qualifier.name))
 
 -- no column is meant, or more than one
@@ -278,7 +280,7 @@ reference_stands : (view : View) (fault : FormFault) (reference : ColumnReferenc
 reference_stands view fault reference =
     let meant = columns_meant view reference in
     let place = reference.column.place in
-    both (unless_stands (qualifier_faults view reference.qualifier) (meant_faults meant place) fault)
+    in_turn (unless_stands (qualifier_faults view reference.qualifier) (meant_faults meant place) fault)
     (either (qualifier_stands view reference.qualifier fault)
     (none_with (qualifier_stands view reference.qualifier) (meant_stands meant place fault)))
 
@@ -304,25 +306,25 @@ sources_stand tables fault earlier (source ∷ more) =
     let next = earlier ++ name ∷ [] in
     let absent = faults_where (is_none (table_named tables source.table.name)) (NoTable source.table.place) in
     let again = faults_where (is_among earlier name) (Ambiguous (source_place source)) in
-    both (contains_append absent (again ++ sources_faults tables next more) fault)
-    (both (either
-    (both (where_stands (is_none (table_named tables source.table.name)) (NoTable source.table.place) fault)
-    (holding (both (none_is (table_named tables source.table.name)) (no_table tables source.table.name))))
-    (both (contains_append again (sources_faults tables next more) fault)
+    in_turn (contains_append absent (again ++ sources_faults tables next more) fault)
+    (in_turn (either
+    (in_turn (where_stands (is_none (table_named tables source.table.name)) (NoTable source.table.place) fault)
+    (holding (in_turn (none_is (table_named tables source.table.name)) (no_table tables source.table.name))))
+    (in_turn (contains_append again (sources_faults tables next more) fault)
     (either
-    (both (where_stands (is_among earlier name) (Ambiguous (source_place source)) fault)
-    (holding (both (among earlier name) (same_by (λ names. Contains names name) (sym (append-nil earlier))))))
-    (both (sources_stand tables fault next more)
+    (in_turn (where_stands (is_among earlier name) (Ambiguous (source_place source)) fault)
+    (holding (in_turn (among earlier name) (same_by (λ names. Contains names name) (sym (append-nil earlier))))))
+    (in_turn (sources_stand tables fault next more)
     (cut_same (IsSourceFault tables next fault) (λ before. IsSourceFault tables earlier fault (source ∷ before))
     (λ before later. either alike (holding (same_by (λ names. Contains names (source_name later))
     (behind source_name earlier source before)))) more)))))
-    (both grouped (turned (cut_cons (IsSourceFault tables earlier fault) source more))))
+    (in_turn grouped (turned (cut_cons (IsSourceFault tables earlier fault) source more))))
 
 items_stand : (view : View) (bound : Bound) (fault : FormFault) (all : Items)
     → Contains (items_faults (operands_over view bound) all) fault ↔ IsItemFault view bound all fault
 items_stand view bound fault items.All = (λ h. none_there h, λ h. absurd h)
 items_stand view bound fault (items.Listed listed) =
-    both (contains_flat_map (operand_faults view bound) fault listed)
+    in_turn (contains_flat_map (operand_faults view bound) fault listed)
     (any_same (λ operand. Contains (operand_faults view bound operand) fault)
     (λ operand. IsOperandFault view bound operand fault) (operand_stands view bound fault) listed)
 
@@ -337,10 +339,10 @@ select_stands tables bound select fault =
     let view = view_of tables select.sources in
     let terms = operands_over view bound in
     let tests = flat_map (test_faults terms) select.tests in
-    both (unless_stands (sources_faults tables [] select.sources) (tests ++ items_faults terms select.items) fault)
+    in_turn (unless_stands (sources_faults tables [] select.sources) (tests ++ items_faults terms select.items) fault)
     (either (sources_stand tables fault [] select.sources)
     (none_with (λ other. sources_stand tables other [] select.sources)
-    (both (contains_append tests (items_faults terms select.items) fault)
+    (in_turn (contains_append tests (items_faults terms select.items) fault)
     (either (where_stand view bound fault select.tests) (items_stand view bound fault select.items)))))
 
 -- a value that has a fault or isn't of its column's kind
@@ -353,8 +355,9 @@ values_stand bound fault [] all = (λ h. absurd (none_there h), λ h. absurd (an
 values_stand bound fault (column ∷ columns) [] =
     (λ h. absurd (none_there h), λ h. absurd (any_nil (IsMisfit bound fault) h))
 values_stand bound fault (column ∷ columns) (value ∷ more) =
-    both (contains_append (wanted_faults (values bound) column.kind value) (values_faults bound columns more) fault)
-    (both (either (wanted_stands (values bound) (IsValueFault bound) fault (value_stands bound fault) column.kind value)
+    in_turn (contains_append (wanted_faults (values bound) column.kind value) (values_faults bound columns more) fault)
+    (in_turn (either
+    (wanted_stands (values bound) (IsValueFault bound) fault (value_stands bound fault) column.kind value)
     (values_stand bound fault columns more))
     (turned (any_cons (IsMisfit bound fault) (column, value) (zip columns more))))
 
@@ -362,7 +365,7 @@ pub insert_stands : (tables : List TableSchema) (bound : Bound) (insert : Insert
     → Contains (insert_faults tables bound insert) fault ↔ IsInsertFault tables bound insert fault
 insert_stands tables bound insert fault =
     table_stands tables insert.table fault _ _ (λ found.
-    both (contains_append (faults_where (not (length insert.values == length found.1.columns)) (Arity insert.place))
+    in_turn (contains_append (faults_where (not (length insert.values == length found.1.columns)) (Arity insert.place))
     (values_faults bound found.1.columns insert.values) fault)
     (either (number_stands (length insert.values) (length found.1.columns) (Arity insert.place) fault)
     (values_stand bound fault found.1.columns insert.values)))
@@ -385,15 +388,15 @@ module _ (view : View) (bound : Bound) (columns : List ColumnSchema) (fault : Fo
       let right = assignment.expression in
       let twice = Repeated assignment.column.place in
       let wrong = WrongKind (expression_place operand_place right) in
-      both (at_stands (column_named columns name) (NoColumn assignment.column.place) fault (λ column.
+      in_turn (at_stands (column_named columns name) (NoColumn assignment.column.place) fault (λ column.
       faults_where (is_among earlier name) twice
       ++ (expression_faults terms right ++ kinds_faults (Some column.1) (expression_kind terms right) wrong)))
       (either (holding (no_column columns name)) (there_with (λ column.
       let compared = kinds_faults (Some column.1) (expression_kind terms right) wrong in
-      both (contains_append (faults_where (is_among earlier name) twice) (expression_faults terms right ++ compared)
+      in_turn (contains_append (faults_where (is_among earlier name) twice) (expression_faults terms right ++ compared)
       fault)
-      (either (both (where_stands (is_among earlier name) twice fault) (holding (among earlier name)))
-      (both (contains_append (expression_faults terms right) compared fault)
+      (either (in_turn (where_stands (is_among earlier name) twice fault) (holding (among earlier name)))
+      (in_turn (contains_append (expression_faults terms right) compared fault)
       (either (expression_stands terms (IsOperandFault view bound) fault (operand_stands view bound fault) right)
       (kinds_stand (Some column.1) (expression_kind terms right) wrong fault)))))))
 
@@ -411,11 +414,11 @@ module _ (view : View) (bound : Bound) (columns : List ColumnSchema) (fault : Fo
   assignments_stand [] earlier = (λ h. absurd (none_there h), λ h. absurd (cut_nil (IsFaultBehind earlier) h))
   assignments_stand (assignment ∷ more) earlier =
       let next = earlier ++ assignment.column.name ∷ [] in
-      both (contains_append (assignment_faults terms columns earlier assignment)
+      in_turn (contains_append (assignment_faults terms columns earlier assignment)
       (assignments_faults terms columns next more) fault)
-      (both (either (both (assignment_stands earlier assignment)
+      (in_turn (either (in_turn (assignment_stands earlier assignment)
       (same_by (λ names. IsAssignmentFault view bound columns names assignment fault) (sym (append-nil earlier))))
-      (both (assignments_stand more next)
+      (in_turn (assignments_stand more next)
       (cut_same (IsFaultBehind next) (λ before. IsFaultBehind earlier (assignment ∷ before))
       (λ before later. same_by (λ names. IsAssignmentFault view bound columns names later fault)
       (behind name_of earlier assignment before)) more)))
@@ -427,7 +430,7 @@ update_stands tables bound update fault =
     table_stands tables update.table fault _ _ (λ found.
     let view = table_view update.table.name found.1 in
     let tests = flat_map (test_faults (operands_over view bound)) update.tests in
-    both (contains_append tests (assignments_faults (operands_over view bound) found.1.columns [] update.assignments)
+    in_turn (contains_append tests (assignments_faults (operands_over view bound) found.1.columns [] update.assignments)
     fault)
     (either (where_stand view bound fault update.tests)
     (assignments_stand view bound found.1.columns fault update.assignments [])))

@@ -5,6 +5,7 @@ use Rattle.std.proofs.Common.{inr, refl, sym, ap, subst, ◌∙◌}
 use Rattle.std.specs.Prelude.{◌↔◌, ◌==◌, is_none, if◌then◌else◌}
 use Rattle.std.specs.List.{Contains}
 use Rattle.std.proofs.lemmas.Bool.{eqb-true, eq-eqb}
+use Rattle.ent_lists.proofs.Truth.{in_turn}
 use Rattle.ent_value.specs.declared.value.Kind.{Kind}
 use Rattle.ent_value.specs.declared.value.Kind.TheVariants as kinds
 use Rattle.ent_value.specs.Kinds.{same_kind}
@@ -18,7 +19,7 @@ use Rattle.ent_form.specs.declared.fault.FormFault.TheVariants.{NoTable}
 use Rattle.ent_form.specs.Catalogue.{table_from, table_named, names_of, column_from, column_named}
 use Rattle.ent_form.specs.AllFaults.{faults_where, faults_at, unless_any, kinds_faults}
 use Rattle.ent_form_laws.specs.Standing.{IsTableFault, Differ}
-use Rattle.ent_form_laws.proofs.Membership.{both, either, holding, none_there, here, there, contains_cons}
+use Rattle.ent_form_laws.proofs.Membership.{either, holding, none_there, here, there, contains_cons}
 
 -- ---- where a test holds
 
@@ -62,8 +63,8 @@ kinds_stand None right one fault =
 kinds_stand (Some left) None one fault =
     (λ h. absurd (none_there h), λ h. let e : None ≡ Some h.0.1 = h.0.3 in cc)
 kinds_stand (Some left) (Some right) one fault =
-    both (where_stands (not (same_kind left right)) one fault)
-    (both (holding (kinds_differ left right))
+    in_turn (where_stands (not (same_kind left right)) one fault)
+    (in_turn (holding (kinds_differ left right))
     (holding (λ n. (left, right, refl, refl, n), differ_from left right)))
 
 -- ---- where something is found
@@ -217,5 +218,5 @@ pub table_stands : (tables : List TableSchema) (named : Identifier) (fault : For
     → Contains (faults_at (table_named tables named.name) (NoTable named.place) faults) fault
     ↔ IsTableFault tables named faulty fault
 table_stands tables named fault faults faulty each =
-    both (at_stands (table_named tables named.name) (NoTable named.place) fault faults)
+    in_turn (at_stands (table_named tables named.name) (NoTable named.place) fault faults)
     (either (holding (no_table tables named.name)) (there_with each))

@@ -16,10 +16,11 @@ use Rattle.ent_form.specs.Entangled.{entangled_in}
 use Rattle.ent_form.specs.Form.{statement_in}
 use Rattle.ent_form.specs.Kinds.{Bound}
 use Rattle.ent_form.specs.Ordinary.{select_in, insert_in, delete_in, update_in}
+use Rattle.ent_form.proofs.Heads.{found_of}
 use Rattle.ent_form_laws.specs.Tables.{database_of, AreWide, HaveDistinctColumns, effect_of, Answers}
 use Rattle.ent_form_laws.proofs.Changing.{insert_same, delete_same, set_same}
 use Rattle.ent_form_laws.proofs.Selecting.{select_same}
-use Rattle.ent_form_laws.proofs.Steps.{one_answer, bound_given}
+use Rattle.ent_form_laws.proofs.Steps.{one_answer}
 use Rattle.ent_form_laws.proofs.Updating.{update_same}
 use Rattle.ent_form_laws.proofs.Whole.{heads_meant, bound_meant}
 
@@ -38,13 +39,13 @@ module _ (creates : List Create) (tables : Tables) (fitting : AreWide creates ta
       ≡ effect_of creates (meaning form)
   unfolding statement_in
   statement_same (statements.Select select) form e l =
-      let w = bound_given (select_in (schemas_of creates) bound select) _ (form, after) e in
+      let w = found_of (select_in (schemas_of creates) bound select) _ (form, after) e in
       ap (λ (rows : Rows). shown rows (database_of creates tables) environment)
       (select_same creates tables fitting environment bound select w.0.0 w.0.1 w.1)
       ∙ ap (λ (both : Statement Known × Bound). effect_of creates (meaning (form_of both)))
       (one_answer _ (form, after) w.2)
   statement_same (statements.Entangled entangled) form e l =
-      let w = bound_given (entangled_in (schemas_of creates) bound entangled) _ (form, after) e in
+      let w = found_of (entangled_in (schemas_of creates) bound entangled) _ (form, after) e in
       let tables_of = schemas_of creates in
       let heads = heads_meant environment entangled valuation tables_of bound w.0.1 w.0.0 w.1 l in
       let binds = bound_meant environment entangled valuation tables_of bound w.0.1 w.0.0 w.1 l in
@@ -52,17 +53,17 @@ module _ (creates : List Create) (tables : Tables) (fitting : AreWide creates ta
       ∙ ap (λ (both : Statement Known × Bound). effect_of creates (meaning (form_of both)))
       (one_answer _ (form, after) w.2)
   statement_same (statements.Insert insert) form e l =
-      let w = bound_given (insert_in (schemas_of creates) bound insert) _ (form, after) e in
+      let w = found_of (insert_in (schemas_of creates) bound insert) _ (form, after) e in
       insert_same creates tables fitting environment valuation bound insert w.0 w.1
       ∙ ap (λ (both : Statement Known × Bound). effect_of creates (meaning (form_of both)))
       (one_answer _ (form, after) w.2)
   statement_same (statements.Delete delete) form e l =
-      let w = bound_given (delete_in (schemas_of creates) bound delete) _ (form, after) e in
+      let w = found_of (delete_in (schemas_of creates) bound delete) _ (form, after) e in
       delete_same creates tables fitting environment valuation bound delete w.0 w.1
       ∙ ap (λ (both : Statement Known × Bound). effect_of creates (meaning (form_of both)))
       (one_answer _ (form, after) w.2)
   statement_same (statements.Update update) form e l =
-      let w = bound_given (update_in (schemas_of creates) bound update) _ (form, after) e in
+      let w = found_of (update_in (schemas_of creates) bound update) _ (form, after) e in
       update_same creates tables fitting apart environment valuation bound update w.0 w.1
       ∙ ap (λ (both : Statement Known × Bound). effect_of creates (meaning (form_of both)))
       (one_answer _ (form, after) w.2)

@@ -26,7 +26,8 @@ use Rattle.ent_form.specs.Entangled.{atom_from}
 use Rattle.ent_form.specs.Kinds.{Bound}
 use Rattle.ent_form.specs.Lookup.{value_in, values_in, kind_in, test_in}
 use Rattle.ent_form.specs.Steps.{there}
-use Rattle.ent_form_laws.proofs.Steps.{one_answer, bound_given, demand_given}
+use Rattle.ent_form.proofs.Heads.{found_of}
+use Rattle.ent_form_laws.proofs.Steps.{one_answer, demand_given}
 
 -- a value that is known before any row is read
 pub value_same : (environment : Environment) (bound : Bound) (value : ValueSpecification) (found : Known × Kind)
@@ -34,14 +35,14 @@ pub value_same : (environment : Environment) (bound : Bound) (value : ValueSpeci
 value_same environment bound (specifications.Literal literal) found e =
     ap (λ (found : Known × Kind). known_worth environment found.0) (one_answer _ found e)
 value_same environment bound (specifications.HostVariable variable) found e =
-    let w = bound_given (there (bound variable.name) (NoHostVariable variable.place)) _ found e in
+    let w = found_of (there (bound variable.name) (NoHostVariable variable.place)) _ found e in
     ap (λ (found : Known × Kind). known_worth environment found.0) (one_answer _ found w.2)
 
 pub kind_value_same : (environment : Environment) (bound : Bound) (kind : Kind) (value : ValueSpecification)
     (form : Known)
     → kind_in (values_in bound) kind value ≡ Ok form → known_value environment value ≡ known_worth environment form
 kind_value_same environment bound kind value form e =
-    let w = bound_given (value_in bound value) _ form e in
+    let w = found_of (value_in bound value) _ form e in
     let kept = demand_given (same_kind kind w.0.1) (WrongKind (value_place value)) (Ok w.0.0) form w.2 in
     value_same environment bound value w.0 w.1 ∙ ap (known_worth environment) (one_answer w.0.0 form kept.1)
 
@@ -71,11 +72,11 @@ module _ (environment : Environment) (names : List Name) (valuation : Valuation)
   pub term_same : (demanded bound : Bound) (term : TreeTerm) (found : Term Known × Kind)
       → term_in names demanded bound term ≡ Ok found → worth term ≡ form_worth found.0
   term_same demanded bound (terms.Value value) found e =
-      let w = bound_given (value_in bound value) _ found e in
+      let w = found_of (value_in bound value) _ found e in
       value_same environment bound value w.0 w.1
       ∙ ap (λ (found : Term Known × Kind). form_worth found.0) (one_answer _ found w.2)
   term_same demanded bound (terms.Variable variable) found e =
-      let w = bound_given (there (demanded variable.name) (Unbound variable.place)) _ found e in
+      let w = found_of (there (demanded variable.name) (Unbound variable.place)) _ found e in
       variable_same names valuation variable.name l
       ∙ ap (λ (found : Term Known × Kind). form_worth found.0) (one_answer _ found w.2)
 
@@ -83,8 +84,8 @@ module _ (environment : Environment) (names : List Name) (valuation : Valuation)
       → test_in (terms_in names demanded bound) test ≡ Ok form → holds worth test ≡ holds form_worth form
   unfolding test_in
   test_same demanded bound test form e =
-      let left = bound_given (term_in names demanded bound test.left) _ form e in
-      let right = bound_given (term_in names demanded bound test.right) _ form left.2 in
+      let left = found_of (term_in names demanded bound test.left) _ form e in
+      let right = found_of (term_in names demanded bound test.right) _ form left.2 in
       let kept = demand_given (same_kind left.0.1 right.0.1) (WrongKind (term_place test.right)) _ form right.2 in
       (λ i. compares test.comparison (value_cmp (term_same demanded bound test.left left.0 left.1 i)
       (term_same demanded bound test.right right.0 right.1 i)))
@@ -95,7 +96,7 @@ module _ (environment : Environment) (names : List Name) (valuation : Valuation)
   atom_same demanded bound [] made forms e = ap (map form_worth) (sym (one_answer made forms e))
       ∙ sym (append-nil (map form_worth made))
   atom_same demanded bound (term ∷ more) made forms e =
-      let w = bound_given (term_in names demanded bound term) _ forms e in
+      let w = found_of (term_in names demanded bound term) _ forms e in
       atom_same demanded bound more (made ++ w.0.0 ∷ []) forms w.2
       ∙ ap (λ xs. xs ++ map worth more) (map-append form_worth made (w.0.0 ∷ []))
       ∙ append_assoc (map form_worth made) (form_worth w.0.0 ∷ []) (map worth more)

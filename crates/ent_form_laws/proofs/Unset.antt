@@ -3,6 +3,7 @@ use Rattle.std.proofs.Common.{◌≡◌, Bool, true, false, List, [], ◌∷◌,
 use Rattle.std.proofs.Common.{◌∙◌}
 use Rattle.std.specs.Prelude.{◌↔◌, unwrap_or, if◌then◌else◌}
 use Rattle.std.specs.List.{Any}
+use Rattle.ent_lists.proofs.Truth.{in_turn}
 use Rattle.ent_value.specs.declared.value.Kind.{Kind}
 use Rattle.ent_value.specs.declared.value.Kind.TheVariants.{Int}
 use Rattle.ent_tree.specs.declared.entangled.EntangledItem.{EntangledItem}
@@ -18,7 +19,7 @@ use Rattle.ent_form.specs.AllFaults.{values, expression_kind}
 use Rattle.ent_form.specs.EntangledFaults.{demanded_from, term_kind}
 use Rattle.ent_form.specs.ScriptFaults.{item_binds, items_bind, bound_after, bound_by}
 use Rattle.ent_form_laws.specs.ScriptStanding.{IsBoundBy, Binds}
-use Rattle.ent_form_laws.proofs.Membership.{both, any_nil, any_cons}
+use Rattle.ent_form_laws.proofs.Membership.{any_nil, any_cons}
 
 -- nothing before, and nothing here
 abbrev Unbound : Bound → Name → Type 0 → Type 0
@@ -77,9 +78,9 @@ items_unbound : (kind : Term → Option Kind) (items : List EntangledItem) (boun
     ↔ Unbound bound name (Any (λ item. IsBoundBy name item.binds) items)
 items_unbound kind [] bound name = (λ h. (h, λ any. any_nil (λ item. IsBoundBy name item.binds) any), λ h. h.0)
 items_unbound kind (item ∷ more) bound name =
-    both (items_unbound kind more (item_binds kind bound item.binds item.term) name)
-    (both (beside (item_unbound kind bound item.binds item.term name))
-    (both moved (under (turned_all (λ item. IsBoundBy name item.binds) item more))))
+    in_turn (items_unbound kind more (item_binds kind bound item.binds item.term) name)
+    (in_turn (beside (item_unbound kind bound item.binds item.term name))
+    (in_turn moved (under (turned_all (λ item. IsBoundBy name item.binds) item more))))
 
 module _ (tables : List TableSchema) where
   none_bound_here : {P : Type 0} → P ↔ (P × (¬ ⊥))
@@ -101,9 +102,9 @@ module _ (tables : List TableSchema) where
       → (bound_by tables bound before name ≡ None) ↔ Unbound bound name (Any (Binds name) before)
   all_unbound [] bound name = (λ h. (h, λ any. any_nil (Binds name) any), λ h. h.0)
   all_unbound (statement ∷ more) bound name =
-      both (all_unbound more (bound_after tables bound statement) name)
-      (both (beside (statement_unbound bound statement name))
-      (both moved (under (turned_all (Binds name) statement more))))
+      in_turn (all_unbound more (bound_after tables bound statement) name)
+      (in_turn (beside (statement_unbound bound statement name))
+      (in_turn moved (under (turned_all (Binds name) statement more))))
 
   pub unset : (before : List Statement) (name : Name)
       → (bound_by tables none_bound before name ≡ None) ↔ (¬ Any (Binds name) before)

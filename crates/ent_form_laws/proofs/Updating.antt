@@ -30,12 +30,13 @@ use Rattle.ent_form.specs.Catalogue.{column_schema, table_schema, schemas_of, ta
 use Rattle.ent_form.specs.Kinds.{Bound}
 use Rattle.ent_form.specs.Ordinary.{tests_in, image_in, update_in}
 use Rattle.ent_form.specs.Scope.{table_in, table_scope}
+use Rattle.ent_form.proofs.Heads.{found_of, there_of}
 use Rattle.ent_form_laws.specs.Tables.{database_of, AreWide, HaveDistinctColumns, effect_of}
 use Rattle.ent_form_laws.proofs.Images.{names_of, image_same}
 use Rattle.ent_form_laws.proofs.Putting.{put_table, replacement_same}
 use Rattle.ent_form_laws.proofs.Selecting.{said, meant, where_same}
 use Rattle.ent_form_laws.proofs.Sources.{name_of, OfWidth, names_seen, names_again}
-use Rattle.ent_form_laws.proofs.Steps.{one_answer, bound_given, there_given}
+use Rattle.ent_form_laws.proofs.Steps.{one_answer}
 
 -- ---- rows of a width
 
@@ -107,13 +108,13 @@ module _ (creates : List Create) (tables : Tables) (fitting : AreWide creates ta
   unfolding update_in
   update_same update form e =
       let name = update.table.name in
-      let found = bound_given (table_in (schemas_of creates) update.table) _ form e in
-      let there_it_is = there_given (catalogue.table_named (schemas_of creates) name) (NoTable update.table.place)
+      let found = found_of (table_in (schemas_of creates) update.table) _ form e in
+      let there_it_is = there_of (catalogue.table_named (schemas_of creates) name) (NoTable update.table.place)
       found.0 found.1 in
       let scope = table_scope name found.0 in
       let schema = found.0.1.columns in
-      let tests = bound_given (tests_in scope bound update.tests) _ form found.2 in
-      let made = bound_given (image_in scope bound schema update.assignments) _ form tests.2 in
+      let tests = found_of (tests_in scope bound update.tests) _ form found.2 in
+      let made = found_of (image_in scope bound schema update.assignments) _ form tests.2 in
       let table = put_table creates tables name found.0 fitting there_it_is in
       let columns : table_columns creates name name ≡ map name_of scope.columns =
       ap (map (λ column. record { source = name; column = column })) table.here.columns

@@ -21,7 +21,8 @@ use Rattle.ent_form.specs.Entangled.{variables_of, memberships_from, Offer, no_o
 use Rattle.ent_form.specs.Entangled.{others_from}
 use Rattle.ent_form.specs.Entangled.{kinds_of, entangled_in}
 use Rattle.ent_form.specs.Kinds.{Bound, none_bound}
-use Rattle.ent_form_laws.proofs.Steps.{one_answer, bound_given}
+use Rattle.ent_form.proofs.Heads.{found_of}
+use Rattle.ent_form_laws.proofs.Steps.{one_answer}
 use Rattle.ent_form_laws.proofs.Variables.{variables_written}
 use Rattle.ent_form_laws.proofs.Heads.{offer_same, heads_same, others_same}
 
@@ -47,12 +48,12 @@ pub parts_of : (tables : List TableSchema) (bound after : Bound) (tree : TreeEnt
     → entangled_in tables bound tree ≡ Ok (form, after) → Parts tables bound tree form
 unfolding entangled_in
 parts_of tables bound after tree form e =
-    let body = bound_given (memberships_from tables bound (variables_of tree) [] none_bound tree.conditions) _
+    let body = found_of (memberships_from tables bound (variables_of tree) [] none_bound tree.conditions) _
     (form, after) e in
-    let offer = bound_given (offer_from (variables_of tree) body.0.1 bound no_offer tree.items) _ (form, after)
+    let offer = found_of (offer_from (variables_of tree) body.0.1 bound no_offer tree.items) _ (form, after)
     body.2 in
-    let answered = bound_given (heads_from offer.0.terms [] [] tree.relations) _ (form, after) offer.2 in
-    let others = bound_given (others_from (variables_of tree) body.0.1 bound [] [] tree.conditions) _ (form, after)
+    let answered = found_of (heads_from offer.0.terms [] [] tree.relations) _ (form, after) offer.2 in
+    let others = found_of (others_from (variables_of tree) body.0.1 bound [] [] tree.conditions) _ (form, after)
     answered.2 in
     let made = ap (λ (both : Entangled Known × Bound). both.0) (sym (one_answer _ (form, after) others.2)) in
     record {

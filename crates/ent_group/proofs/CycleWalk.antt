@@ -1,9 +1,9 @@
 -- OnCycles of pairs, and the search for one.
-use Rattle.std.proofs.Common.{◌≡◌, ◌≢◌, ℕ, zero, suc, ◌+◌, ◌<◌, ◌≤◌, ◌⊎◌, inl, inr, true, false, List, [], ◌∷◌, ◌++◌}
+use Rattle.std.proofs.Common.{◌≡◌, ◌≢◌, ℕ, zero, suc, ◌+◌, ◌<◌, ◌≤◌, ◌⊎◌, inl, inr, List, [], ◌∷◌, ◌++◌}
 use Rattle.std.proofs.Common.{length, map, take, get_or, refl, sym, ap, subst, ◌∙◌, arith}
-use Rattle.std.specs.Prelude.{All, AllPairs, Contains, slice_index, nat_lt, slice_get, Option, None, Some, IfSome}
+use Rattle.std.specs.Prelude.{All, AllPairs, Contains, slice_index, slice_get, Option, None, Some, IfSome}
 use Rattle.std.specs.Prelude.{IsNone, unwrap_or}
-use Rattle.std.proofs.lemmas.Bool.{eqb-true, ltb-true, ltb-false}
+use Rattle.std.proofs.lemmas.Bool.{eqb-true, cases_lt}
 use Rattle.std.proofs.lemmas.Bool.Decides.{Decides-eqb}
 use Rattle.std.proofs.lemmas.Cmp.{nat_eq_equiv}
 use Rattle.std.proofs.lemmas.List.{length-map, length-append, length-take, get_or-take, get_or_push, get_or_append_left}
@@ -17,12 +17,6 @@ use Rattle.std.proofs.lemmas.Map.Made.{IsDistinct-from_AllPairs, length-le_from_
 use Rattle.std.proofs.lemmas.Map.Views.{Contains-from_any, list_any-from_Contains}
 use Rattle.ent_group.specs.Cycle.{NamesAtMost, waiters_of, links_to, Closes, IsCycle, IsOnCycle}
 use Rattle.ent_group.specs.Reach.{IsReach, IsClosed}
-
-pub below_or : (i j : ℕ) → (i < j) ⊎ (j ≤ i)
-below_or i j = elim (nat_lt i j) as (λ b. nat_lt i j ≡ b → (i < j) ⊎ (j ≤ i)) [
-  | true ↦ λ e. inl (ltb-true i j e)
-  | false ↦ λ e. inr (ltb-false i j e)
-] refl
 
 -- ---- distinct numbers among others are no more than those
 
@@ -220,7 +214,7 @@ led_more : (waits : List (ℕ × ℕ)) (reached : List ℕ) (x y : ℕ) → IsRe
     (j : ℕ) × (j < i) × Contains waits (slice_index (reached ++ x ∷ []) i, slice_index (reached ++ x ∷ []) j)
 led_more waits reached x y reach there (k, within, e) i above below =
     let long = length-append reached (x ∷ []) in
-    elim (below_or i (length reached)) [
+    elim (cases_lt i (length reached)) [
       | inl old ↦
           let led = reach.led i above old in (
             led.0,
@@ -337,7 +331,7 @@ searching_more waits first old new next awaited h within is reach kept longer al
   reach = reach;
   begins = kept 0 h.reach.not_empty ∙ h.begins;
   place = omega arith;
-  all = λ k below. elim (below_or k next) [
+  all = λ k below. elim (cases_lt k next) [
     | inl before ↦
         let in_old : k < length old = omega (arith, h.place) in
         All-weaker (λ p. p.1 ≡ slice_index old k → Contains old p.0) (λ p. p.1 ≡ slice_index new k → Contains new p.0)
@@ -351,7 +345,7 @@ searching_more waits first old new next awaited h within is reach kept longer al
 }
 
 pub past_end : (xs : List ℕ) (n : ℕ) → slice_get xs n ≡ None → length xs ≤ n
-past_end xs n nothing = elim (below_or n (length xs)) [
+past_end xs n nothing = elim (cases_lt n (length xs)) [
   | inl below ↦ let there : slice_get xs n ≡ Some (get_or xs n 0) = slice_get-get_or xs n 0 below in cc
   | inr past ↦ past
 ]
@@ -403,7 +397,7 @@ closing_start waits reached second within there = record {
 apart_in : (reached : List ℕ) → AllPairs (λ x y. x ≢ y) reached → (i j : ℕ) → i < length reached → j < length reached
     → i ≢ j → slice_index reached i ≢ slice_index reached j
 apart_in reached distinct i j in_i in_j other same =
-    elim (below_or i j) [
+    elim (cases_lt i j) [
       | inl below ↦ distinct i j 0 below in_j same
       | inr above ↦ distinct j i 0 (omega arith) in_i (sym same)
     ]
@@ -421,13 +415,13 @@ closing_more waits reached members at at' reach h above below there =
       some = omega (arith, long);
       distinct = all_pairs_push (λ a b. a ≢ b) members y h.distinct (λ k d within same.
           let here : slice_index members k ≡ y = get_or_default members k 0 d within ∙ same in
-          elim (below_or 0 k) [
+          elim (cases_lt 0 k) [
             | inl later ↦ let far = h.later k later within in
                 apart_in reached reach.distinct far.0 at far.2 h.place (omega (arith, far.1)) (sym far.3 ∙ here)
             | inr first ↦ apart_in reached reach.distinct 0 at (omega (arith, h.place)) h.place (omega arith)
                 (sym h.begins ∙ ap (slice_index members) (omega arith) ∙ here)
           ]);
-      later = λ k positive within. elim (below_or k (length members)) [
+      later = λ k positive within. elim (cases_lt k (length members)) [
         | inl old ↦ let far = h.later k positive old in
             (far.0, omega (arith, far.1), far.2, get_or_append_left members (y ∷ []) 0 k old ∙ far.3)
         | inr new ↦ (at, below, h.place, get_or_push members y 0 k (omega (arith, long, new, within)))

@@ -5,17 +5,18 @@ use Rattle.std.proofs.Common.{◌↔◌, refl, sym, ap, subst, ◌∙◌, arith,
 use Rattle.std.specs.Prelude.{All, Contains, slice_index, Option, None, Some, IfSome, IsNone}
 use Rattle.std.specs.Int.{bit_at, w64}
 use Rattle.std.specs.Int.RustNames.{bit_or}
-use Rattle.std.proofs.lemmas.Bool.{eqb-true, eqb-false}
+use Rattle.std.proofs.lemmas.Bool.{eqb-true, eqb-false, cases_lt}
 use Rattle.std.proofs.lemmas.Bool.Decides.{nat_tests}
 use Rattle.std.proofs.lemmas.Nat.Bits.{bit_at-zero, bit_at_or, bit_at-lt, bit_at_set_same, bit_at_set_other}
 use Rattle.std.proofs.lemmas.List.{get_or-replicate, get_or_past, get_or_default, take_more}
 use Rattle.std.proofs.lemmas.List.Elements.{All-head, All-tail, All-cons, All-contains, All-nil, Contains-append_left}
 use Rattle.std.proofs.lemmas.List.Elements.{Contains-push, Contains-push_cases}
 use Rattle.ent_lists.specs.Elements.{or_cases, and_both}
+use Rattle.ent_lists.proofs.Truth.{or_either}
 use Rattle.ent_group.specs.Cycle.{waiters_of, links_to, IsOnCycle}
 use Rattle.ent_group.specs.Marks.{has_mark, IsMarked, joined}
 use Rattle.ent_group.specs.Reach.{AreWaiters, IsAt, AreInPair, IsWalk, greater}
-use Rattle.ent_group.proofs.CycleWalk.{below_or, next_of, on_cycle_waiter}
+use Rattle.ent_group.proofs.CycleWalk.{next_of, on_cycle_waiter}
 
 -- ---- walks
 
@@ -112,11 +113,6 @@ index-map f none [] i = sym none
 index-map f none (x ∷ xs) zero = refl
 index-map f none (x ∷ xs) (suc i) = index-map f none xs i
 
-or_from : (a b : Bool) → (a ≡ true) ⊎ (b ≡ true) → (a || b) ≡ true
-or_from a b (inl e) = λ i. e i || b
-or_from true b (inr e) = refl
-or_from false b (inr e) = e
-
 abbrev pub rows_over : List ℕ → ℕ → List ℕ
 rows_over rows middle = map (joined middle (slice_index rows middle)) rows
 
@@ -141,14 +137,14 @@ mark_over rows middle i j marked =
 
 mark_kept : (rows : List ℕ) (middle i j : ℕ) → IsMarked rows i j → IsMarked (rows_over rows middle) i j
 mark_kept rows middle i j old =
-    mark_is rows middle i j ∙ or_from (has_mark (slice_index rows i) j)
+    mark_is rows middle i j ∙ or_either (has_mark (slice_index rows i) j)
     (has_mark (slice_index rows i) middle && has_mark (slice_index rows middle) j) (inl old)
 
 mark_made : (rows : List ℕ) (middle i j : ℕ) → IsMarked rows i middle → IsMarked rows middle j
     → IsMarked (rows_over rows middle) i j
 mark_made rows middle i j to from =
     mark_is rows middle i j
-    ∙ or_from (has_mark (slice_index rows i) j)
+    ∙ or_either (has_mark (slice_index rows i) j)
     (has_mark (slice_index rows i) middle && has_mark (slice_index rows middle) j) (inr (λ k. to k && from k))
 
 -- ---- the rows of the pairs alone
@@ -160,7 +156,7 @@ no_rows waiters i j = (
 )
   where
     empty_row : (i : ℕ) → slice_index (replicate 64 0) i ≡ 0
-    empty_row i = elim (below_or i 64) [
+    empty_row i = elim (cases_lt i 64) [
       | inl below ↦ get_or-replicate 64 i 0 0 below
       | inr past ↦ get_or_past (replicate 64 0) i 0 (omega arith)
     ]
@@ -256,7 +252,7 @@ pub reaching_more : (waits : List (ℕ × ℕ)) (waiters rows : List ℕ) (middl
 reaching_more waits waiters rows middle h = record {
   sound = sound_more waits waiters rows middle h;
   pairs = λ i j pair. mark_kept rows middle i j (h.pairs i j pair);
-  over = λ a below i j to from. elim (below_or a middle) [
+  over = λ a below i j to from. elim (cases_lt a middle) [
     | inl before ↦ over_earlier waits waiters rows middle h a before i j to from
     | inr last ↦
         let here : a ≡ middle = omega arith in
@@ -305,7 +301,7 @@ pub greatest_more : (waits : List (ℕ × ℕ)) (xs : List ℕ) (i : ℕ) (o : O
     → GreatestUpto waits xs i o → GreatestUpto waits xs (i + 1) (greater o (Some (slice_index xs i)))
 greatest_more waits xs i None found_cycle none = (
   found_cycle,
-  λ k below inside. elim (below_or k i) [
+  λ k below inside. elim (cases_lt k i) [
     | inl before ↦ absurd (none k before inside)
     | inr last ↦ let here : k ≡ i = omega arith in last_upto xs k i here
   ],
@@ -316,25 +312,25 @@ greatest_more waits xs i None found_cycle none = (
 greatest_more waits xs i (Some w) found_cycle (found, greatest) =
     let x = slice_index xs i in
     let upto : (k : ℕ) → k < i + 1 → IsOnCycle waits (slice_index xs k) → slice_index xs k ≤ max w x =
-    λ k below inside. elim (below_or k i) [
+    λ k below inside. elim (cases_lt k i) [
       | inl before ↦ omega (arith, greatest k before inside)
       | inr last ↦ let here : k ≡ i = omega arith in omega (arith, ap (slice_index xs) here)
     ] in
-    elim (below_or w x) [
+    elim (cases_lt w x) [
       | inl less ↦ let is : max w x ≡ x = omega arith in (subst (IsOnCycle waits) (sym is) found_cycle, upto)
       | inr more ↦ let is : max w x ≡ w = omega arith in (subst (IsOnCycle waits) (sym is) found, upto)
     ]
 
 pub greatest_same : (waits : List (ℕ × ℕ)) (xs : List ℕ) (i : ℕ) (o : Option ℕ) → ¬ IsOnCycle waits (slice_index xs i)
     → GreatestUpto waits xs i o → GreatestUpto waits xs (i + 1) o
-greatest_same waits xs i None apart none = λ k below inside. elim (below_or k i) [
+greatest_same waits xs i None apart none = λ k below inside. elim (cases_lt k i) [
   | inl before ↦ none k before inside
   | inr last ↦ let here : k ≡ i = omega arith in
       apart (subst (λ (m : ℕ). IsOnCycle waits (slice_index xs m)) here inside)
 ]
 greatest_same waits xs i (Some w) apart (found, greatest) = (
   found,
-  λ k below inside. elim (below_or k i) [
+  λ k below inside. elim (cases_lt k i) [
     | inl before ↦ greatest k before inside
     | inr last ↦ let here : k ≡ i = omega arith in
         absurd (apart (subst (λ (m : ℕ). IsOnCycle waits (slice_index xs m)) here inside))

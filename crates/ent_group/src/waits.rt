@@ -70,8 +70,8 @@ fn waiters_of(pairs: &[(Tx, Tx)]) -> Members
     waiters
 }
 
-/// For each of those who wait a row, which marks those among them that it waits for, over others too: a pair marks
-/// whom it names, and each in turn hands on what its row marks to the rows that mark it.
+/// A row for each waiter, which marks the waiters for whom it waits, directly or through others (Warshall): a pair
+/// marks whom it names, and each waiter in turn hands on its marks to the rows that mark it.
 fn reach_of(pairs: &[(Tx, Tx)], waiters: &[Tx]) -> [Row; MOST_MEMBERS]
     requires { AreWaiters pairs.now waiters.now }
     ensures { (i j : ℕ) → i < length waiters.now → j < length waiters.now

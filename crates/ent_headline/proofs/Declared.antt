@@ -1,7 +1,7 @@
 -- The tables that statements use are declared.
-use Rattle.std.proofs.Common.{◌≡◌, ◌⊎◌, ◌<◌, ℕ, suc, List, [], ◌∷◌, ◌++◌, length, map}
-use Rattle.std.proofs.Common.{refl, sym, ap, subst, inl, inr, arith, All, Contains, Option, Some, None, Ok}
-use Rattle.std.specs.Prelude.{slice_index_or}
+use Rattle.std.proofs.Common.{◌≡◌, ◌⊎◌, ◌<◌, ℕ, List, [], ◌∷◌, ◌++◌, length, map}
+use Rattle.std.proofs.Common.{refl, sym, subst, inl, inr, All, Contains, Option, Some, None, Ok}
+use Rattle.std.proofs.lemmas.List.{length-map}
 use Rattle.std.specs.List.{AllByRecursion, flat_map}
 use Rattle.ent_value.specs.declared.value.Value.{Value}
 use Rattle.ent_tree.specs.declared.declaration.Create.{Create}
@@ -21,8 +21,9 @@ use Rattle.ent_form.specs.Form.{statement_in, statements_from}
 use Rattle.ent_form.specs.Kinds.{Bound, none_bound}
 use Rattle.ent_form.specs.declared.catalogue.TableSchema.{TableSchema}
 use Rattle.ent_form.specs.declared.fault.FormFault.{FormFault}
+use Rattle.ent_form.proofs.Heads.{found_of}
 use Rattle.ent_form_laws.specs.Kinds.{AreDeclared}
-use Rattle.ent_form_laws.proofs.Steps.{one_answer, bound_given}
+use Rattle.ent_form_laws.proofs.Steps.{one_answer}
 use Rattle.ent_coordination.specs.Pool.{Posted}
 use Rattle.ent_protocol.specs.Member.{Ordinary, posted_by, end_next, environment_of, next_in, next_of, pool}
 use Rattle.ent_protocol.specs.Member.{statement_next}
@@ -33,21 +34,12 @@ use Rattle.ent_protocol.specs.State.{State, Submitted, Member, Use}
 use Rattle.ent_protocol.specs.Uses.{entangled_uses, shared, statement_uses}
 use Rattle.ent_protocol.specs.Waits.{next_uses}
 use Rattle.ent_headline.specs.Resolved.{resolved_forms}
-use Rattle.ent_lists.specs.Elements.{In, contains_in, in_either, in_flat, of_all, all_joined, nth_in}
+use Rattle.ent_lists.specs.Elements.{In, contains_in, in_either, in_flat, of_all, all_joined}
 use Rattle.ent_lists.specs.Elements.{all_first, all_second}
+use Rattle.ent_lists.proofs.Lists.{index_all}
 use Rattle.ent_serializability.proofs.Locks.{uses_from}
 use Rattle.ent_headline.proofs.Lists.{numbered_in}
 use Rattle.ent_headline.proofs.Places.{statements_given}
-
--- ---- lists
-
-pub index_all : {X : Type 0} (P : X → Type 0) (xs : List X) → ((x : X) → In x xs → P x) → All P xs
-index_all P xs f = λ k d low. f (slice_index_or xs k d) (nth_in xs k d low)
-
-pub of_index : {X : Type 0} (P : X → Type 0) (xs : List X) (x : X) → All P xs → In x xs → P x
-of_index P [] x all at = absurd at
-of_index P (y ∷ ys) x all (inl same) = subst P (sym same) (all 0 x (omega arith))
-of_index P (y ∷ ys) x all (inr at) = of_index P ys x (λ k d low. all (suc k) d (omega (arith, low))) at
 
 -- ---- statements
 
@@ -119,7 +111,7 @@ each_made : (schemas : List TableSchema) (all : List TreeStatement) (bound : Bou
 each_made schemas [] bound made out e form at =
     inl (subst (In form) (sym (one_answer {E = FormFault} made out e)) at)
 each_made schemas (statement ∷ all) bound made out e form at =
-    let w = bound_given (statement_in schemas bound statement) _ out e in
+    let w = found_of (statement_in schemas bound statement) _ out e in
     elim (each_made schemas all w.0.1 (made ++ w.0.0 ∷ []) out w.2 form at) [
       | inl a ↦ elim (in_either made (w.0.0 ∷ []) form a) [
         | inl before ↦ inl before
@@ -141,10 +133,6 @@ pub record DeclaredLaws : Type 0 where
   pub closes : (form : Statement Known) (environment : Environment)
       → tables_named (closed environment form) ≡ tables_named form
 
-same_length : {X Y : Type 0} (f : X → Y) (xs : List X) → length (map f xs) ≡ length xs
-same_length f [] = refl
-same_length f (x ∷ xs) = ap suc (same_length f xs)
-
 form_below : DeclaredLaws → (s : State) → IsReached resolved_forms s → (own : Submitted) → In own s.submitted
     → (form : Statement Known) → In form own.form → (environment : Environment)
     → AllByRecursion (Below (length s.opening.tables)) (statement_uses (closed environment form))
@@ -158,7 +146,7 @@ form_below laws s reached own there form at environment =
           let declared = laws.declared schemas made.bound made.after made.tree form made.resolved in
           uses_below (length creates) (closed environment form)
           (subst (λ (n : ℕ). AllByRecursion (λ number. number < n) (tables_named (closed environment form)))
-          (same_length _ creates)
+          (length-map creates _)
           (subst (AllByRecursion (λ number. number < length schemas)) (sym (laws.closes form environment)) declared))
     ]
 

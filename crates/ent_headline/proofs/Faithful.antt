@@ -23,11 +23,12 @@ use Rattle.ent_form.specs.Entangled.{entangled_in}
 use Rattle.ent_form.specs.Form.{statement_in, statements_from, script_in}
 use Rattle.ent_form.specs.Kinds.{Bound, none_bound}
 use Rattle.ent_form.specs.OpeningFault.{declarations_fault, opening_fault}
+use Rattle.ent_form.proofs.Heads.{found_of}
 use Rattle.ent_form_laws.specs.Kinds.{AreKinded}
 use Rattle.ent_form_laws.specs.Opened.{opening_tables}
 use Rattle.ent_form_laws.specs.Tables.{database_of, AreWide, HaveDistinctColumns, effect_of, Answers}
 use Rattle.ent_form_laws.proofs.Opened.{declared_once}
-use Rattle.ent_form_laws.proofs.Steps.{one_answer, bound_given}
+use Rattle.ent_form_laws.proofs.Steps.{one_answer}
 use Rattle.ent_protocol.specs.Reached.{table_names}
 use Rattle.ent_protocol.specs.Uses.{shared, exclusive, statement_uses}
 use Rattle.ent_serializability.specs.Faithful.{table_number, is_used, is_owned}
@@ -129,7 +130,7 @@ module _ (laws : Laws) (creates : List Create) (apart : HaveDistinctColumns crea
   statements_made [] bound made out e =
       record { rest = []; behind = sym (one_answer made out e) ∙ sym (append-nil made); each = tt }
   statements_made (statement ∷ more) bound made out e =
-      let w = bound_given (statement_in (schemas_of creates) bound statement) _ out e in
+      let w = found_of (statement_in (schemas_of creates) bound statement) _ out e in
       let later = statements_made more w.0.1 (made ++ w.0.0 ∷ []) out w.2 in
       record {
         rest = w.0.0 ∷ later.rest;
@@ -151,8 +152,8 @@ resolved_faithful laws opening e =
       wide = subst (AreWide creates) same (laws.forms.wide creates (opening_tables opening) (laws.kinds opening e));
       opens = ap (database_of creates) (sym same) ∙ laws.database opening e;
       each = λ script form is.
-          let plain = bound_given (script_in (schemas_of creates) script) _ form is in
-          let out = bound_given (statements_from (schemas_of creates) none_bound [] script.statements) _ plain.0
+          let plain = found_of (script_in (schemas_of creates) script) _ form is in
+          let out = found_of (statements_from (schemas_of creates) none_bound [] script.statements) _ plain.0
           plain.1 in
           let made = statements_made laws creates apart script.statements none_bound [] out.0 out.1 in
           subst (InTurn (IsFaithful creates) script.statements)

@@ -3,6 +3,7 @@ use Rattle.std.proofs.Common.{◌≡◌, ℕ, zero, suc, false, List, [], ◌∷
 use Rattle.std.proofs.Common.{Option, refl, sym, ap, subst, ◌∙◌}
 use Rattle.std.specs.Prelude.{slice_get, slice_index_or}
 use Rattle.std.proofs.lemmas.List.{append-nil, append_assoc}
+use Rattle.std.proofs.lemmas.Option.{same_Some}
 use Rattle.ent_value.specs.Refusal.{◌>>=◌}
 use Rattle.ent_value.specs.declared.value.Kind.{Kind}
 use Rattle.ent_value.specs.declared.value.Value.{Value}
@@ -20,15 +21,16 @@ use Rattle.ent_semantics.specs.declared.statement.Statement.{Statement}
 use Rattle.ent_semantics.specs.declared.statement.Statement.TheVariants as statements
 use Rattle.ent_semantics.specs.Form.{Tables}
 use Rattle.ent_semantics.specs.FormKinds.{Fits, tables_named}
-use Rattle.ent_form.specs.Catalogue.{column_schema, schemas_of}
+use Rattle.ent_form.specs.Catalogue.{schemas_of}
 use Rattle.ent_form.specs.Entangled.{entangled_in}
 use Rattle.ent_form.specs.Form.{statements_from, statement_in}
 use Rattle.ent_form.specs.Kinds.{Bound, none_bound}
-use Rattle.ent_form.specs.declared.catalogue.ColumnSchema.{ColumnSchema}
 use Rattle.ent_form.specs.declared.catalogue.TableSchema.{TableSchema}
 use Rattle.ent_form.specs.declared.fault.FormFault.{FormFault}
+use Rattle.ent_form.proofs.Heads.{found_of}
 use Rattle.ent_form_laws.specs.Kinds.{column_kinds, kinds_numbered}
-use Rattle.ent_form_laws.proofs.Steps.{one_answer, bound_given}
+use Rattle.ent_form_laws.proofs.Steps.{one_answer}
+use Rattle.ent_form_laws.proofs.NamesApart.{schema_kinds}
 use Rattle.ent_protocol.specs.Job.{Numbered}
 use Rattle.ent_protocol.specs.Member.{Ordinary, next_in, next_of, statement_next, end_next, environment_of}
 use Rattle.ent_protocol.specs.Member.{declared_kinds, seen_now}
@@ -37,7 +39,7 @@ use Rattle.ent_protocol.specs.State.{State, Submitted, Member}
 use Rattle.ent_protocol.specs.Uses.{shared, statement_uses}
 use Rattle.ent_headline.specs.Resolved.{resolved_forms}
 use Rattle.ent_headline.specs.Kinds.{bound_behind, HasKindsThere}
-use Rattle.ent_headline.proofs.Lists.{numbered_in, one_thing}
+use Rattle.ent_headline.proofs.Lists.{numbered_in}
 use Rattle.ent_headline.proofs.Places.{statements_given}
 use Rattle.ent_headline.proofs.Replayed.{FitsLaw}
 
@@ -61,7 +63,7 @@ rest_of schemas [] bound made out e =
       at = λ n left form known there. cc;
     }
 rest_of schemas (statement ∷ all) bound made out e =
-    let w = bound_given (statement_in schemas bound statement) _ out e in
+    let w = found_of (statement_in schemas bound statement) _ out e in
     let later = rest_of schemas all w.0.1 (made ++ w.0.0 ∷ []) out w.2 in
     record {
       rest = w.0.0 ∷ later.rest;
@@ -83,7 +85,7 @@ rest_of schemas (statement ∷ all) bound made out e =
       subst (λ (b : Bound). statement_in schemas b statement ≡ Ok (form, w.1))
           (one_answer {E = FormFault} bound left known)
           (subst (λ (f : Statement Known). statement_in schemas bound statement ≡ Ok (f, w.1))
-          (one_thing w.0 form there) is),
+          (same_Some w.0 form there) is),
     )
     by w is rest later (suc n) left form known there =
         later n left form
@@ -118,7 +120,7 @@ ordinary_tree : (schemas : List TableSchema) (bound after : Bound) (tree : TreeS
     → statement_next (closed environment form) ≡ Ordinary statement → is_entangled tree ≡ false
 unfolding statement_in
 ordinary_tree schemas bound after (trees.Entangled tree) form environment statement e next =
-    let found = bound_given (entangled_in schemas bound tree) _ (form, after) e in
+    let found = found_of (entangled_in schemas bound tree) _ (form, after) e in
     not_ordinary environment found.0.0 form statement
     (ap (λ (f : Statement Known × Bound). f.0)
     (one_answer {E = FormFault} (statements.Entangled found.0.0, found.0.1) (form, after) found.2)) next
@@ -172,16 +174,11 @@ next_fits law s reached member there statement next =
 
 -- ---- the tables of its job
 
-columns_kinds : (columns : List Column) → map (λ (column : ColumnSchema). column.kind) (map column_schema columns)
-    ≡ map (λ (column : Column). column.kind) columns
-columns_kinds [] = refl
-columns_kinds (column ∷ columns) = ap (λ kinds. column.kind ∷ kinds) (columns_kinds columns)
-
 tables_kinds : (creates : List Create) → map column_kinds (schemas_of creates)
     ≡ map (λ (create : Create). map (λ (column : Column). column.kind) create.columns) creates
 tables_kinds [] = refl
 tables_kinds (create ∷ creates) =
-    λ i. columns_kinds create.columns i ∷ tables_kinds creates i
+    λ i. schema_kinds create.columns i ∷ tables_kinds creates i
 
 same_kinds : (creates : List Create) (table : ℕ)
     → kinds_numbered (schemas_of creates) table ≡ declared_kinds creates table

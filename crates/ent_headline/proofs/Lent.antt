@@ -2,22 +2,12 @@
 use Rattle.std.proofs.Common.{List, [], ◌∷◌, map, refl, sym, ap, subst, Contains}
 use Rattle.ent_tree.specs.declared.declaration.Create.{Create}
 use Rattle.ent_semantics.specs.Form.{Tables}
-use Rattle.ent_coordination.specs.Pool.{Posted}
-use Rattle.ent_protocol.specs.Member.{pool, seen_now}
-use Rattle.ent_protocol.specs.PoolEvents.{IsPresentComponent}
-use Rattle.ent_protocol.specs.PostedBy.{is_present}
-use Rattle.ent_protocol.specs.State.{State, Use}
+use Rattle.ent_protocol.specs.Member.{seen_now}
+use Rattle.ent_protocol.specs.State.{Use}
 use Rattle.ent_job.specs.Work.{AreUsed}
-use Rattle.ent_headline.proofs.Declared.{of_index}
-use Rattle.ent_lists.specs.Elements.{In, contains_in, of_map, to_map}
+use Rattle.ent_lists.specs.Elements.{contains_in, of_map, to_map}
 
 pub lent_used : (creates : List Create) (tables : Tables) (uses : List Use)
     → AreUsed uses (seen_now creates tables uses)
 lent_used creates tables [] = refl
 lent_used creates tables (own ∷ uses) = ap (λ numbers. own.table ∷ numbers) (lent_used creates tables uses)
-
--- posted statements of a component stand in the pool
-pub stand_in_pool : (s : State) (asked : List Posted) → IsPresentComponent s asked → (member : Posted)
-    → In member asked → In member (pool s)
-stand_in_pool s asked present member at =
-    is_present (pool s) asked present member at

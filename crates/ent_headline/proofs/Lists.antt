@@ -3,9 +3,6 @@ use Rattle.std.proofs.Common.{◌≡◌, ℕ, zero, suc, List, Some}
 use Rattle.ent_lists.specs.Elements.{In, got_in}
 use Rattle.ent_semantics.specs.Serial.{numbered}
 
-pub one_thing : {X : Type 0} (x y : X) → Some x ≡ Some y → x ≡ y
-one_thing x y e = cc
-
 module _ {X : Type 0} where
   pub numbered_in : (xs : List X) (number : ℕ) (x : X) → numbered xs number ≡ Some x → In x xs
   numbered_in xs zero x e = cc

@@ -40,10 +40,11 @@ use Rattle.ent_form.specs.Ordinary.{update_in, set_in}
 use Rattle.ent_form.specs.Scope.{Scope, with_source, source_place, sources_from, sources_in, no_source, table_in}
 use Rattle.ent_form.specs.Scope.{table_scope}
 use Rattle.ent_form.specs.Steps.{there}
-use Rattle.ent_form_laws.proofs.Steps.{one_answer, bound_given, demand_given, there_given}
+use Rattle.ent_form_laws.proofs.Steps.{one_answer, demand_given}
 use Rattle.ent_serializability.specs.Faithful.{table_number, IsFaithfulEntangled, AreAlike}
 use Rattle.ent_lists.specs.Elements.{all_joined}
 use Rattle.ent_form.specs.Catalogue.{schemas_of, table_named}
+use Rattle.ent_form.proofs.Heads.{found_of, there_of}
 use Rattle.ent_headline.proofs.FittedRows.{row_long, image_long}
 use Rattle.ent_headline.proofs.Numbers.{width_numbered, Found, found_named, found_in}
 use Rattle.ent_headline.proofs.Widths.{FitsTable, FitsWidth}
@@ -95,11 +96,11 @@ module _ (creates : List Create) where
   sources_named (source ∷ more) scope out names h e =
       let name = source_name source in
       let table = source.table.name in
-      let w = bound_given (there (table_named (schemas_of creates) table) (NoTable source.table.place)) _ out e in
+      let w = found_of (there (table_named (schemas_of creates) table) (NoTable source.table.place)) _ out e in
       let found : ℕ × TableSchema = w.0 in
       let kept = demand_given (not (is_among scope.names name)) (Ambiguous (source_place source)) _ out w.2 in
       let here = found_named creates table found
-      (there_given (table_named (schemas_of creates) table) (NoTable source.table.place) found w.1) in
+      (there_of (table_named (schemas_of creates) table) (NoTable source.table.place) found w.1) in
       subst (λ all. Named all out.tables)
       (append_assoc names (table ∷ []) (map (λ (source : Source). source.table.name) more))
       (sources_named more (with_source scope name found) out (names ++ table ∷ [])
@@ -125,9 +126,9 @@ module _ (creates : List Create) where
         → select_in (schemas_of creates) bound select ≡ Ok found → Named (select_tables select) found.0.sources
     unfolding select_in
     select_named select found e =
-        let scope = bound_given (sources_in (schemas_of creates) select.sources) _ found e in
-        let tests = bound_given (tests_in scope.0 bound select.tests) _ found scope.2 in
-        let shown = bound_given (items_in scope.0 bound select.items) _ found tests.2 in
+        let scope = found_of (sources_in (schemas_of creates) select.sources) _ found e in
+        let tests = found_of (tests_in scope.0 bound select.tests) _ found scope.2 in
+        let shown = found_of (items_in scope.0 bound select.items) _ found tests.2 in
         subst (λ (f : Select Known × List Kind). Named (select_tables select) f.0.sources)
         (one_answer (record { sources = scope.0.tables; items = shown.0.0; tests = tests.0 }, shown.0.1) found
         shown.2)
@@ -144,9 +145,9 @@ module _ (creates : List Create) where
         → Named (select_tables select) found.0.select.sources
     unfolding membership_in
     membership_named names demanded tuple select found e =
-        let inner = bound_given (select_in (schemas_of creates) bound select) _ found e in
+        let inner = found_of (select_in (schemas_of creates) bound select) _ found e in
         let kept = demand_given (length tuple.terms == length inner.0.1) (Arity tuple.place) _ found inner.2 in
-        let members = bound_given (members_from names bound [] demanded inner.0.1 tuple.terms) _ found kept.1 in
+        let members = found_of (members_from names bound [] demanded inner.0.1 tuple.terms) _ found kept.1 in
         subst (λ (f : Membership Known × Bound). Named (select_tables select) f.0.select.sources)
         (one_answer (record { terms = members.0.0; select = inner.0.0 }, members.0.1) found members.2)
         (select_named select inner.0 inner.1)
@@ -161,7 +162,7 @@ module _ (creates : List Create) where
         (subst (λ (f : List (Membership Known) × Bound). Named names (tables_of f.0))
         (one_answer (made, demanded) found e) h)
     memberships_named variables (conditions.InSelect tuple select ∷ more) made demanded found names h e =
-        let w = bound_given (membership_in (schemas_of creates) bound variables demanded tuple select) _ found e in
+        let w = found_of (membership_in (schemas_of creates) bound variables demanded tuple select) _ found e in
         subst (λ all. Named all (tables_of found.0))
         (append_assoc names (select_tables select) (flat_map condition_tables more))
         (memberships_named variables more (made ++ w.0.0 ∷ []) w.0.1 found (names ++ select_tables select)
@@ -181,11 +182,11 @@ module _ (creates : List Create) where
     unfolding entangled_in
     entangled_named entangled found e =
         let names = variables_of entangled in
-        let body = bound_given
+        let body = found_of
         (memberships_from (schemas_of creates) bound names [] none_bound entangled.conditions) _ found e in
-        let offer = bound_given (offer_from names body.0.1 bound no_offer entangled.items) _ found body.2 in
-        let heads = bound_given (heads_from offer.0.terms [] [] entangled.relations) _ found offer.2 in
-        let others = bound_given (others_from names body.0.1 bound [] [] entangled.conditions) _ found heads.2 in
+        let offer = found_of (offer_from names body.0.1 bound no_offer entangled.items) _ found body.2 in
+        let heads = found_of (heads_from offer.0.terms [] [] entangled.relations) _ found offer.2 in
+        let others = found_of (others_from names body.0.1 bound [] [] entangled.conditions) _ found heads.2 in
         subst (λ (f : Entangled Known × Bound).
         Named (flat_map condition_tables entangled.conditions) (tables_of f.0.atoms))
         (one_answer _ found others.2)
@@ -200,10 +201,10 @@ module _ (creates : List Create) where
           → IsRight (statements.Insert insert) form
       unfolding insert_in
       insert_right insert form e =
-          let table = bound_given (table_in (schemas_of creates) insert.table) _ form e in
+          let table = found_of (table_in (schemas_of creates) insert.table) _ form e in
           let columns = table.0.1.columns in
           let kept = demand_given (length insert.values == length columns) (Arity insert.place) _ form table.2 in
-          let row = bound_given (row_from bound [] columns insert.values) _ form kept.1 in
+          let row = found_of (row_from bound [] columns insert.values) _ form kept.1 in
           let here = found_in creates insert.table table.0 table.1 in
           let long : length row.0 ≡ length columns =
           row_long bound columns insert.values row.0 (eqb-true _ _ kept.0) row.1 in
@@ -219,9 +220,9 @@ module _ (creates : List Create) where
           → IsRight (statements.Delete delete) form
       unfolding delete_in
       delete_right delete form e =
-          let table = bound_given (table_in (schemas_of creates) delete.table) _ form e in
+          let table = found_of (table_in (schemas_of creates) delete.table) _ form e in
           let scope = table_scope delete.table.name table.0 in
-          let tests = bound_given (tests_in scope bound delete.tests) _ form table.2 in
+          let tests = found_of (tests_in scope bound delete.tests) _ form table.2 in
           let here = found_in creates delete.table table.0 table.1 in
           subst (IsRight (statements.Delete delete)) (one_answer (forms.Delete table.0.0 tests.0) form tests.2)
           (record {
@@ -235,11 +236,11 @@ module _ (creates : List Create) where
           → IsRight (statements.Update update) form
       unfolding update_in
       update_right update form e =
-          let table = bound_given (table_in (schemas_of creates) update.table) _ form e in
+          let table = found_of (table_in (schemas_of creates) update.table) _ form e in
           let scope = table_scope update.table.name table.0 in
           let columns = table.0.1.columns in
-          let tests = bound_given (tests_in scope bound update.tests) _ form table.2 in
-          let image = bound_given (image_in scope bound columns update.assignments) _ form tests.2 in
+          let tests = found_of (tests_in scope bound update.tests) _ form table.2 in
+          let image = found_of (image_in scope bound columns update.assignments) _ form tests.2 in
           let here = found_in creates update.table table.0 table.1 in
           subst (IsRight (statements.Update update)) (one_answer (forms.Update table.0.0 image.0 tests.0) form image.2)
           (record {
@@ -254,7 +255,7 @@ module _ (creates : List Create) where
           → IsRight (statements.Set setting) found.0
       unfolding set_in
       set_right setting found e =
-          let value = bound_given (expression_in (values_in bound) setting.expression) _ found e in
+          let value = found_of (expression_in (values_in bound) setting.expression) _ found e in
           subst (λ (f : Statement Known × Bound). IsRight (statements.Set setting) f.0) (one_answer _ found value.2)
           (record { reads = none_named; changes = none_named; fits = tt; alike = tt })
 
@@ -262,12 +263,12 @@ module _ (creates : List Create) where
           → statement_in (schemas_of creates) bound statement ≡ Ok (form, after) → IsRight statement form
       unfolding statement_in
       statement_right (statements.Select select) form after e =
-          let w = bound_given (select_in (schemas_of creates) bound select) _ (form, after) e in
+          let w = found_of (select_in (schemas_of creates) bound select) _ (form, after) e in
           subst (λ (f : Statement Known × Bound). IsRight (statements.Select select) f.0)
           (one_answer (forms.Select w.0.0, bound) (form, after) w.2)
           (record { reads = select_named select w.0 w.1; changes = none_named; fits = tt; alike = tt })
       statement_right (statements.Entangled entangled) form after e =
-          let w = bound_given (entangled_in (schemas_of creates) bound entangled) _ (form, after) e in
+          let w = found_of (entangled_in (schemas_of creates) bound entangled) _ (form, after) e in
           subst (λ (f : Statement Known × Bound). IsRight (statements.Entangled entangled) f.0)
           (one_answer (forms.Entangled w.0.0, w.0.1) (form, after) w.2)
           (record {
@@ -277,15 +278,15 @@ module _ (creates : List Create) where
             alike = faithful entangled w.0.0 w.0.1 w.1;
           })
       statement_right (statements.Insert insert) form after e =
-          let w = bound_given (insert_in (schemas_of creates) bound insert) _ (form, after) e in
+          let w = found_of (insert_in (schemas_of creates) bound insert) _ (form, after) e in
           subst (λ (f : Statement Known × Bound). IsRight (statements.Insert insert) f.0)
           (one_answer (w.0, bound) (form, after) w.2) (insert_right insert w.0 w.1)
       statement_right (statements.Delete delete) form after e =
-          let w = bound_given (delete_in (schemas_of creates) bound delete) _ (form, after) e in
+          let w = found_of (delete_in (schemas_of creates) bound delete) _ (form, after) e in
           subst (λ (f : Statement Known × Bound). IsRight (statements.Delete delete) f.0)
           (one_answer (w.0, bound) (form, after) w.2) (delete_right delete w.0 w.1)
       statement_right (statements.Update update) form after e =
-          let w = bound_given (update_in (schemas_of creates) bound update) _ (form, after) e in
+          let w = found_of (update_in (schemas_of creates) bound update) _ (form, after) e in
           subst (λ (f : Statement Known × Bound). IsRight (statements.Update update) f.0)
           (one_answer (w.0, bound) (form, after) w.2) (update_right update w.0 w.1)
       statement_right (statements.Set setting) form after e = set_right setting (form, after) e

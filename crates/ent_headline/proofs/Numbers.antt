@@ -13,8 +13,8 @@ use Rattle.ent_form.specs.declared.catalogue.TableSchema.{TableSchema}
 use Rattle.ent_form.specs.declared.fault.FormFault.TheVariants.{NoTable}
 use Rattle.ent_form.specs.Catalogue.{column_schema, table_schema, schemas_of, table_from, table_named}
 use Rattle.ent_form.specs.Scope.{table_in}
+use Rattle.ent_form.proofs.Heads.{there_of}
 use Rattle.ent_form_laws.specs.Tables.{AreWide}
-use Rattle.ent_form_laws.proofs.Steps.{there_given}
 use Rattle.ent_serializability.specs.Faithful.{table_number}
 
 -- the columns of the table of a number
@@ -106,7 +106,7 @@ pub found_in : (creates : List Create) (table : Identifier) (found : ℕ × Tabl
     → table_in (schemas_of creates) table ≡ Ok found → Found creates table.name found
 found_in creates table found e =
     found_named creates table.name found
-    (there_given (table_named (schemas_of creates) table.name) (NoTable table.place) found e)
+    (there_of (table_named (schemas_of creates) table.name) (NoTable table.place) found e)
 
 -- ---- the rows of a number
 

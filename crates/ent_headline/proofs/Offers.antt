@@ -24,7 +24,8 @@ use Rattle.ent_form.specs.Kinds.{Bound, none_bound}
 use Rattle.ent_form.specs.declared.catalogue.TableSchema.{TableSchema}
 use Rattle.ent_form.specs.declared.fault.FormFault.TheVariants.{Repeated}
 use Rattle.ent_form.specs.declared.script.Plain.{Plain}
-use Rattle.ent_form_laws.proofs.Steps.{one_answer, bound_given, demand_given}
+use Rattle.ent_form.proofs.Heads.{found_of}
+use Rattle.ent_form_laws.proofs.Steps.{one_answer, demand_given}
 use Rattle.ent_plan.specs.Plan.{HasDistinctHeads}
 use Rattle.ent_headline.proofs.Statements.{OfResolved, script_each}
 
@@ -81,10 +82,10 @@ heads_apart terms (relation ∷ more) made out apart e =
 entangled_apart : OfResolved (λ entangled. AreApart entangled.heads)
 unfolding entangled_in names_of
 entangled_apart tables bound tree form e =
-    let body = bound_given (memberships_from tables bound (variables_of tree) [] none_bound tree.conditions) _ form e in
-    let offer = bound_given (offer_from (variables_of tree) body.0.1 bound no_offer tree.items) _ form body.2 in
-    let heads = bound_given (heads_from offer.0.terms [] [] tree.relations) _ form offer.2 in
-    let others = bound_given (others_from (variables_of tree) body.0.1 bound [] [] tree.conditions) _ form heads.2 in
+    let body = found_of (memberships_from tables bound (variables_of tree) [] none_bound tree.conditions) _ form e in
+    let offer = found_of (offer_from (variables_of tree) body.0.1 bound no_offer tree.items) _ form body.2 in
+    let heads = found_of (heads_from offer.0.terms [] [] tree.relations) _ form offer.2 in
+    let others = found_of (others_from (variables_of tree) body.0.1 bound [] [] tree.conditions) _ form heads.2 in
     let made = ap (λ (both : Entangled Known × Bound). both.0.heads) (one_answer _ form others.2) in
     subst AreApart made (heads_apart offer.0.terms tree.relations [] heads.0 tt heads.1)
 

@@ -1,31 +1,20 @@
 -- Results that are accepted are outstanding.
-use Rattle.std.proofs.Common.{◌⊎◌, suc, List, [], ◌∷◌, ◌++◌, refl, sym, subst, inl, inr, arith}
-use Rattle.std.proofs.Common.{Contains}
-use Rattle.ent_protocol.specs.Finish.{Finishes, IsTaken}
+use Rattle.std.proofs.Common.{◌⊎◌, [], inl, inr}
+use Rattle.ent_job.proofs.Taken.{taken_from}
+use Rattle.ent_protocol.specs.Finish.{Finishes}
 use Rattle.ent_protocol.specs.Event.{Reply}
-use Rattle.ent_protocol.specs.Job.{Job, Done}
+use Rattle.ent_protocol.specs.Job.{Done}
 use Rattle.ent_protocol.specs.PoolEvents.{JoinsOrIsStale}
 use Rattle.ent_protocol.specs.State.{State}
 use Rattle.ent_serializability.specs.Present.{LentIsPresent}
 use Rattle.ent_protocol_laws.specs.Lent.{LentStandOnce}
 use Rattle.ent_headline.specs.Outstanding.{IsOutstanding, IsOutstandingTogether, IsHandedBack}
 
-behind : (before more : List Job) (job : Job) → Contains (before ++ job ∷ more) job
-behind [] more job = (0, omega arith, refl)
-behind (other ∷ before) more job =
-    let rest = behind before more job in
-    let low = rest.1 in
-    (suc rest.0, omega (arith, low), rest.2)
-
-was_lent : (job : Job) (jobs left : List Job) → IsTaken job jobs left → Contains jobs job
-was_lent job jobs left taken =
-    subst (λ (all : List Job). Contains all job) (sym taken.is_there) (behind taken.before taken.behind job)
-
 module _ {F : Type 0} (s : State) (once : LentStandOnce s) (present : LentIsPresent s) (done : Done)
     (reply : Reply F) (new : State) where
   pub accepted_one : Finishes s done reply new → IsOutstanding s done ⊎ IsHandedBack s done reply new
   accepted_one (inl step) =
-      let lent = was_lent done.job s.lent step.2.left step.2.taken in
+      let lent = taken_from done.job s.lent step.2.left step.2.taken in
       inl (record {
         single = step.0;
         is_single = step.1;
@@ -39,7 +28,7 @@ module _ {F : Type 0} (s : State) (once : LentStandOnce s) (present : LentIsPres
       → IsOutstandingTogether s done ⊎ IsHandedBack s done reply new
   accepted_together (inl step) =
       let out = step.outstanding in
-      let lent = was_lent done.job s.lent out.left out.taken in
+      let lent = taken_from done.job s.lent out.left out.taken in
       inl (record {
         asked = out.asked;
         is_joint = out.is_joint;

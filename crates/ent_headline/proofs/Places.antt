@@ -12,21 +12,23 @@ use Rattle.ent_form.specs.Catalogue.{schemas_of}
 use Rattle.ent_form.specs.Form.{statements_from, script_in}
 use Rattle.ent_form.specs.Kinds.{Bound, none_bound}
 use Rattle.ent_form.specs.declared.script.Plain.{Plain}
+use Rattle.ent_form.proofs.Heads.{found_of}
 use Rattle.ent_form_laws.specs.Kinds.{AreKinded, HasKinds}
 use Rattle.ent_form_laws.specs.Opened.{opening_tables}
 use Rattle.ent_serializability.specs.History.{History, Replays, AreSerial}
 use Rattle.ent_serializability.specs.SerialState.{IsSerialState, Follows, IsWhole}
 use Rattle.ent_form_laws.specs.Tables.{database_of, HaveDistinctColumns}
-use Rattle.ent_form_laws.proofs.Steps.{one_answer, bound_given}
+use Rattle.ent_form_laws.proofs.Steps.{one_answer}
 use Rattle.ent_protocol.specs.Member.{environment_of}
 use Rattle.ent_protocol.specs.Reached.{IsReached, settled}
 use Rattle.ent_protocol.specs.State.{State, Submitted, Member}
 use Rattle.ent_headline.specs.Resolved.{resolved_forms}
 use Rattle.ent_headline.specs.Kinds.{bound_behind, HasKindsThere, HoldsKinds}
 use Rattle.ent_lists.specs.Elements.{In, of_all, contains_in, in_contains, of_map, all_joined, all_by}
+use Rattle.ent_lists.proofs.Lists.{all_parts}
 use Rattle.ent_headline.proofs.Lists.{numbered_in}
 use Rattle.ent_headline.proofs.Posted.{plain_given}
-use Rattle.ent_headline.proofs.Replayed.{Laws, Stands, run_kept, of_both}
+use Rattle.ent_headline.proofs.Replayed.{Laws, Stands, run_kept}
 use Rattle.ent_headline.proofs.Submitted.{submitted_resolved}
 
 no_kinds : HasKinds none_bound nothing_bound
@@ -110,7 +112,7 @@ statements_given s reached own there =
     let creates = s.opening.tables in
     let resolved = submitted_resolved resolved_forms s own reached (in_contains s.submitted own there) in
     let plain = plain_given (script_in (schemas_of creates) own.script) own.form resolved in
-    let out = bound_given (statements_from (schemas_of creates) none_bound [] own.script.statements) _ plain.0 plain.1
+    let out = found_of (statements_from (schemas_of creates) none_bound [] own.script.statements) _ plain.0 plain.1
     in
     out.1 ∙ ap (λ (all : List (Statement Known)). Ok all)
     (ap (λ (p : Plain). p.statements) (one_answer _ plain.0 out.2) ∙ plain.2)
@@ -122,7 +124,7 @@ kinded_state laws s opens reached state =
     let resolved : (own : Submitted) → In own s.submitted → (out : List (Statement Known))
     × (statements_from (schemas_of creates) none_bound [] own.script.statements ≡ Ok out) =
     λ own at. (own.form, statements_given s reached own at) in
-    let whole = of_both (IsWhole s.submitted) state.committed state.prepared state.whole in
+    let whole = all_parts (IsWhole s.submitted) state.committed state.prepared state.whole in
     let committed =
     all_by (IsWhole s.submitted) (Begins s.submitted) state.committed (of_whole s.submitted) whole.0 in
     let prepared = all_by (IsWhole s.submitted) (Begins s.submitted) state.prepared (of_whole s.submitted) whole.1 in
@@ -134,7 +136,8 @@ kinded_state laws s opens reached state =
     (database_of creates (settled s)) (database_of creates s.tables)
     (all_joined (Begins s.submitted) state.prepared state.others prepared others) earlier.0
     state.stands in
-    let known = (of_both (IsKnown laws creates opens.apart s.submitted resolved) state.prepared state.others now.1).1 in
+    let known =
+    (all_parts (IsKnown laws creates opens.apart s.submitted resolved) state.prepared state.others now.1).1 in
     record {
       tables = record { tables = earlier.0.tables; kinded = earlier.0.kinded; same = earlier.0.is };
       variables = λ member there.

@@ -1,6 +1,7 @@
 -- The statements of the pool are what resolving gave, closed.
 use Rattle.std.proofs.Common.{◌≡◌, Bool, true, false, List, [], ◌∷◌, refl, sym, ap, subst, ◌∙◌}
 use Rattle.std.proofs.Common.{Option, Some, None, Result, Ok, Err, inl, inr, Contains}
+use Rattle.ent_protocol_laws.proofs.Asked.{same_asks}
 use Rattle.ent_value.specs.Refusal.{◌>>=◌}
 use Rattle.ent_value.specs.declared.value.Value.{Value}
 use Rattle.ent_tree.specs.declared.script.End.{End}
@@ -47,9 +48,6 @@ pub record IsResolvedPost (tables : List TableSchema) (member : Posted) : Type 0
 
 -- ---- what it asks
 
-one_asked : (x y : Entangled Value) → Asks x ≡ Asks y → x ≡ y
-one_asked x y e = cc
-
 -- the script of a member that asks, and its statement there
 pub record IsAskedIn (all : List Submitted) (m : Member) (asked : Entangled Value) : Type 0 where
   pub own : Submitted
@@ -63,7 +61,7 @@ statement_asks : (environment : Environment) (statement : Statement Known) (aske
     → (entangled : Entangled Known) × (statement ≡ statements.Entangled entangled)
     × (asked ≡ closed_entangled environment entangled)
 statement_asks environment (statements.Entangled entangled) asked e =
-    (entangled, refl, sym (one_asked (closed_entangled environment entangled) asked e))
+    (entangled, refl, sym (same_asks (closed_entangled environment entangled) asked e))
 statement_asks environment (statements.Select select) asked e = cc
 statement_asks environment (statements.Insert table values) asked e = cc
 statement_asks environment (statements.Delete table tests) asked e = cc

@@ -38,9 +38,10 @@ use Rattle.ent_form.specs.Ordinary.{select_in}
 use Rattle.ent_form.specs.declared.catalogue.TableSchema.{TableSchema}
 use Rattle.ent_form.specs.declared.fault.FormFault.TheVariants.{Arity, WrongKind}
 use Rattle.ent_form.specs.declared.script.Plain.{Plain}
+use Rattle.ent_form.proofs.Heads.{found_of}
 use Rattle.ent_form_laws.proofs.Grounded.{IsDemanded, OfSubselect, OfOther, of_both, items_demanded, others_demanded}
 use Rattle.ent_form_laws.proofs.Noted.{OfVariable, OfVariables, variable_weaker, items_weaker, terms_weaker}
-use Rattle.ent_form_laws.proofs.Steps.{one_answer, bound_given, demand_given}
+use Rattle.ent_form_laws.proofs.Steps.{one_answer, demand_given}
 use Rattle.ent_plan.specs.Ranged.{is_variable, stands_in, IsRanged}
 use Rattle.ent_headline.proofs.Noted.{variable_at}
 use Rattle.ent_headline.proofs.Statements.{OfResolved, script_each}
@@ -101,7 +102,7 @@ module _ (environment : Environment) (names : List Name) where
   member_stands : (bound demanded : Bound) (kind : Kind) (term : TreeTerm) (found : Term Known × Bound)
       → member_in names bound demanded kind term ≡ Ok found → MemberStands demanded term found
   member_stands bound demanded kind (terms.Value value) found e =
-      let w = bound_given (kind_in (values_in bound) kind value) _ found e in
+      let w = found_of (kind_in (values_in bound) kind value) _ found e in
       subst (MemberStands demanded (terms.Value value)) (one_answer (resolved.Known w.0, demanded) found w.2)
       (tt, λ name h. inl h)
   member_stands bound demanded kind (terms.Variable variable) found e =
@@ -122,7 +123,7 @@ module _ (environment : Environment) (names : List Name) where
   members_stand bound [] (term ∷ more) made demanded found l e = absurd (omega (arith, l))
   members_stand bound (kind ∷ kinds) [] made demanded found l e = absurd (omega (arith, l))
   members_stand bound (kind ∷ kinds) (term ∷ more) made demanded found l e =
-      let w = bound_given (member_in names bound demanded kind term) _ found e in
+      let w = found_of (member_in names bound demanded kind term) _ found e in
       let here = member_stands bound demanded kind term w.0 w.1 in
       let rest = members_stand bound kinds more (made ++ w.0.0 ∷ []) w.0.1 found (omega (arith, l)) w.2 in
       let put : (name : Name) → is_of name w.0.0 ≡ true → StandsIn found.0 name =
@@ -151,9 +152,9 @@ module _ (environment : Environment) (names : List Name) where
       → MembershipStands demanded tuple found
   unfolding membership_in
   membership_stands schemas bound demanded tuple select found e =
-      let inner = bound_given (select_in schemas bound select) _ found e in
+      let inner = found_of (select_in schemas bound select) _ found e in
       let kept = demand_given (length tuple.terms == length inner.0.1) (Arity tuple.place) _ found inner.2 in
-      let members = bound_given (members_from names bound [] demanded inner.0.1 tuple.terms) _ found kept.1 in
+      let members = found_of (members_from names bound [] demanded inner.0.1 tuple.terms) _ found kept.1 in
       let stand = members_stand bound inner.0.1 tuple.terms [] demanded members.0 (eqb-true _ _ kept.0) members.1 in
       let membership : Membership Known = record { terms = members.0.0; select = inner.0.0 } in
       let at : (name : Name) → StandsIn members.0.0 name → stands_at name membership ≡ true =
@@ -176,7 +177,7 @@ module _ (environment : Environment) (names : List Name) where
       subst (MembershipsStand demanded [] made) (one_answer (made, demanded) found e)
       (record { kept = λ name h. h; each = tt; demands = λ name h. inl h })
   memberships_stand schemas bound (conditions.InSelect tuple select ∷ more) made demanded found e =
-      let w = bound_given (membership_in schemas bound names demanded tuple select) _ found e in
+      let w = found_of (membership_in schemas bound names demanded tuple select) _ found e in
       let here = membership_stands schemas bound demanded tuple select w.0 w.1 in
       let rest = memberships_stand schemas bound more (made ++ w.0.0 ∷ []) w.0.1 found w.2 in
       let put : (name : Name) → stands_at name w.0.0 ≡ true → StandsAmong found.0 name =
@@ -215,10 +216,10 @@ entangled_ranged : (environment : Environment)
 unfolding entangled_in
 entangled_ranged environment schemas bound tree form e =
     let names = variables_of tree in
-    let body = bound_given (memberships_from schemas bound names [] none_bound tree.conditions) _ form e in
-    let offer = bound_given (offer_from names body.0.1 bound no_offer tree.items) _ form body.2 in
-    let heads = bound_given (heads_from offer.0.terms [] [] tree.relations) _ form offer.2 in
-    let others = bound_given (others_from names body.0.1 bound [] [] tree.conditions) _ form heads.2 in
+    let body = found_of (memberships_from schemas bound names [] none_bound tree.conditions) _ form e in
+    let offer = found_of (offer_from names body.0.1 bound no_offer tree.items) _ form body.2 in
+    let heads = found_of (heads_from offer.0.terms [] [] tree.relations) _ form offer.2 in
+    let others = found_of (others_from names body.0.1 bound [] [] tree.conditions) _ form heads.2 in
     let stand = memberships_stand environment names schemas bound tree.conditions [] none_bound body.0 body.1 in
     let Stands : Name → Type 0 = StandsAmong environment names body.0.0 in
     let stands : (name : Name) → IsDemanded body.0.1 name → Stands name =

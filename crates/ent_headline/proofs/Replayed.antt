@@ -4,6 +4,7 @@ use Rattle.std.proofs.Common.{Option, Some, None, Result, Ok, Err, refl, sym, ap
 use Rattle.std.specs.List.{AllByRecursion}
 use Rattle.std.specs.Option.{option_map}
 use Rattle.std.proofs.lemmas.List.{length-map}
+use Rattle.ent_lists.proofs.Lists.{all_parts}
 use Rattle.ent_value.specs.Refusal.{◌>>=◌}
 use Rattle.ent_value.specs.Value.{kind_of, kinds_of}
 use Rattle.ent_value.specs.declared.value.Kind.{Kind}
@@ -33,9 +34,10 @@ use Rattle.ent_form.specs.Form.{statement_in, statements_from}
 use Rattle.ent_form.specs.Kinds.{Bound}
 use Rattle.ent_form.specs.declared.catalogue.TableSchema.{TableSchema}
 use Rattle.ent_form.specs.declared.fault.FormFault.{FormFault}
+use Rattle.ent_form.proofs.Heads.{found_of}
 use Rattle.ent_form_laws.specs.Kinds.{kinds_numbered, AnswersInKind, AreKinded, HasKinds}
 use Rattle.ent_form_laws.specs.Tables.{database_of, effect_of, Answers, AreWide, HaveDistinctColumns}
-use Rattle.ent_form_laws.proofs.Steps.{one_answer, bound_given}
+use Rattle.ent_form_laws.proofs.Steps.{one_answer}
 use Rattle.ent_headline.specs.Kinds.{bound_behind}
 use Rattle.ent_headline.proofs.FormLaws.{FormLaws}
 
@@ -89,11 +91,6 @@ effect_given creates (Ok over) effect e =
     )
 effect_given creates (Err failure) effect e = cc
 
-pub of_both : {X : Type 0} (P : X → Type 0) (xs ys : List X) → AllByRecursion P (xs ++ ys)
-    → AllByRecursion P xs × AllByRecursion P ys
-of_both P [] ys h = (tt, h)
-of_both P (x ∷ xs) ys h = let rest = of_both P xs ys h.1 in ((h.0, rest.0), rest.1)
-
 -- ---- answers
 
 none_entangled : (form : Statement Known) (environment : Environment) (valuation : Valuation)
@@ -125,7 +122,7 @@ module _ (laws : Laws) (creates : List Create) (apart : HaveDistinctColumns crea
       → IsAnswered (trees.Entangled tree) form valuation
   unfolding statement_in
   asked tree bound after form valuation database environment e stands have grounded =
-      let found = bound_given (entangled_in schemas bound tree) _ (form, after) e in
+      let found = found_of (entangled_in schemas bound tree) _ (form, after) e in
       let there : is_form_grounding (λ value. value) stands.tables (closed_entangled environment found.0.0) valuation
       ≡ true =
       laws.closing environment stands.tables found.0.0 valuation
@@ -237,10 +234,10 @@ module _ (laws : Laws) (creates : List Create) (apart : HaveDistinctColumns crea
       last ran
       grounded =
       let both = same_first operation.statement statement _ _ begin in
-      let w = bound_given (statement_in schemas bound statement) _ out e in
+      let w = found_of (statement_in schemas bound statement) _ out e in
       let own : statement_in schemas bound operation.statement ≡ Ok w.0 =
       subst (λ tree. statement_in schemas bound tree ≡ Ok w.0) (sym both.0) w.1 in
-      let parts = of_both (IsGrounded creates) (seen tx place operation database environment) _ grounded in
+      let parts = all_parts (IsGrounded creates) (seen tx place operation database environment) _ grounded in
       let answers = answered operation.statement bound w.0.1 w.0.0 operation.valuation database environment tx place own
       stands
       have parts.0 in

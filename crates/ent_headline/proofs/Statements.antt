@@ -22,7 +22,8 @@ use Rattle.ent_form.specs.Scope.{table_in, table_scope}
 use Rattle.ent_form.specs.declared.catalogue.TableSchema.{TableSchema}
 use Rattle.ent_form.specs.declared.fault.FormFault.TheVariants.{Arity}
 use Rattle.ent_form.specs.declared.script.Plain.{Plain}
-use Rattle.ent_form_laws.proofs.Steps.{one_answer, bound_given, demand_given}
+use Rattle.ent_form.proofs.Heads.{found_of}
+use Rattle.ent_form_laws.proofs.Steps.{one_answer, demand_given}
 
 -- what holds of each entangled statement that is resolved
 abbrev pub OfResolved : (Entangled Known → Type 0) → Type 0
@@ -43,53 +44,53 @@ module _ (P : Entangled Known → Type 0) (resolved : OfResolved P) where
       → insert_in tables bound insert ≡ Ok form → Holds form
   unfolding insert_in
   insert_holds tables bound insert form e =
-      let table = bound_given (table_in tables insert.table) _ form e in
+      let table = found_of (table_in tables insert.table) _ form e in
       let kept = demand_given (length insert.values == length table.0.1.columns) (Arity insert.place) _ form table.2 in
-      let values = bound_given (row_from bound [] table.0.1.columns insert.values) _ form kept.1 in
+      let values = found_of (row_from bound [] table.0.1.columns insert.values) _ form kept.1 in
       subst Holds (one_answer _ form values.2) tt
 
   delete_holds : (tables : List TableSchema) (bound : Bound) (delete : Delete) (form : Statement Known)
       → delete_in tables bound delete ≡ Ok form → Holds form
   unfolding delete_in
   delete_holds tables bound delete form e =
-      let table = bound_given (table_in tables delete.table) _ form e in
-      let tests = bound_given (tests_in (table_scope delete.table.name table.0) bound delete.tests) _ form table.2 in
+      let table = found_of (table_in tables delete.table) _ form e in
+      let tests = found_of (tests_in (table_scope delete.table.name table.0) bound delete.tests) _ form table.2 in
       subst Holds (one_answer _ form tests.2) tt
 
   update_holds : (tables : List TableSchema) (bound : Bound) (update : Update) (form : Statement Known)
       → update_in tables bound update ≡ Ok form → Holds form
   unfolding update_in
   update_holds tables bound update form e =
-      let table = bound_given (table_in tables update.table) _ form e in
+      let table = found_of (table_in tables update.table) _ form e in
       let scope = table_scope update.table.name table.0 in
-      let tests = bound_given (tests_in scope bound update.tests) _ form table.2 in
-      let image = bound_given (image_in scope bound table.0.1.columns update.assignments) _ form tests.2 in
+      let tests = found_of (tests_in scope bound update.tests) _ form table.2 in
+      let image = found_of (image_in scope bound table.0.1.columns update.assignments) _ form tests.2 in
       subst Holds (one_answer _ form image.2) tt
 
   statement_holds : (tables : List TableSchema) (bound : Bound) (tree : TreeStatement) (form : Statement Known × Bound)
       → statement_in tables bound tree ≡ Ok form → Holds form.0
   unfolding statement_in set_in
   statement_holds tables bound (trees.Select select) form e =
-      let found = bound_given (select_in tables bound select) _ form e in
+      let found = found_of (select_in tables bound select) _ form e in
       subst (λ (f : Statement Known × Bound). Holds f.0) (one_answer _ form found.2) tt
   statement_holds tables bound (trees.Entangled tree) form e =
-      let found = bound_given (entangled_in tables bound tree) _ form e in
+      let found = found_of (entangled_in tables bound tree) _ form e in
       subst (λ (f : Statement Known × Bound). Holds f.0) (one_answer _ form found.2)
       (resolved tables bound tree found.0 found.1)
   statement_holds tables bound (trees.Insert insert) form e =
-      let found = bound_given (insert_in tables bound insert) _ form e in
+      let found = found_of (insert_in tables bound insert) _ form e in
       subst (λ (f : Statement Known × Bound). Holds f.0) (one_answer _ form found.2)
       (insert_holds tables bound insert found.0 found.1)
   statement_holds tables bound (trees.Delete delete) form e =
-      let found = bound_given (delete_in tables bound delete) _ form e in
+      let found = found_of (delete_in tables bound delete) _ form e in
       subst (λ (f : Statement Known × Bound). Holds f.0) (one_answer _ form found.2)
       (delete_holds tables bound delete found.0 found.1)
   statement_holds tables bound (trees.Update update) form e =
-      let found = bound_given (update_in tables bound update) _ form e in
+      let found = found_of (update_in tables bound update) _ form e in
       subst (λ (f : Statement Known × Bound). Holds f.0) (one_answer _ form found.2)
       (update_holds tables bound update found.0 found.1)
   statement_holds tables bound (trees.Set setting) form e =
-      let found = bound_given (expression_in (values_in bound) setting.expression) _ form e in
+      let found = found_of (expression_in (values_in bound) setting.expression) _ form e in
       subst (λ (f : Statement Known × Bound). Holds f.0) (one_answer _ form found.2) tt
 
   -- ---- scripts
@@ -107,14 +108,14 @@ module _ (P : Entangled Known → Type 0) (resolved : OfResolved P) where
       → statements_from tables bound made trees ≡ Ok out → Each out
   statements_holds tables bound made [] out each e = subst Each (one_answer made out e) each
   statements_holds tables bound made (tree ∷ more) out each e =
-      let found = bound_given (statement_in tables bound tree) _ out e in
+      let found = found_of (statement_in tables bound tree) _ out e in
       statements_holds tables found.0.1 (made ++ found.0.0 ∷ []) more out
       (each_put made found.0.0 each (statement_holds tables bound tree found.0 found.1)) found.2
 
   script_holds : (tables : List TableSchema) (script : Script) (plain : Plain) → script_in tables script ≡ Ok plain
       → Each plain.statements
   script_holds tables script plain e =
-      let found = bound_given (statements_from tables none_bound [] script.statements) _ plain e in
+      let found = found_of (statements_from tables none_bound [] script.statements) _ plain e in
       let made = ap (λ (p : Plain). p.statements) (one_answer _ plain found.2) in
       subst Each made (statements_holds tables none_bound [] script.statements found.0 tt found.1)
 

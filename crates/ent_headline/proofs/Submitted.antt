@@ -1,5 +1,5 @@
 -- The form of each script that was submitted is what it resolves to.
-use Rattle.std.proofs.Common.{◌≡◌, ℕ, zero, suc, Bool, true, false, ◌||◌, List, [], ◌∷◌, ◌++◌, refl, sym, subst}
+use Rattle.std.proofs.Common.{◌≡◌, ℕ, zero, suc, Bool, true, false, ◌||◌, List, [], ◌∷◌, refl, sym, subst}
 use Rattle.std.proofs.Common.{Option, Some, None, Result, Ok, Err, inl, inr, Contains}
 use Rattle.std.specs.Prelude.{nat_le, length}
 use Rattle.std.specs.List.{AllByRecursion}
@@ -27,11 +27,7 @@ use Rattle.ent_protocol.specs.Step.{Step}
 use Rattle.ent_protocol.specs.Uses.{statement_uses, entangled_uses, blocker}
 use Rattle.ent_semantics.specs.Entangled.{Valuation}
 use Rattle.ent_lists.specs.Elements.{of_all, contains_in}
-
-all_put : {X : Type 0} (P : X → Type 0) (xs : List X) (x : X) → AllByRecursion P xs → P x
-    → AllByRecursion P (xs ++ x ∷ [])
-all_put P [] x all new = (new, tt)
-all_put P (y ∷ ys) x all new = (all.0, all_put P ys x all.1 new)
+use Rattle.ent_lists.proofs.Lists.{all_behind}
 
 module _ {F : Type 0} (forms : Forms F) where
   abbrev IsResolved : Opening → Submitted → Type 0
@@ -123,7 +119,7 @@ module _ {F : Type 0} (forms : Forms F) where
       → AreResolved s → AreResolved new
   submit_form s script (Ok form) reply new is step h =
       as_is _ new step.1
-      (all_put (IsResolved s.opening) s.submitted (record { script = script; form = form }) h is)
+      (all_behind (IsResolved s.opening) s.submitted (record { script = script; form = form }) h is)
   submit_form s script (Err fault) reply new is step h = as_is s new step.1 h
 
   submit : (full : Bool) (s : State) (script : Script) (reply : Reply F) (new : State)

@@ -15,15 +15,13 @@ use Rattle.ent_history.specs.Account as own
 use Rattle.ent_history.specs.Account.{Account, accounts_from, accounts, commit_number, is_number, committed_as}
 use Rattle.ent_history.specs.Account.{numbers_from, commit_count, in_commit_order}
 use Rattle.ent_lists.specs.Elements.{map_joined}
+use Rattle.ent_lists.proofs.Numbers.{plus_one}
 
 abbrev pub entry_of : Account → Entry
 entry_of account = record { tx = account.tx; answers = account.answers }
 
 abbrev pub fated_of : Account → Fated
 fated_of account = record { tx = account.tx; fate = account.fate }
-
-next : (n : ℕ) → n + 1 ≡ suc n
-next n = omega arith
 
 less : (n m : ℕ) → suc n ≡ suc m → n ≡ m
 less n m e = omega (arith, e)
@@ -35,7 +33,8 @@ fates_same tx [] (one ∷ told) e = absurd (omega (arith, e))
 fates_same tx (script ∷ scripts) [] e = absurd (omega (arith, e))
 fates_same tx (script ∷ scripts) (one ∷ told) e =
     ap (λ more. record { tx = tx; fate = one.fate } ∷ more)
-    (ap (λ n. fates_from n told) (next tx) ∙ fates_same (suc tx) scripts told (less (length told) (length scripts) e))
+    (ap (λ n. fates_from n told) (plus_one tx)
+    ∙ fates_same (suc tx) scripts told (less (length told) (length scripts) e))
 
 entry_same : (number tx : ℕ) (fate : Fate) (answers : List Answer) (more : List Account) (rest : List Entry)
     (a : Account) → a.tx ≡ tx → a.answers ≡ answers → rest ≡ map entry_of more
@@ -60,7 +59,7 @@ entries_same number tx (script ∷ scripts) (one ∷ told) e =
     entry_same number tx one.fate one.answers
     (filter (committed_as number) (accounts_from (suc tx) scripts told)) (entries_of number (tx + 1) told)
     (record { tx = tx; script = script; fate = one.fate; answers = one.answers }) refl refl
-    (ap (λ n. entries_of number n told) (next tx)
+    (ap (λ n. entries_of number n told) (plus_one tx)
     ∙ entries_same number (suc tx) scripts told (less (length told) (length scripts) e))
 
 pub committed_same : (fate : Fate) → has_committed fate ≡ is_some (commit_number fate)
@@ -92,7 +91,7 @@ count_same tx (script ∷ scripts) (one ∷ told) e =
 numbers_same : (first m : ℕ) → range_with_len first m ≡ numbers_from first m
 numbers_same first zero = refl
 numbers_same first (suc m) =
-    ap (λ more. first ∷ more) (ap (λ n. range_with_len n m) (next first) ∙ numbers_same (suc first) m)
+    ap (λ more. first ∷ more) (ap (λ n. range_with_len n m) (plus_one first) ∙ numbers_same (suc first) m)
 
 flat_same : (f : ℕ → List Entry) (g : ℕ → List Account) (ns : List ℕ) → ((n : ℕ) → f n ≡ map entry_of (g n))
     → flat_map f ns ≡ map entry_of (flat_map g ns)

@@ -5,6 +5,7 @@ use Rattle.std.proofs.Common.{◌∷◌, ◌++◌, length, refl, sym, ap, subst,
 use Rattle.std.proofs.Common.{slice_get, nat_lt, nat_le, eqb, is_some, flat_map, filter_map}
 use Rattle.std.specs.List.{cons_option, filter, list_any, IsDistinct}
 use Rattle.std.proofs.lemmas.Map.Steps.{length-le_from_distinct_below}
+use Rattle.std.proofs.lemmas.Bool.{leb-true, not_from_false}
 use Rattle.ent_tree.specs.declared.script.End.{End}
 use Rattle.ent_history.specs.Account.{Account, commit_number, has_committed, is_number, committed_as, numbers_from}
 use Rattle.ent_history.specs.Account.{commit_count, in_commit_order}
@@ -17,7 +18,8 @@ use Rattle.ent_lists.specs.Elements.{In, Pairs, of_all, to_all, and_both, both_a
 use Rattle.ent_lists.specs.Elements.{any_none, same_number, number_itself, other_number, in_flat}
 use Rattle.ent_lists.specs.Elements.{of_filter, to_filter, pairs_filtered, pairs_joined, got_in, pairs_by}
 use Rattle.ent_lists.specs.Elements.{NotBoth, only_one}
-use Rattle.ent_history.proofs.RuleLists.{back, none_first, none_second, both_none}
+use Rattle.ent_lists.proofs.Numbers.{plus_suc}
+use Rattle.ent_history.proofs.RuleLists.{none_first, none_second, both_none}
 
 -- two transactions committed with one number
 abbrev pub NotSame : Account → Account → Type 0
@@ -33,9 +35,6 @@ pub record Fit (count : ℕ) (above : List ℕ) (n : ℕ) (end : End) : Type 0 w
 below_positive : (n : ℕ) → nat_lt 0 n ≡ true → 0 < n
 below_positive n e = grind (arith, rules)
 
-below_most : (n count : ℕ) → nat_le n count ≡ true → n ≤ count
-below_most n count e = grind (arith, rules)
-
 positive_below : (n : ℕ) → 0 < n → nat_lt 0 n ≡ true
 positive_below n e = grind (arith, rules)
 
@@ -50,7 +49,7 @@ fit_of count above n end e =
     let c = and_both (nat_lt 0 n) (nat_le n count) b.0 in
     record {
       positive = below_positive n c.0;
-      most = below_most n count c.1;
+      most = leb-true n count c.1;
       new = turned (list_any (λ other. other == n) above) b.1;
       ends = a.1;
     }
@@ -61,7 +60,7 @@ of_fit count above n end fit =
     both_and (is_next count above n) (commits end)
     (both_and (nat_lt 0 n && nat_le n count) (not (list_any (λ other. other == n) above))
     (both_and (nat_lt 0 n) (nat_le n count) (positive_below n fit.positive) (most_below n count fit.most))
-    (back (list_any (λ other. other == n) above) fit.new))
+    (not_from_false (list_any (λ other. other == n) above) fit.new))
     fit.ends
 
 less_above : (number : Option ℕ) (above : List ℕ) (n : ℕ)
@@ -253,7 +252,7 @@ module _ (all : List Account) (is : IsNumbered all) where
 
 -- ---- those that have committed, in order
 
-committed_is : (n : ℕ) (o : Option ℕ) → is_number n o ≡ true → o ≡ Some n
+pub committed_is : (n : ℕ) (o : Option ℕ) → is_number n o ≡ true → o ≡ Some n
 committed_is n None e = cc
 committed_is n (Some m) e = ap (λ k. Some k) (same_number m n e)
 
@@ -262,9 +261,6 @@ is_committed n o e = ap (is_number n) e ∙ number_itself n
 
 committed_some : (n : ℕ) (o : Option ℕ) → o ≡ Some n → is_some o ≡ true
 committed_some n o e = ap is_some e
-
-later_number : (first j : ℕ) → suc first + j ≡ first + suc j
-later_number first j = omega arith
 
 in_numbers : (first m n : ℕ) → In n (numbers_from first m) → (k : ℕ) × (k < m) × (n ≡ first + k)
 in_numbers first zero n at = absurd at
@@ -328,7 +324,7 @@ module _ (all : List Account) where
         let r = one first low (omega (arith, high)) in
         (λ i. slice_get (r.1 i ++ ordered (suc first) m) (suc k))
         ∙ at_number (suc first) m k a (omega arith) (omega (arith, high)) (omega (arith, less)) at
-        (is ∙ ap (λ n. Some n) (sym (later_number first k)))
+        (is ∙ ap (λ n. Some n) (sym (plus_suc first k)))
 
     of_number : (first m k : ℕ) (a : Account) → 0 < first → first + m ≤ suc (commit_count all)
         → slice_get (ordered first m) k ≡ Some a → In a all × (commit_number a.fate ≡ Some (first + k))
@@ -347,7 +343,7 @@ module _ (all : List Account) where
         let r = one first low (omega (arith, high)) in
         let rest = of_number (suc first) m k a (omega arith) (omega (arith, high))
         ((λ i. slice_get (sym r.1 i ++ ordered (suc first) m) (suc k)) ∙ is) in
-        (rest.0, rest.1 ∙ ap (λ n. Some n) (later_number first k))
+        (rest.0, rest.1 ∙ ap (λ n. Some n) (plus_suc first k))
 
 -- ---- one transaction a number
 

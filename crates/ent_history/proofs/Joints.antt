@@ -2,6 +2,7 @@
 use Rattle.std.proofs.Common.{◌≡◌, ℕ, zero, suc, ◌+◌, ◌==◌, Bool, true, false, not, ◌||◌, ◌&&◌, List, [], ◌∷◌}
 use Rattle.std.proofs.Common.{◌++◌, map, refl, sym, ap, subst, ◌∙◌, inl, inr, arith, Option, Some, None, flat_map}
 use Rattle.std.proofs.Common.{slice_get, append_assoc}
+use Rattle.std.proofs.lemmas.Bool.{not_from_false}
 use Rattle.std.specs.List.{list_all, list_any}
 use Rattle.ent_tree.specs.declared.declaration.Create.{Create}
 use Rattle.ent_tree.specs.declared.script.Statement.{Statement}
@@ -21,7 +22,7 @@ use Rattle.ent_history.proofs.Found.{unless_holds, holds_unless}
 use Rattle.ent_lists.specs.Elements.{In, Pairs, to_map, any_none, any_some, any_in, and_both, both_and, turned, clash}
 use Rattle.ent_lists.specs.Elements.{not_so, same_number, number_itself, in_first, in_second, in_either, pairs_at}
 use Rattle.ent_lists.specs.Elements.{pairs_joined, pairs_across, or_second, map_joined}
-use Rattle.ent_history.proofs.RuleLists.{back, every, of_every, found_in, found, none_first, none_second, both_none}
+use Rattle.ent_history.proofs.RuleLists.{every, of_every, found_in, found, none_first, none_second, both_none}
 
 -- ---- a member at a place
 
@@ -229,7 +230,7 @@ module _ (all : List Account) where
       (of_every (is_right all before) joint.members (λ m at.
       both_and (list_any (is_statement_of m) all) (not (stands_among m.tx m.place before))
       (of_statement m (each m (in_first joint.members (all_members more) m at)))
-      (back (stands_among m.tx m.place before) (not_so (stands_among m.tx m.place before) (λ stands.
+      (not_from_false (stands_among m.tx m.place before) (not_so (stands_among m.tx m.place before) (λ stands.
       let r = any_some (stands_at m.tx m.place) before stands in
       let both = stands_there m.tx m.place r.0 r.2 in
       pairs_across AreApart before (joint.members ++ all_members more) r.0 m once r.1

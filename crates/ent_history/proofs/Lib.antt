@@ -1,5 +1,5 @@
-mod Lists
-mod Opened
+pub mod Lists
+pub mod Opened
 mod Reported
 pub mod RuleLists
 pub mod Alike

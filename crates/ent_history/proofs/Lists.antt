@@ -1,6 +1,6 @@
 -- Lists of lists, and names that are apart.
 use Rattle.std.proofs.Common.{◌≡◌, Bool, true, false, cond, ◌||◌, List, [], ◌∷◌, ◌++◌, map, refl, sym, ap, subst, ◌∙◌}
-use Rattle.std.proofs.Common.{T}
+use Rattle.std.proofs.Common.{T, Some}
 use Rattle.std.specs.Prelude.{◌&&◌}
 use Rattle.std.specs.List.{filter, flat_map, list_any, AllByRecursion}
 use Rattle.std.specs.Cmp.Lexicographic.{slice_cmp, same_text, texts_ties, nat_list_eq_equiv}
@@ -14,6 +14,12 @@ use Rattle.std.proofs.lemmas.List.{append-nil}
 use Rattle.std.proofs.lemmas.List.Concat.{flat_map-append}
 use Rattle.std.proofs.lemmas.List.Elements.{filter-append}
 use Rattle.ent_semantics.specs.Database.{Name, same_name}
+use Rattle.ent_history.specs.Draft.{last_of}
+
+pub last_of-push : {X : Type 0} (front : List X) (x : X) → last_of (front ++ x ∷ []) ≡ Some x
+last_of-push [] x = refl
+last_of-push (y ∷ []) x = refl
+last_of-push (y ∷ z ∷ front) x = last_of-push (z ∷ front) x
 
 -- ---- lists of lists
 

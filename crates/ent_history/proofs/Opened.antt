@@ -5,12 +5,10 @@ use Rattle.std.specs.List.{filter, flat_map, list_any}
 use Rattle.std.specs.FinMap as finite
 use Rattle.std.specs.Ordering.{eq_by_cmp}
 use Rattle.std.proofs.lemmas.List.{append-nil}
-use Rattle.std.proofs.lemmas.Map.Entries.{length-keys_of}
 use Rattle.std.proofs.lemmas.Cmp.{nat_list_cmp_total}
 use Rattle.std.proofs.lemmas.Map.Lookups.{exact_bytes}
 use Rattle.ent_lists.specs.Sets as set
 use Rattle.ent_lists.specs.Laws.{contains-ascending, contains-from_list}
-use Rattle.ent_value.specs.Value.{row_cmp}
 use Rattle.ent_value.specs.declared.value.Value.{Value}
 use Rattle.ent_tree.specs.declared.declaration.Column.{Column}
 use Rattle.ent_tree.specs.declared.declaration.Create.{Create}
@@ -20,23 +18,21 @@ use Rattle.ent_semantics.specs.Database.{Name, opening_database, row_of, same_na
 use Rattle.ent_book.specs.Report.{names_by_bytes, rows_text}
 use Rattle.ent_book.specs.Report2 as book
 use Rattle.ent_book.specs.Report2.{opening_line, opening_table_text, declared_columns}
+use Rattle.ent_book.proofs.Ascending.{count_of_ascending}
 use Rattle.ent_history.specs.Text.{opened_text, opening_text}
 use Rattle.ent_history.specs.Told.{declared_under, opening_row, told_rows, told_opening}
 use Rattle.ent_history.proofs.Lists.{same_each, flat_map-flat_map, filter-flat_map, name_cmp, ties, other_way}
 use Rattle.ent_history.proofs.Lists.{is_same, AreApart, is_in, apart, each_in, of_name, one_of}
 
-pub count_of_ascending : (rows : set.Set row_cmp) → length (set.ascending rows) ≡ set.len rows
-count_of_ascending rows = length-keys_of (finite.entries rows) ∙ sym (finite.len-entries rows)
-
 -- ---- rows
 
-values_again : (values : List Value) → row_of (opening_row [] values) ≡ values
-values_again [] = refl
-values_again (value ∷ values) = ap (λ more. value ∷ more) (values_again values)
+pub row_again : (name : Name) (values : List Value) → row_of (opening_row name values) ≡ values
+row_again name [] = refl
+row_again name (value ∷ values) = ap (λ more. value ∷ more) (row_again name values)
 
-rows_again : (name : Name) (rows : List (List Value)) → map row_of (map (opening_row name) rows) ≡ rows
+pub rows_again : (name : Name) (rows : List (List Value)) → map row_of (map (opening_row name) rows) ≡ rows
 rows_again name [] = refl
-rows_again name (row ∷ rows) = (λ i. values_again row i ∷ map row_of (map (opening_row name) rows))
+rows_again name (row ∷ rows) = (λ i. row_again name row i ∷ map row_of (map (opening_row name) rows))
     ∙ ap (λ more. row ∷ more) (rows_again name rows)
 
 rows_of_name : (wanted name : Name) (rows : List (List Value))

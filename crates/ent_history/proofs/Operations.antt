@@ -25,6 +25,7 @@ use Rattle.ent_history.specs.declared.finding.Thing.TheVariants as thing
 use Rattle.ent_history.proofs.Alike.{equal_answers, answer_itself}
 use Rattle.ent_history.proofs.Found.{unless_holds, holds_unless}
 use Rattle.ent_lists.specs.Elements.{In, all_joined, in_first, in_second, in_either, clash}
+use Rattle.ent_lists.proofs.Numbers.{plus_zero, plus_suc}
 use Rattle.ent_history.proofs.RuleLists.{none_first, none_second, both_none}
 
 -- ---- options
@@ -115,12 +116,6 @@ sees_one tx place (statements.Set setting) valuation d v is = cc (is)
 
 entangled_so : (st : Statement) (entangled : Entangled) → st ≡ statements.Entangled entangled → is_entangled st ≡ true
 entangled_so st entangled e = ap is_entangled e
-
-later_place : (first k : ℕ) → suc first + k ≡ first + suc k
-later_place first k = omega arith
-
-this_place : (first : ℕ) → first ≡ first + 0
-this_place first = omega arith
 
 -- ---- the operations that an oracle's answers make
 
@@ -394,7 +389,7 @@ module _ (declared : List Create) (members : List Placed) where
       record {
         before = 0;
         own = one.own;
-        here = one.here ∙ this_place place;
+        here = one.here ∙ plus_zero place;
         there = ap (λ x. Some x) one.is;
         value = one.value
             ∙ ap (λ b. cond b (grounding_of (member_at members tx place)) []) (entangled_so st s.entangled one.is)
@@ -416,7 +411,7 @@ module _ (declared : List Create) (members : List Placed) where
             record {
               before = suc r.before;
               own = r.own;
-              here = r.here ∙ later_place place r.before;
+              here = r.here ∙ plus_suc place r.before;
               there = r.there;
               value = r.value;
             }
@@ -436,7 +431,7 @@ module _ (declared : List Create) (members : List Placed) where
             (seen_after (statement_meaning declared x (told_valuation tx place x) d v)
             (read_views declared tx (suc place) (told_operations members tx (suc place) sts))) s.0 s.1,
         s.2.own,
-        s.2.here ∙ this_place place,
+        s.2.here ∙ plus_zero place,
       )
   told_read_view tx place (x ∷ sts) d v r runs (suc k) st at is =
       let meaning = statement_meaning declared x (told_valuation tx place x) d v in
@@ -448,7 +443,7 @@ module _ (declared : List Create) (members : List Placed) where
             (seen_after meaning (read_views declared tx (suc place) more)) s.0
             (subst (λ m. In s.0 (seen_after m (read_views declared tx (suc place) more))) (sym on.is) s.1),
         s.2,
-        s.3 ∙ later_place place k,
+        s.3 ∙ plus_suc place k,
       )
 
   -- ---- statements whose answers are those that are told are the told ones

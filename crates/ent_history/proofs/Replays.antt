@@ -24,6 +24,7 @@ use Rattle.ent_history.proofs.Operations.{operations_told}
 use Rattle.ent_history.proofs.Operations.{mapped_some, oracle_of, right_operations, read_view_told, then_some}
 use Rattle.ent_history.proofs.Operations.{told_read_view}
 use Rattle.ent_lists.specs.Elements.{In, all_joined, in_first, in_second, in_either}
+use Rattle.ent_lists.proofs.Lists.{same_first}
 use Rattle.ent_history.proofs.RuleLists.{both_none, none_first, none_second}
 
 commits_is : (end : End) → commits end ≡ true → end ≡ Commit
@@ -38,9 +39,6 @@ in_from : (o : Option Run) (f : Database → List ReadView) (s : ReadView) → I
     → (r : Run) × In s (f r.database)
 in_from (Some r) f s at = (r, at)
 in_from None f s at = absurd at
-
-same_head : {X : Type 0} (x y : X) (xs ys : List X) → x ∷ xs ≡ y ∷ ys → x ≡ y
-same_head x y xs ys e = cc
 
 same_tail : {X : Type 0} (x y : X) (xs ys : List X) → x ∷ xs ≡ y ∷ ys → xs ≡ ys
 same_tail x y xs ys e = cc
@@ -201,7 +199,7 @@ module _ (declared : List Create) (members : List Placed) where
   told [] (a ∷ xs) d all txs own runs are = cc (txs)
   told (t ∷ ts) [] d all txs own runs are = cc (txs)
   told (t ∷ ts) (a ∷ xs) d all txs own runs are =
-      let tx = same_head t.tx a.tx (map (λ (t : Turn). t.tx) ts) (map (λ (a : Account). a.tx) xs) txs in
+      let tx = same_first t.tx a.tx (map (λ (t : Turn). t.tx) ts) (map (λ (a : Account). a.tx) xs) txs in
       let later_txs = same_tail t.tx a.tx (map (λ (t : Turn). t.tx) ts) (map (λ (a : Account). a.tx) xs) txs in
       let script = own t a (inl refl) (inl refl) tx in
       let first = then_some (λ (r : Run). option_map (ran_first r.answers) (scripts_run declared ts r.database))
@@ -252,7 +250,7 @@ module _ (declared : List Create) (members : List Placed) where
             (found_from (account_run declared members a d) (replay_findings declared members xs))
             (right_operations declared members a.tx 1 (told_operations members a.tx 1 a.script.statements) a.answers d
             nothing_bound first.0 alone
-            (same_head first.0.answers a.answers second.0.answers (map (λ (a : Account). a.answers) xs) both) parts.0)
+            (same_first first.0.answers a.answers second.0.answers (map (λ (a : Account). a.answers) xs) both) parts.0)
             (ap (λ o. found_from o (replay_findings declared members xs)) alone
             ∙ more.none
             (same_tail first.0.answers a.answers second.0.answers (map (λ (a : Account). a.answers) xs) both)

@@ -14,9 +14,10 @@ use Rattle.ent_semantics.specs.Database.{Name, Database}
 use Rattle.ent_book.specs.Report as report
 use Rattle.ent_book.specs.Report.{line, rows_text, member_text, fate_text, answers_text, fate_answers, names_by_bytes}
 use Rattle.ent_book.specs.Report2.{grounded_joints_text, grounding_line, scripts_text, report_2_text}
+use Rattle.ent_book.proofs.Ascending.{count_of_ascending}
 use Rattle.ent_history.specs.Text.{transactions_text, joints_text, shown_text, told_member_text, history_text}
 use Rattle.ent_history.specs.Told.{told_fate, told_member, told_joint, shown_table, told_by}
-use Rattle.ent_history.proofs.Opened.{count_of_ascending, same_opening}
+use Rattle.ent_history.proofs.Opened.{same_opening}
 
 tail_of : {number : ℕ} {tx : ℕ} {numbers others : List ℕ} → tx ∷ numbers ≡ number ∷ others → numbers ≡ others
 tail_of e = cc

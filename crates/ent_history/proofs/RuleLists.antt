@@ -1,13 +1,9 @@
 -- Elements of lists that pass a test, and lists that are empty.
-use Rattle.std.proofs.Common.{◌≡◌, ◌⊎◌, Bool, true, false, cond, not, ◌||◌, List, [], ◌∷◌, ◌++◌, refl, sym, ap, ◌∙◌}
+use Rattle.std.proofs.Common.{◌≡◌, ◌⊎◌, Bool, true, false, cond, ◌||◌, List, [], ◌∷◌, ◌++◌, refl, sym, ap, ◌∙◌}
 use Rattle.std.proofs.Common.{inl}
 use Rattle.std.proofs.Common.{inr, Some}
 use Rattle.std.specs.List.{list_any, list_all, find}
 use Rattle.ent_lists.specs.Elements.{In, and_both, both_and}
-
-pub back : (b : Bool) → b ≡ false → not b ≡ true
-back true e = sym e
-back false e = refl
 
 -- ---- each element
 

@@ -1,10 +1,10 @@
 -- Of a legal book nothing is found.
 use Rattle.std.proofs.Common.{◌≡◌, ℕ, suc, ◌+◌, true, List, [], ◌∷◌, ◌++◌, map}
-use Rattle.std.proofs.Common.{refl, sym, ap, subst, ◌∙◌, inl, inr, arith, Some, flat_map, Contains}
+use Rattle.std.proofs.Common.{refl, sym, ap, subst, ◌∙◌, inl, inr, arith, flat_map, Contains}
 use Rattle.std.proofs.lemmas.Simd.{map-map}
+use Rattle.std.proofs.lemmas.Option.{same_Some}
 use Rattle.ent_lists.specs.Sets as set
 use Rattle.ent_tree.specs.declared.declaration.Create.{Create}
-use Rattle.ent_tree.specs.declared.script.Script.{Script}
 use Rattle.ent_tree.specs.declared.script.Statement.TheVariants as statements
 use Rattle.ent_semantics.specs.declared.answer.Fact.{Fact}
 use Rattle.ent_semantics.specs.declared.book.Entry.{Entry}
@@ -44,9 +44,6 @@ use Rattle.ent_lists.specs.Elements.{any_in, contains_in, in_contains, index_pai
 use Rattle.ent_history.proofs.RuleLists.{of_every, both_none}
 use Rattle.ent_history.proofs.Replays.{IsTold, OwnScripts, account_read_view, read_view_account, told}
 use Rattle.ent_history.proofs.Tables.{none_shown, shown_own}
-
-one_script : (x y : Script) → Some x ≡ Some y → x ≡ y
-one_script x y e = cc
 
 module _ (history : History) (formed : IsFormed history) (legal : IsLegal (book history)) where
   abbrev declared : List Create
@@ -94,7 +91,7 @@ module _ (history : History) (formed : IsFormed history) (legal : IsLegal (book 
 
   own_scripts : OwnScripts declared members legal.turns order
   own_scripts t a tt_in at same =
-      one_script t.script a.script
+      same_Some t.script a.script
       (sym (legal.runs.own_scripts t (in_contains legal.turns t tt_in))
       ∙ ap (numbered history.scripts) same
       ∙ own_script history a (in_order_committed all a at).0)

@@ -1,5 +1,4 @@
 pub mod Text
-pub mod Lines
 pub mod Told
 pub mod Parts
 pub mod Draft

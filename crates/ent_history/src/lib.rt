@@ -1,8 +1,7 @@
 //! What a report of version 2 tells.
 //!
 //! A report is text that anyone may have written; a [`History`] is what stands in it, also where that is wrong. The
-//! definitions say its exact text, and at which line each thing stands; the functions here have no body: their
-//! contracts are laws of these definitions.
+//! definitions say its exact text; the functions here have no body: their contracts are laws of these definitions.
 //!
 //! The form of a report of version 2: which line can stand below those that stand above it, and where a text can end.
 //!

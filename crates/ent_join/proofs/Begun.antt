@@ -5,11 +5,12 @@ use Rattle.std.specs.Prelude.{◌==◌, nat_lt, slice_get, slice_index_or}
 use Rattle.std.specs.List.{AllByRecursion}
 use Rattle.std.specs.List.Sorted.{IsStrictlySortedBy}
 use Rattle.std.specs.Option.{option_map}
-use Rattle.std.specs.Ordering.{is_eq, nat_cmp, ordering_then}
+use Rattle.std.specs.Ordering.{nat_cmp, ordering_then}
 use Rattle.std.specs.declared.cmp.Ordering.{Ordering}
 use Rattle.std.specs.declared.cmp.Ordering.TheVariants.{Less, Equal, Greater}
 use Rattle.std.proofs.lemmas.Bool.{eqb-true}
 use Rattle.ent_lists.specs.Elements.{got_on}
+use Rattle.ent_lists.proofs.Orders.{equal_then}
 use borrow.Author.Tests.{ltb-true}
 use Rattle.ent_value.specs.Value.{value_cmp, row_cmp}
 use Rattle.ent_value.specs.Order.{exact_values}
@@ -28,16 +29,6 @@ pub get_there : {X : Type 0} (xs : List X) (i : ℕ) → i < length xs → (x : 
 get_there [] i h = absurd (omega arith)
 get_there (x ∷ xs) zero h = (x, refl)
 get_there (x ∷ xs) (suc i) h = get_there xs i (omega arith)
-
-pub equal_then : (o p : Ordering) → ordering_then o p ≡ Equal → (o ≡ Equal) × (p ≡ Equal)
-equal_then Less p h = cc
-equal_then Equal p h = (refl, h)
-equal_then Greater p h = cc
-
-pub is_equal : (o : Ordering) → is_eq o ≡ true → o ≡ Equal
-is_equal Less h = cc
-is_equal Equal h = refl
-is_equal Greater h = cc
 
 -- a row that begins as a list does begins as what that list begins with
 pub kept_cmp : (beginning rest : List Value) (classes : List ℕ) (row : List Value)

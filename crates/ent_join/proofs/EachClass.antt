@@ -5,6 +5,7 @@ use Rattle.std.specs.Prelude.{Contains}
 use Rattle.std.specs.List.{flat_map}
 use Rattle.std.proofs.lemmas.Bool.{cases_lt}
 use Rattle.std.proofs.lemmas.List.{append-nil}
+use Rattle.ent_lists.proofs.Contained.{contains_none}
 use Rattle.ent_value.specs.Value.{kind_of, kinds_of}
 use Rattle.ent_value.specs.declared.value.Kind.{Kind}
 use Rattle.ent_value.specs.declared.value.Kind.TheVariants as kinds
@@ -161,9 +162,6 @@ one_list class_kinds ks [] kinded = cc
 one_list class_kinds ks (slots ∷ []) kinded = (slots, refl, cc)
 one_list class_kinds ks (slots ∷ others ∷ more) kinded = cc
 
-in_none : {X : Type 0} (x : X) → Contains [] x → ⊥
-in_none x (k, below, is) = omega arith
-
 module _ (plan : Plan) (is : IsPlan plan) (member : Posted) (alone : plan.members ≡ member ∷ [])
     (none_asked : member.statement.posts ≡ []) where
   abbrev variables : List Kind
@@ -182,7 +180,7 @@ module _ (plan : Plan) (is : IsPlan plan) (member : Posted) (alone : plan.member
   free slots only values of_kinds =
       let spread = (is.exact (values ∷ [])
       (ap (λ ks. ks ∷ []) of_kinds ∙ sym (ap (map (λ (m : Posted). m.statement.variables)) alone))).0
-      (λ post inside. absurd (in_none post (subst (λ (posts : List Fact). Contains posts post) (no_posts values)
+      (λ post inside. absurd (contains_none post (subst (λ (posts : List Fact). Contains posts post) (no_posts values)
       inside))) in
       let made : values ∷ [] ≡ map (slot_value spread.0) slots ∷ [] =
       spread.2 ∙ ap (map (map (slot_value spread.0))) only in

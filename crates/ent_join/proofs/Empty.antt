@@ -7,6 +7,7 @@ use Rattle.std.specs.Ordering.{is_eq, ordering_then}
 use Rattle.std.specs.declared.cmp.Ordering.TheVariants.{Equal}
 use Rattle.std.proofs.lemmas.Bool.{eqb-true}
 use Rattle.ent_lists.specs.Elements.{and_both}
+use Rattle.ent_lists.proofs.Orders.{equal_then, is_equal}
 use Rattle.ent_value.specs.Value.{value_cmp}
 use Rattle.ent_value.specs.Order.{exact_values}
 use Rattle.ent_value.specs.declared.value.Value.{Value}
@@ -15,7 +16,7 @@ use Rattle.ent_join.specs.Frame.{are_of_kinds, lets_through, may_hold}
 use Rattle.ent_join.specs.Index.{Indexed, begins_so, begun_cmp, goes_on, known_cmp}
 use Rattle.ent_join.specs.Search.{NonePasses}
 use Rattle.ent_join.specs.declared.frame.Frame.{Frame}
-use Rattle.ent_join.proofs.Begun.{equal_then, get_there, is_equal}
+use Rattle.ent_join.proofs.Begun.{get_there}
 use Rattle.ent_join.proofs.Guiding.{all_kept, any_kept}
 use Rattle.ent_join.proofs.Steps.{value_cmp-self}
 

@@ -7,6 +7,7 @@ use Rattle.std.specs.List.Sorted.{IsStrictlySortedBy}
 use Rattle.std.specs.declared.cmp.Ordering.TheVariants.{Less, Greater}
 use Rattle.std.specs.Ordering.{is_eq, nat_cmp}
 use Rattle.ent_lists.specs.Elements.{and_both, got_on}
+use Rattle.ent_lists.proofs.Orders.{is_equal}
 use Rattle.ent_value.specs.Kinds.{same_kind}
 use Rattle.ent_tree.specs.declared.operand.Comparison.{Comparison}
 use Rattle.ent_tree.specs.declared.operand.Test.{Test}
@@ -24,7 +25,7 @@ use Rattle.ent_join.specs.Index.{candidates_or, candidates_in}
 use Rattle.ent_join.specs.declared.frame.Frame.{Frame}
 use Rattle.ent_join.specs.Frame.{IsFrame, has_class, slot_there, may_hold, lets_through, are_of_kinds}
 use Rattle.ent_join.specs.Frame.{candidates_of}
-use Rattle.ent_join.proofs.Begun.{is_equal, kept_cmp, next_is, next_in_order}
+use Rattle.ent_join.proofs.Begun.{kept_cmp, next_is, next_in_order}
 
 -- ---- one index
 

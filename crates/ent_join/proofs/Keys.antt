@@ -15,6 +15,7 @@ use Rattle.std.proofs.lemmas.Cmp.{eq_by_cmp_equiv}
 use borrow.Author.Tests.{ltb-true, lt-ltb}
 use Rattle.std.proofs.Math.Dec.{eqb}
 use Rattle.ent_lists.specs.Elements.{and_both}
+use Rattle.ent_lists.proofs.Orders.{equal_then, is_equal}
 use Rattle.ent_value.specs.Value.{value_cmp, row_cmp}
 use Rattle.ent_value.specs.Order.{exact_values, rows_total, exact_rows}
 use Rattle.ent_value.specs.declared.value.Value.{Value}
@@ -26,7 +27,7 @@ use Rattle.ent_plan.specs.declared.slot.Slot.TheVariants.{Fixed, Class}
 use Rattle.ent_join.specs.Index.{known_cmp, begun_cmp, begins_so}
 use Rattle.ent_join.specs.Keyed.{class_numbers, value_under, is_found, agree, key_under, keys_under}
 use Rattle.ent_join.specs.Keyed.{IsIndexOf, ascending_classes, index_under}
-use Rattle.ent_join.proofs.Begun.{equal_then, get_there, is_equal}
+use Rattle.ent_join.proofs.Begun.{get_there}
 use Rattle.ent_join.proofs.Deduped.{all_alike, all_members, all_map}
 use Rattle.ent_join.proofs.Steps.{value_cmp-self}
 

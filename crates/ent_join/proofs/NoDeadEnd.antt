@@ -12,6 +12,7 @@ use Rattle.std.proofs.lemmas.Bool.{eqb-true}
 use Rattle.std.proofs.lemmas.List.{length_push}
 use Rattle.ent_lists.specs.Elements.{or_second}
 use Rattle.ent_lists.specs.Sets as set
+use Rattle.ent_lists.proofs.Orders.{equal_then, is_equal}
 use Rattle.ent_value.specs.Value.{kind_of, kinds_of, value_cmp}
 use Rattle.ent_value.specs.Order.{exact_values}
 use Rattle.ent_value.specs.declared.value.Kind.{Kind}
@@ -34,7 +35,7 @@ use Rattle.ent_join.specs.Keyed.{agree, class_numbers, is_class, key_under, keys
 use Rattle.ent_join.specs.Row.{term_kind}
 use Rattle.ent_join.specs.Search.{NoDeadEnds}
 use Rattle.ent_join.specs.declared.frame.Frame.{Frame}
-use Rattle.ent_join.proofs.Begun.{equal_then, get_next, is_equal, less_is, some_suc}
+use Rattle.ent_join.proofs.Begun.{get_next, less_is, some_suc}
 use Rattle.ent_join.proofs.Chosen.{kinds_to}
 use Rattle.ent_join.proofs.Steps.{value_cmp-self}
 

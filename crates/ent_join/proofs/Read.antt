@@ -1,12 +1,12 @@
 -- Which places of a list an index, a test and a kind read.
-use Rattle.std.proofs.Common.{◌≡◌, ◌⊎◌, ℕ, zero, suc, ◌+◌, ◌<◌, ◌≤◌, Bool, true, false, cond, List, [], ◌∷◌, ◌++◌}
+use Rattle.std.proofs.Common.{◌≡◌, ℕ, zero, suc, ◌+◌, ◌<◌, ◌≤◌, Bool, true, false, cond, List, [], ◌∷◌, ◌++◌}
 use Rattle.std.proofs.Common.{Option, Some, None, length, length-append, refl, sym, ap, ◌∙◌, arith, inl, inr}
-use Rattle.std.specs.Prelude.{◌&&◌, ◌==◌, is_some, slice_get}
+use Rattle.std.specs.Prelude.{◌&&◌, ◌==◌, slice_get}
 use Rattle.std.specs.List.{AllByRecursion, filter, list_all, list_any}
 use Rattle.std.specs.Option.{option_map}
 use Rattle.std.specs.Ordering.{is_eq}
 use Rattle.std.proofs.lemmas.Option.{slice_get_past}
-use Rattle.std.proofs.lemmas.Bool.{eq-eqb}
+use Rattle.std.proofs.lemmas.Bool.{eq-eqb, cases_lt}
 use Rattle.ent_lists.specs.Elements.{and_both}
 use Rattle.ent_value.specs.Kinds.{same_kind}
 use Rattle.ent_tree.specs.declared.operand.Test.{Test}
@@ -26,9 +26,6 @@ use Rattle.ent_join.specs.Reason.{Agrees, IsBegun, IsFollowedFor, IsRefusedFor}
 use Rattle.ent_join.specs.Slots.{IsSlotMarked}
 use Rattle.ent_join.proofs.Steps.{get_before, get_seam}
 
-lower_or_not : (a b : ℕ) → (a < b) ⊎ (b ≤ a)
-lower_or_not a b = grind arith
-
 nothing : (b : Bool) → (b && false) ≡ false
 nothing true = refl
 nothing false = refl
@@ -41,7 +38,7 @@ agreed : (marks : List Bool) (values others : List Value) (place : ℕ)
     → (place < length values → IsMarked marks place)
     → slice_get others place ≡ slice_get values place
 agreed marks values others place l agree marked =
-    elim (lower_or_not place (length values)) [
+    elim (cases_lt place (length values)) [
       | inl less ↦ agree place less (marked less)
       | inr past ↦ slice_get_past others place (omega arith) ∙ sym (slice_get_past values place past)
     ]
@@ -61,13 +58,13 @@ all_agreed marks values others (place ∷ places) room l agree marked = (
 unread : (front : List Value) (last : Value) (place : ℕ) → (place ≡ length front → ⊥)
     → slice_get (front ++ last ∷ []) place ≡ slice_get front place
 unread front last place other =
-    elim (lower_or_not place (length front)) [
+    elim (cases_lt place (length front)) [
       | inl less ↦ get_before front (last ∷ []) place less
       | inr past ↦ past_both (after past)
     ]
   where
     after : length front ≤ place → length front < place
-    after past = elim (lower_or_not (length front) place) [
+    after past = elim (cases_lt (length front) place) [
       | inl less ↦ less
       | inr back ↦ absurd (other (omega arith))
     ]
@@ -126,10 +123,6 @@ no_column class (other ∷ classes) h = by (λ k. no_column class classes k) (ot
     by more true is e = cc
     by more false is e =
         (λ same. absurd (let k : (other == class) ≡ true = eq-eqb other class same in cc), more (none_suc _ e))
-
-pub none_there : (column : Option ℕ) → is_some column ≡ false → column ≡ None
-none_there None e = refl
-none_there (Some column) e = cc
 
 -- an index that doesn't have the last class goes on as before
 pub index_unread : (values : List Value) (index : Indexed) (place : ℕ) → place + 1 ≡ length values

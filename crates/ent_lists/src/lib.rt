@@ -2,5 +2,6 @@
 //!
 //! `Elements` has the elements of lists, and what holds of each two of them. `Sets` has the words of sets, over keys in
 //! any order: a set is a value, two sets of the same members are equal, and `ascending` lists the members in their
-//! order. `Laws` has the laws of sets that proofs use, and says why these aren't the library's sets.
+//! order. `Laws` has the laws of sets that proofs use, and says why these aren't the library's sets. The lemmas in
+//! `proofs` are those that proofs of several crates cite and the standard library lacks.
 #![tactic(auto)]

@@ -12,6 +12,7 @@ use Rattle.std.proofs.lemmas.Bool.{le-leb}
 use Rattle.ent_lists.specs.Elements.{shorter}
 use Rattle.ent_lists.specs.Sets as set
 use Rattle.ent_lists.specs.Laws.{contains-from_list, len-from_list}
+use Rattle.ent_lists.proofs.Lists.{map_at}
 use Rattle.ent_value.specs.declared.limits.TheConstants.{MOST_ROWS}
 use Rattle.ent_value.specs.Value.{row_cmp, kinds_of}
 use Rattle.ent_value.specs.Order.{rows_total, exact_rows}
@@ -31,13 +32,6 @@ use Rattle.ent_form.specs.declared.catalogue.TableSchema.{TableSchema}
 use Rattle.ent_form.specs.Catalogue.{table_schema, schemas_of, names_of}
 use Rattle.ent_form_laws.specs.Kinds.{column_kinds, AreKinded}
 use Rattle.ent_form_laws.specs.Opened.{opening_tables}
-
--- a place of a list, seen by f
-map_at : {A B : Type 0} (f : A → B) (xs : List A) (i : ℕ) (x : A) (d : B) → i < length xs → x ≡ get_or xs i x
-    → slice_index_or (map f xs) i d ≡ f x
-map_at f [] i x d lt is = absurd (omega arith)
-map_at f (y ∷ xs) zero x d lt is = ap f (sym is)
-map_at f (y ∷ xs) (suc i) x d lt is = map_at f xs i x d (omega arith) is
 
 -- the rows of a schema's table at first
 abbrev pub rows_at_first : Opening → TableSchema → Rows

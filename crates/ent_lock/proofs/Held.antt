@@ -1,14 +1,14 @@
 -- Which uses a lock table's layout holds.
 use Rattle.std.proofs.Common.{◌≡◌, ◌≢◌, ℕ, zero, suc, ◌+◌, ◌<◌, ◌≤◌, ◌==◌, Bool, true, false, not, ◌&&◌, ◌||◌}
-use Rattle.std.proofs.Common.{if◌then◌else◌, List, [], ◌∷◌, ◌++◌, length, map, take, drop, get_or, set, refl, sym, ap}
-use Rattle.std.proofs.Common.{subst, ◌∙◌, arith, true≢false, ◌⊎◌, inl, inr}
+use Rattle.std.proofs.Common.{if◌then◌else◌, List, [], ◌∷◌, ◌++◌, length, take, drop, get_or, set, refl, sym, ap}
+use Rattle.std.proofs.Common.{subst, ◌∙◌, arith, true≢false, inl, inr}
 use Rattle.std.specs.Prelude.{All, AllPairs, Contains, filter}
 use Rattle.std.specs.Result.{is_err}
 use Rattle.std.specs.List.{flat_map, list_any, insert}
 use Rattle.std.specs.Prelude.{Result, Ok, Err, IfOk, IfErr, OnOk, OnErr}
 use Rattle.std.specs.List.Sorted.{IsSearchInRange, IsBinarySearchResult, IsNonDecreasingBy}
 use Rattle.std.proofs.lemmas.List.Sorted.{searchable_from_sorted}
-use Rattle.std.specs.Ordering.{ordering_index, is_lt, nat_cmp, eq_by_cmp, ordering_then, ordering_reverse}
+use Rattle.std.specs.Ordering.{ordering_index, is_lt, nat_cmp, eq_by_cmp, ordering_reverse}
 use Rattle.std.specs.Cmp.{IsTotalOrder, Equal-is, both_ways}
 use Rattle.std.specs.Cmp.Lexicographic.{slice_cmp}
 use Rattle.std.specs.declared.cmp.Ordering.{Ordering}
@@ -16,14 +16,17 @@ use Rattle.std.specs.declared.cmp.Ordering.TheVariants.{Less, Equal, Greater}
 use Rattle.std.specs.FinSet as finite
 use Rattle.std.proofs.lemmas.Cmp.{on_total, then_total, nat_cmp_total, nat_list_cmp_total, tied_itself}
 use Rattle.std.proofs.lemmas.Map.Lookups.{exact_unsigned, exact_bytes}
-use Rattle.std.specs.Prelude.{nat_lt}
-use Rattle.std.proofs.lemmas.Bool.{ltb-true, ltb-false, eqb-true, eq-eqb}
+use Rattle.std.proofs.lemmas.Bool.{eqb-true, eq-eqb, cases_lt}
 use Rattle.std.proofs.lemmas.List.{length-map, get_or-map, get_or_default, map-set, set-get_or, map-append, take-map}
 use Rattle.std.proofs.lemmas.List.{drop-map, take_more_set, take_more, drop_more, drop-set-lt}
 use Rattle.std.proofs.lemmas.List.Elements.{All-append, All-cons, All-take, All-drop, All-nil, Contains-append_right}
 use Rattle.std.proofs.lemmas.List.Kept.{AllPairs-cons}
 use Rattle.std.proofs.lemmas.List.Folds.{list_any-append, list_any_none}
+use Rattle.std.proofs.Math.Bool.{or_assoc, or-false}
 use Rattle.ent_lists.specs.Elements.{and_both, not_so}
+use Rattle.ent_lists.specs.Laws.{any_map}
+use Rattle.ent_lists.proofs.Truth.{or_swap}
+use Rattle.ent_lists.proofs.Orders.{equal_then}
 use Rattle.ent_lock.specs.declared.mode.Mode.{Mode}
 use Rattle.ent_lock.specs.declared.mode.Mode.TheVariants.{Shared, Exclusive}
 use Rattle.ent_lock.specs.declared.holders.Holder.{Holder}
@@ -39,12 +42,7 @@ pub use_total : IsTotalOrder use_cmp
 use_total = then_total (on_total (λ u. u.holder) nat_cmp_total)
     (then_total (on_total (λ u. u.table) nat_list_cmp_total) (on_total (λ u. mode_rank u.mode) nat_cmp_total))
 
-both_equal : (a b : Ordering) → ordering_then a b ≡ Equal → (a ≡ Equal) × (b ≡ Equal)
-both_equal Less b e = cc
-both_equal Equal b e = (refl, e)
-both_equal Greater b e = cc
-
-same_mode : (a b : Mode) → mode_rank a ≡ mode_rank b → a ≡ b
+pub same_mode : (a b : Mode) → mode_rank a ≡ mode_rank b → a ≡ b
 same_mode Shared Shared e = refl
 same_mode Shared Exclusive e = absurd (omega arith)
 same_mode Exclusive Shared e = absurd (omega arith)
@@ -52,8 +50,8 @@ same_mode Exclusive Exclusive e = refl
 
 pub use_exact : (x y : Use) → use_cmp x y ≡ Equal → x ≡ y
 use_exact x y e =
-    let first = both_equal _ _ e in
-    let second = both_equal _ _ first.1 in
+    let first = equal_then _ _ e in
+    let second = equal_then _ _ first.1 in
     let holder : x.holder ≡ y.holder = exact_unsigned x.holder y.holder first.0 in
     let table : x.table ≡ y.table = exact_bytes x.table y.table second.0 in
     let mode : x.mode ≡ y.mode =
@@ -75,24 +73,11 @@ same_uses s t is = finite.same_set use_total use_exact s t is
 
 -- ---- tests of lists
 
-any-map : {X Y : Type 0} (p : Y → Bool) (f : X → Y) (xs : List X) → list_any p (map f xs) ≡ list_any (λ x. p (f x)) xs
-any-map p f [] = refl
-any-map p f (x ∷ xs) = ap (λ b. p (f x) || b) (any-map p f xs)
-
 any-flat_map : {X Y : Type 0} (p : Y → Bool) (f : X → List Y) (xs : List X)
     → list_any p (flat_map f xs) ≡ list_any (λ x. list_any p (f x)) xs
 any-flat_map p f [] = refl
 any-flat_map p f (x ∷ xs) = list_any-append p (f x) (flat_map f xs)
     ∙ ap (λ b. list_any p (f x) || b) (any-flat_map p f xs)
-
-or_swap : (a b c : Bool) → (a || (b || c)) ≡ (b || (a || c))
-or_swap true true c = refl
-or_swap true false c = refl
-or_swap false b c = refl
-
-or_assoc : (a b c : Bool) → ((a || b) || c) ≡ (a || (b || c))
-or_assoc true b c = refl
-or_assoc false b c = refl
 
 -- one element passes where a does, or where it did
 any-set_more : {X : Type 0} (p : X → Bool) (a : Bool) (xs : List X) (i : ℕ) (y : X) → i < length xs
@@ -119,11 +104,7 @@ any-alone : {X : Type 0} (p : X → Bool) (xs : List X) (i : ℕ) → i < length
     → list_any p xs ≡ p (get_or xs i d)
 any-alone p [] i within e d = absurd (omega arith)
 any-alone p (x ∷ xs) zero within e d =
-    ap (λ b. p x || b) (list_any_none p xs (λ j d' later. e (suc j) d' (omega arith) (omega arith))) ∙ or_false (p x)
-  where
-    or_false : (a : Bool) → (a || false) ≡ a
-    or_false true = refl
-    or_false false = refl
+    ap (λ b. p x || b) (list_any_none p xs (λ j d' later. e (suc j) d' (omega arith) (omega arith))) ∙ or-false (p x)
 any-alone p (x ∷ xs) (suc i) within e d =
     (λ k. e 0 x (omega arith) (omega arith) k || any-alone p xs i (omega arith)
     (λ j d' later other. e (suc j) d' (omega arith) (omega arith)) d k)
@@ -196,12 +177,6 @@ has_in_other key q t apart = other_table q (key t.table) t.holders.items apart
 
 -- ---- names
 
-below_or : (i j : ℕ) → (i < j) ⊎ (j ≤ i)
-below_or i j = elim (nat_lt i j) as (λ b. nat_lt i j ≡ b → (i < j) ⊎ (j ≤ i)) [
-  | true ↦ λ e. inl (ltb-true i j e)
-  | false ↦ λ e. inr (ltb-false i j e)
-] refl
-
 key_at-get_or : {T : Type 0} (key : T → List ℕ) (ts : List (TableUses T)) (i : ℕ) (d : TableUses T) → i < length ts
     → key_at key ts i ≡ (key (get_or ts i d).table)
 key_at-get_or key ts i d within = get_or-map (λ (t : TableUses _). (key t.table)) ts i d [] within
@@ -218,7 +193,7 @@ length-keys_of key ts = length-map ts (λ t. (key t.table))
 keys_apart : {T : Type 0} (key : T → List ℕ) (ts : List (TableUses T)) → IsByKey key ts → (i j : ℕ) → i < length ts
     → j < length ts → j ≢ i → key_at key ts i ≢ key_at key ts j
 keys_apart key ts h i j in_i in_j apart same =
-    elim (below_or i j) [
+    elim (cases_lt i j) [
       | inl below ↦ less_apart (key_at key ts i) (key_at key ts j)
           (h i j [] (omega arith) (omega (arith, length-keys_of key ts))) same
       | inr above ↦ less_apart (key_at key ts j) (key_at key ts i)
@@ -240,7 +215,7 @@ pub held_nowhere : {T : Type 0} (key : T → List ℕ) (ts : List (TableUses T))
     → IsGapFor key ts q.table i → list_any (has_in key q) ts ≡ false
 held_nowhere key ts q i gap =
     list_any_none (has_in key q) ts (λ k d within. has_in_other key q (get_or ts k d) (λ same.
-    elim (below_or k i) [
+    elim (cases_lt k i) [
       | inl below ↦ less_apart (key_at key ts k) q.table (gap.lower_before k below)
           (sym (same ∙ sym (key_at-get_or key ts k d within)))
       | inr above ↦ less_apart q.table (key_at key ts k) (gap.higher_after k above within)
@@ -251,10 +226,6 @@ held_nowhere key ts q i gap =
 
 abbrev pub the_use : ℕ → List ℕ → Mode → Use
 the_use tx table mode = record { holder = tx; table = table; mode = mode }
-
-or_nothing : (a : Bool) → (a || false) ≡ a
-or_nothing true = refl
-or_nothing false = refl
 
 or_comm : (a b : Bool) → (a || b) ≡ (b || a)
 or_comm true true = refl
@@ -291,7 +262,7 @@ any_uses-push q table hs h =
     let uses = λ (k : Holder). the_use k.holder table k.mode in
     ap (list_any (is_use q)) (map-append uses hs (h ∷ []))
     ∙ list_any-append (is_use q) (uses_in table hs) (the_use h.holder table h.mode ∷ [])
-    ∙ ap (λ b. list_any (is_use q) (uses_in table hs) || b) (or_nothing (is_use q (the_use h.holder table h.mode)))
+    ∙ ap (λ b. list_any (is_use q) (uses_in table hs) || b) (or-false (is_use q (the_use h.holder table h.mode)))
     ∙ or_comm (list_any (is_use q) (uses_in table hs)) (is_use q (the_use h.holder table h.mode))
 
 -- a table with the same holders
@@ -371,7 +342,7 @@ inserted_use key ts i t table h name one =
     contains-held_in key (insert ts i t) q
     ∙ any-insert (has_in key q) ts i t
     ∙ ap (λ b. b || list_any (has_in key q) ts) (any_uses q table (key t.table) (h ∷ []) t.holders.items name one
-    ∙ or_nothing (is_use q u))
+    ∙ or-false (is_use q u))
     ∙ ap (λ b. is_use q u || b) (sym (contains-held_in key ts q))
     ∙ sym (finite.contains-insert use_total (held_in key ts) u q))
 
@@ -401,12 +372,12 @@ removed_use key ts i t t' table tx mode keep by_name at here same_name keeps les
     ∙ any-set_less (has_in key q) (not (is_use q u)) ts i t' at.in_range
     (λ d.
     any_uses q table (key t'.table) (filter keep t.holders.items) t'.holders.items (same_name ∙ name) less
-    ∙ any-map (is_use q) (λ (h : Holder). the_use h.holder table h.mode) (filter keep t.holders.items)
+    ∙ any_map (is_use q) (λ (h : Holder). the_use h.holder table h.mode) (filter keep t.holders.items)
     ∙ any-filter (λ (h : Holder). is_use q (the_use h.holder table h.mode)) keep (not (is_use q u))
     (λ h same. ap (λ (v : Use). not (is_use v u)) (is_use-true q (the_use h.holder table h.mode) same) ∙ sym (keeps h))
     t.holders.items
     ∙ ap (λ b. not (is_use q u) && b)
-    (sym (any-map (is_use q) (λ (h : Holder). the_use h.holder table h.mode) t.holders.items)
+    (sym (any_map (is_use q) (λ (h : Holder). the_use h.holder table h.mode) t.holders.items)
     ∙ any_uses q (key t.table) table t.holders.items t.holders.items (sym name) refl
     ∙ ap (has_in key q) (sym (read_here ts i t at.in_range here d))))
     (λ j d within other. is_use_of_other key q u (get_or ts j d)
@@ -576,7 +547,7 @@ is_held_of : (tx : ℕ) (table : List ℕ) (mode : Mode) (hs : List Holder)
 is_held_of tx table mode hs =
     any_agree (is_holder tx mode) (λ (h : Holder). is_use (the_use tx table mode) (the_use h.holder table h.mode))
     (λ h. same_holder tx mode table h ∙ is_use_symm (the_use h.holder table h.mode) (the_use tx table mode)) hs
-    ∙ sym (any-map (is_use (the_use tx table mode)) (λ (h : Holder). the_use h.holder table h.mode) hs)
+    ∙ sym (any_map (is_use (the_use tx table mode)) (λ (h : Holder). the_use h.holder table h.mode) hs)
 
 -- whether a transaction holds a table is seen among the table's holders
 pub is_held_here : {T : Type 0} (key : T → List ℕ) (ts : List (TableUses T)) (i : ℕ) (t : TableUses T) (table : List ℕ)
@@ -619,10 +590,10 @@ pub dropped_table : {T : Type 0} (key : T → List ℕ) (members : List ℕ) (q 
 dropped_table key members q t t' same_name less =
     let uses = λ (h : Holder). the_use h.holder (key t.table) h.mode in
     any_uses q (key t.table) (key t'.table) (filter (is_not_of members) t.holders.items) t'.holders.items same_name less
-    ∙ any-map (is_use q) uses (filter (is_not_of members) t.holders.items)
+    ∙ any_map (is_use q) uses (filter (is_not_of members) t.holders.items)
     ∙ any-filter (λ (h : Holder). is_use q (uses h)) (is_not_of members) (is_use_of_none members q)
     (λ h same. ap (is_use_of_none members) (is_use-true q (uses h) same)) t.holders.items
-    ∙ ap (λ b. is_use_of_none members q && b) (sym (any-map (is_use q) uses t.holders.items))
+    ∙ ap (λ b. is_use_of_none members q && b) (sym (any_map (is_use q) uses t.holders.items))
 
 next_same : {T : Type 0} (xs ys : List (TableUses T)) (i : ℕ) (d : TableUses T) → i < length xs → i < length ys
     → drop i xs ≡ drop i ys → (get_or xs i d ≡ get_or ys i d) × (drop (i + 1) xs ≡ drop (i + 1) ys)
@@ -646,11 +617,11 @@ dropped_more key ts old i t t' q b in_ts in_old same here step so_far =
     ap (list_any (has_in key q)) (take_more_set ts i t' in_ts)
     ∙ list_any-append (has_in key q) (take i ts) (t' ∷ [])
     ∙ (λ k. so_far k || (step k || false))
-    ∙ ap (λ x. (b && list_any (has_in key q) (take i old)) || x) (or_nothing (b && has_in key q t))
+    ∙ ap (λ x. (b && list_any (has_in key q) (take i old)) || x) (or-false (b && has_in key q t))
     ∙ and_or b (list_any (has_in key q) (take i old)) (has_in key q t)
     ∙ ap (λ x. b && x)
     (ap (λ x. list_any (has_in key q) (take i old) || x)
-    (sym (or_nothing (has_in key q t)) ∙ ap (λ (u : TableUses _). has_in key q u || false)
+    (sym (or-false (has_in key q t)) ∙ ap (λ (u : TableUses _). has_in key q u || false)
     (here ∙ (next_same ts old i t in_ts in_old same).0))
     ∙ sym (list_any-append (has_in key q) (take i old) (get_or old i t ∷ []))
     ∙ sym (ap (list_any (has_in key q)) (take_more old i t in_old)))
@@ -688,7 +659,3 @@ on_err_then (Err e) P Q f h = f h
 pub no_err : {T E : Type 0} (r : Result T E) (P : Type 0) → is_err r ≡ false → OnErr r P
 no_err (Ok x) P e = tt
 no_err (Err x) P e = absurd (true≢false e)
-
-pub not_new : (b : Bool) → not b ≡ false → b ≡ true
-not_new true e = refl
-not_new false e = absurd (true≢false e)

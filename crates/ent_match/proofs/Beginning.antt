@@ -32,7 +32,7 @@ module _ (firsts : List (Option ℕ)) (place last : ℕ) where
   pub is_marked : FirstIs firsts last place → IsMarked (map (begins_at place) firsts) last
   is_marked is = marks_at firsts place last ∙ (ap (begins_at place) is ∙ eq-eqb place place refl)
 
-some_within : (firsts : List (Option ℕ)) (place first : ℕ) → FirstIs firsts place first → place < length firsts
+pub some_within : (firsts : List (Option ℕ)) (place first : ℕ) → FirstIs firsts place first → place < length firsts
 some_within [] place first is = let e : None ≡ Some first = is in absurd cc
 some_within (own ∷ firsts) zero first is = omega arith
 some_within (own ∷ firsts) (suc place) first is = let below = some_within firsts place first is in omega arith

@@ -8,6 +8,7 @@ use Rattle.std.specs.declared.cmp.Ordering.{Ordering}
 use Rattle.std.specs.declared.cmp.Ordering.TheVariants.{Less, Equal, Greater}
 use Rattle.std.proofs.lemmas.Bool.{cases_lt}
 use Rattle.std.proofs.lemmas.Option.{slice_get_within}
+use Rattle.ent_lists.proofs.Numbers.{cmp_above}
 use Rattle.ent_coordination.specs.Pool.{Posted, CanMeet, IsSafe, Unsafe, HasHeadFor, IsUnsafeAt, unsafe_cmp}
 use Rattle.ent_coordination.specs.Pool.{IsFirstUnsafe}
 use Rattle.ent_match.specs.Fault.{IsByNumber, MeetsOne, IsOwner, AreTwoLeast, IsFaultOf, IsSafeBut, AreSoFar}
@@ -125,9 +126,6 @@ pub of_pool : (pool : List Posted) (n : ℕ) → length pool ≤ n
     → (asker : Posted) (index : ℕ) → Contains pool asker → MeetsOne pool asker index
 of_pool pool n all each asker index asks = each asker index (front_all pool n asker all asks)
 
-greater : (a b : ℕ) → b < a → nat_cmp a b ≡ Greater
-greater a b less = sym (nat_cmp_is a b Greater less)
-
 tied : (a b : ℕ) → a ≡ b → nat_cmp a b ≡ Equal
 tied a b same = sym (nat_cmp_is a b Equal same)
 
@@ -140,25 +138,26 @@ not_less_later o r is later = subst (λ z. ordering_then z r ≢ Less) (sym is) 
 at_least : (a b : ℕ) → b ≤ a → nat_cmp a b ≢ Less
 at_least a b le =
     elim (cases_lt b a) [
-      | inl less ↦ (λ e. let g = greater a b less in cc)
+      | inl less ↦ (λ e. let g = cmp_above a b less in cc)
       | inr not_less ↦ (λ e. let t = tied a b (omega arith) in cc)
     ]
 
 -- faults of the same post, and of later ones, are no less
 module _ (other fault : Unsafe) where
   later_asker : fault.asker < other.asker → unsafe_cmp other fault ≢ Less
-  later_asker less = not_less_first _ _ (greater other.asker fault.asker less)
+  later_asker less = not_less_first _ _ (cmp_above other.asker fault.asker less)
 
   later_index : other.asker ≡ fault.asker → fault.index < other.index → unsafe_cmp other fault ≢ Less
   later_index same less =
-      not_less_later _ _ (tied other.asker fault.asker same) (not_less_first _ _ (greater other.index fault.index less))
+      not_less_later _ _ (tied other.asker fault.asker same)
+      (not_less_first _ _ (cmp_above other.index fault.index less))
 
   later_first : other.asker ≡ fault.asker → other.index ≡ fault.index → fault.first < other.first
       → unsafe_cmp other fault ≢ Less
   later_first same post less =
       not_less_later _ _ (tied other.asker fault.asker same)
       (not_less_later _ _ (tied other.index fault.index post)
-      (not_less_first _ _ (greater other.first fault.first less)))
+      (not_less_first _ _ (cmp_above other.first fault.first less)))
 
   later_second : other.asker ≡ fault.asker → other.index ≡ fault.index → other.first ≡ fault.first
       → fault.second ≤ other.second

@@ -6,16 +6,17 @@ use Rattle.std.specs.Prelude.{Contains}
 use Rattle.std.proofs.lemmas.Bool.{cases_Bool}
 use Rattle.std.proofs.lemmas.List.{get_or_default}
 use Rattle.std.proofs.lemmas.List.Kept.{AllPairs-cons}
-use Rattle.ent_coordination.specs.Component.{IsComponent, IsInRemainder, AreJoined, AreLinked}
+use Rattle.ent_lists.proofs.Contained.{contains_cases, contains_later, contains_first}
+use Rattle.ent_coordination.specs.Component.{IsComponent, IsInRemainder, AreLinked}
 use Rattle.ent_coordination.specs.Component.{AreLinkedIn}
 use Rattle.ent_coordination.specs.Pool.{Posted}
+use Rattle.ent_coordination.proofs.Linked.{linked_end}
 use Rattle.ent_match.specs.declared.link.Link.{Link}
 use Rattle.ent_match.specs.Fault.{IsByNumber}
 use Rattle.ent_match.specs.Links.{IsMarked, PathIn, Closed}
 use Rattle.ent_match.specs.Remainder.{At}
 use Rattle.ent_match.specs.Components.{flipped, IsKept, AreJoinsOf, both_ways, joins_of, marked_in, AreLinkedBy}
 use Rattle.ent_match.proofs.Linked.{one_place}
-use Rattle.ent_match.proofs.Placed.{contains_cases, contains_first, contains_later}
 
 -- ---- joins
 
@@ -134,13 +135,6 @@ marked_ordered (false ∷ marks) (m ∷ pool) ordered =
     marked_ordered marks pool (λ i j d less within. ordered (suc i) (suc j) d (omega arith) (omega arith))
 
 -- ---- a class is a component
-
-linked_end : (pool : List Posted) (n : ℕ) (a b c : Posted) → AreLinkedIn n pool a b → AreJoined b c
-    → IsInRemainder pool c
-    → AreLinkedIn (suc n) pool a c
-linked_end pool zero a b c same joined remains = (c, subst (λ z. AreJoined z c) (sym same) joined, remains, refl)
-linked_end pool (suc n) a b c (next, first, in_rest, rest) joined remains =
-    (next, first, in_rest, linked_end pool n next b c rest joined remains)
 
 module _ (pool : List Posted) (joins : List Link) (removed : List Bool) (s : AreLinkedBy pool joins removed) where
   member_at : (k : ℕ) → k < length pool → (d : Posted) → At pool k (get_or pool k d)

@@ -2,7 +2,7 @@
 use Rattle.std.proofs.Common.{◌≡◌, ℕ, zero, suc, ◌<◌, Bool, true, false, not, cond, List, [], ◌∷◌}
 use Rattle.std.proofs.Common.{length, get_or, sym, ◌∙◌, ap, subst, arith, inl, inr, true≢false}
 use Rattle.std.specs.Prelude.{Contains, ◌==◌, if◌then◌else◌}
-use Rattle.std.proofs.lemmas.Bool.{cases_lt, cases_Bool, eq-eqb, eqb-true}
+use Rattle.std.proofs.lemmas.Bool.{cases_lt, cases_Bool, eq-eqb, eqb-true, not_from_false}
 use Rattle.std.proofs.lemmas.Option.{slice_get_within}
 use Rattle.ent_lists.specs.Elements.{turned}
 use Rattle.ent_coordination.specs.Component.{IsInRemainder, IsSupported}
@@ -67,9 +67,6 @@ remaining_at (b ∷ removed) (m ∷ pool) ordered (suc k) x (below, is) =
           (omega arith, is)
     ]
 
-not_false : (b : Bool) → b ≡ false → not b ≡ true
-not_false b is = ap not is
-
 module _ (pool : List Posted) (ordered : IsByNumber pool) (safe : IsSafe pool) (links : List Link)
     (start removed : List Bool)
     (s : IsStart pool links start) (c : Closes links start removed) where
@@ -123,7 +120,8 @@ module _ (pool : List Posted) (ordered : IsByNumber pool) (safe : IsSafe pool) (
         offer.owner.owner,
         (
           inside_at offer.from offer.owner.owner offer.owner.offers,
-          remaining_at removed pool ordered offer.from offer.owner.owner offer.owner.offers ∙ not_false _ owner_remains,
+          remaining_at removed pool ordered offer.from offer.owner.owner offer.owner.offers
+              ∙ not_from_false _ owner_remains,
         ),
         offer.owner.meets,
       )
@@ -136,7 +134,11 @@ module _ (pool : List Posted) (ordered : IsByNumber pool) (safe : IsSafe pool) (
         remain = λ place member at remains. record {
           among = remaining removed pool;
           supported = supported;
-          is_in = (inside_at place member at, remaining_at removed pool ordered place member at ∙ not_false _ remains);
+          is_in = (
+            inside_at place member at,
+            remaining_at removed pool ordered place member at
+                ∙ not_from_false _ remains,
+          );
         };
         gone = λ place member at marked. let r = c.grows.reached place marked in
             gone_along r.steps r.first place member r.path r.marked at;

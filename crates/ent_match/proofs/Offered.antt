@@ -1,13 +1,14 @@
 -- Offers that are put down, and the offers of a pool.
-use Rattle.std.proofs.Common.{◌≡◌, ◌≢◌, ◌⊎◌, ◌∙◌, ℕ, ◌+◌, ◌<◌, ◌≤◌, Bool, true, not, List, [], ◌∷◌, ◌++◌}
+use Rattle.std.proofs.Common.{◌≡◌, ◌≢◌, ◌⊎◌, ◌∙◌, ℕ, ◌+◌, ◌<◌, ◌≤◌, true, not, List, [], ◌∷◌, ◌++◌}
 use Rattle.std.proofs.Common.{filter, take, length, get_or, refl, sym, ap, subst, arith, inl, inr}
 use Rattle.std.proofs.Common.{Option, Some, None}
 use Rattle.std.specs.Prelude.{◌==◌, Contains, MatchOption}
-use Rattle.std.proofs.lemmas.Bool.{cases_Bool, cases_lt}
+use Rattle.std.proofs.lemmas.Bool.{cases_Bool, cases_lt, eq-eqb}
 use Rattle.std.proofs.lemmas.List.Elements.{Contains-push_cases, Contains-push, Contains-append_left, Contains-get_or}
 use Rattle.std.proofs.lemmas.Option.{slice_get_within}
-use Rattle.ent_lists.specs.Elements.{clash, turned, or_first, or_second, or_cases, not_so, same_number, number_itself}
-use Rattle.ent_lists.specs.Elements.{other_number, differ, of_filter, to_filter, contains_in, in_contains}
+use Rattle.ent_lists.specs.Elements.{clash, turned, or_first, or_second, or_cases, not_so, same_number}
+use Rattle.ent_lists.specs.Elements.{other_number, differ}
+use Rattle.ent_lists.proofs.Contained.{to_filtered, of_filtered}
 use Rattle.ent_coordination.specs.Pool.{Posted, CanMeet, IsSafe}
 use Rattle.ent_match.specs.declared.offers.Offer.{Offer}
 use Rattle.ent_match.specs.Fault.{HasNoOwner, IsByNumber, IsSafeBut}
@@ -138,14 +139,11 @@ own_cases tx offer is =
       | inr one ↦ inr (same_number offer.owner tx one)
     ]
 
-equal : (a b : ℕ) → a ≡ b → (a == b) ≡ true
-equal a b same = subst (λ n. (a == n) ≡ true) same (number_itself a)
-
 pub own_asker : (tx : ℕ) (offer : Offer) → offer.asker ≡ tx → is_of tx offer ≡ true
-own_asker tx offer same = or_first (offer.asker == tx) (offer.owner == tx) (equal offer.asker tx same)
+own_asker tx offer same = or_first (offer.asker == tx) (offer.owner == tx) (eq-eqb offer.asker tx same)
 
 pub own_owner : (tx : ℕ) (offer : Offer) → offer.owner ≡ tx → is_of tx offer ≡ true
-own_owner tx offer same = or_second (offer.asker == tx) (offer.owner == tx) (equal offer.owner tx same)
+own_owner tx offer same = or_second (offer.asker == tx) (offer.owner == tx) (eq-eqb offer.owner tx same)
 
 own_or_other : (tx : ℕ) (offer : Offer) → (is_of tx offer ≡ true) ⊎ (is_of_others tx offer ≡ true)
 own_or_other tx offer = elim (cases_Bool (is_of tx offer)) [ inl own ↦ inl own | inr other ↦ inr (ap not other) ]
@@ -158,17 +156,6 @@ of_others : (tx : ℕ) (offer : Offer) → offer.asker ≢ tx → offer.owner �
 of_others tx offer asker owner =
     ap not (not_so (is_of tx offer)
     (λ is. elim (own_cases tx offer is) [ inl same ↦ asker same | inr same ↦ owner same ]))
-
--- ---- what a filter keeps
-
-pub in_filter : {X : Type 0} (p : X → Bool) (xs : List X) (x : X) → Contains (filter p xs) x
-    → Contains xs x × (p x ≡ true)
-in_filter p xs x inside =
-    let r = of_filter p xs x (contains_in (filter p xs) x inside) in (in_contains xs x r.0, r.1)
-
-pub into_filter : {X : Type 0} (p : X → Bool) (xs : List X) (x : X) → Contains xs x → p x ≡ true
-    → Contains (filter p xs) x
-into_filter p xs x inside passes = in_contains (filter p xs) x (to_filter p xs x (contains_in xs x inside) passes)
 
 -- ---- a new statement
 
@@ -204,12 +191,12 @@ module _ (pool : List Posted) (one : Posted) where
       → AreOffersBut pool one.tx (filter (is_of_others one.tx) new)
   left_offers old new are grow offer = (
     (λ inside.
-        let kept = in_filter (is_of_others one.tx) new offer inside in
+        let kept = of_filtered (is_of_others one.tx) new offer inside in
         elim (grow.sound offer kept.0) [
           | inl before ↦ (are offer).0 before
           | inr between ↦ one_way one.tx offer kept.1 (between_own offer between)
         ]),
-    (λ both. into_filter (is_of_others one.tx) new offer (grow.kept offer ((are offer).1 both)) both.1),
+    (λ both. to_filtered (is_of_others one.tx) new offer (grow.kept offer ((are offer).1 both)) both.1),
   )
 
   module _ (ordered : IsByNumber pool) (is_in : Contains pool one) where
@@ -343,7 +330,7 @@ pub left_over : (pool : List Posted) (tx : ℕ) (offers : List Offer) → AreOff
     → AreOffers (filter (is_of_other tx) pool) (filter (is_of_others tx) offers)
 left_over pool tx offers are offer = (
   (λ inside.
-      let kept = in_filter (is_of_others tx) offers offer inside in
+      let kept = of_filtered (is_of_others tx) offers offer inside in
       let h = (are offer).0 kept.0 in
       record {
         asker = h.asker;
@@ -355,8 +342,8 @@ left_over pool tx offers are offer = (
         meets = h.meets;
       }),
   (λ h.
-      let asks = in_filter (is_of_other tx) pool h.asker h.asks in
-      let offers_it = in_filter (is_of_other tx) pool h.partner h.offers in
+      let asks = of_filtered (is_of_other tx) pool h.asker h.asks in
+      let offers_it = of_filtered (is_of_other tx) pool h.partner h.offers in
       let whole : IsOffered pool offer = record {
         asker = h.asker;
         asks = asks.0;
@@ -366,7 +353,7 @@ left_over pool tx offers are offer = (
         partner_is = h.partner_is;
         meets = h.meets;
       } in
-      into_filter (is_of_others tx) offers offer ((are offer).1 whole)
+      to_filtered (is_of_others tx) offers offer ((are offer).1 whole)
       (of_others tx offer
       (λ e. differ h.asker.tx tx (turned (h.asker.tx == tx) asks.1) (h.asker_is ∙ e))
       (λ e. differ h.partner.tx tx (turned (h.partner.tx == tx) offers_it.1) (h.partner_is ∙ e)))),
@@ -374,7 +361,7 @@ left_over pool tx offers are offer = (
   where
     stays : (member : Posted) → Contains pool member → member.tx ≢ tx → Contains (filter (is_of_other tx) pool) member
     stays member inside other =
-        into_filter (is_of_other tx) pool member inside (ap not (other_number member.tx tx other))
+        to_filtered (is_of_other tx) pool member inside (ap not (other_number member.tx tx other))
 
 -- ---- the owner of a head
 

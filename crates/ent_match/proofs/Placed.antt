@@ -8,6 +8,7 @@ use Rattle.std.proofs.lemmas.List.{get_or_default}
 use Rattle.std.proofs.lemmas.List.Elements.{All-nil, All-cons, All-head, All-tail, All-contains, All-filter}
 use Rattle.std.proofs.lemmas.List.Elements.{All-contains_itself}
 use Rattle.std.proofs.lemmas.List.Kept.{AllPairs-cons, AllPairs-filter}
+use Rattle.ent_lists.proofs.Contained.{contains_cases, contains_later, contains_first}
 use Rattle.ent_coordination.specs.Pool.{Posted, IsSafe, IsUnsafeAt, IsFirstUnsafe, HasHeadFor, Unsafe}
 use Rattle.ent_match.specs.Fault.{IsByNumber, IsSafeBut}
 use Rattle.ent_match.specs.Posting.{HasNone, Adds, IsPlaceFor}
@@ -23,16 +24,6 @@ at-insert [] zero x d h = refl
 at-insert (y ∷ xs) zero x d h = refl
 at-insert [] (suc i) x d h = absurd (omega arith)
 at-insert (y ∷ xs) (suc i) x d h = at-insert xs i x d (omega arith)
-
-pub contains_cases : {X : Type 0} (y : X) (ys : List X) (x : X) → Contains (y ∷ ys) x → (y ≡ x) ⊎ Contains ys x
-contains_cases y ys x (zero, below, is) = inl is
-contains_cases y ys x (suc k, below, is) = inr (k, omega arith, is)
-
-pub contains_later : {X : Type 0} (y : X) (ys : List X) (x : X) → Contains ys x → Contains (y ∷ ys) x
-contains_later y ys x (k, below, is) = (suc k, omega arith, is)
-
-pub contains_first : {X : Type 0} (y : X) (ys : List X) (x : X) → y ≡ x → Contains (y ∷ ys) x
-contains_first y ys x is = (0, omega arith, is)
 
 from_insert : (xs : List Posted) (i : ℕ) (m x : Posted) → i ≤ length xs → Contains (insert xs i m) x
     → Contains xs x ⊎ (m ≡ x)

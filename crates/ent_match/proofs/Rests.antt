@@ -4,6 +4,7 @@ use Rattle.std.proofs.Common.{get_or, refl, sym, ◌∙◌, ap, arith, true≢fa
 use Rattle.std.specs.Prelude.{◌==◌, IsTrue}
 use Rattle.std.proofs.lemmas.Bool.{eq-eqb, eqb-true}
 use Rattle.std.proofs.lemmas.List.{append_assoc, append-nil}
+use Rattle.ent_lists.proofs.Numbers.{plus_one}
 use Rattle.ent_coordination.specs.Pool.{Posted}
 use Rattle.ent_match.specs.Components.{begins_at, marked_in}
 use Rattle.ent_match.specs.Links.{IsMarked}
@@ -18,9 +19,6 @@ marks_at (first ∷ firsts) place (suc k) = marks_at firsts place k
 -- those from a place on
 abbrev pub rest_of : List Bool → ℕ → List Posted → List Posted
 rest_of marks n pool = marked_in (drop n marks) (drop n pool)
-
-one : (n : ℕ) → n + 1 ≡ suc n
-one n = omega arith
 
 nothing : (marks : List Bool) → marked_in marks [] ≡ []
 nothing [] = refl
@@ -51,11 +49,11 @@ rest_passed (b ∷ marks) (m ∷ pool) (suc n) unmarked = rest_passed marks pool
 pub rest_more : (marks : List Bool) (pool : List Posted) (n : ℕ) (o : Posted) → n < length pool → o ≡ get_or pool n o
     → IsMarked marks n → rest_of marks n pool ≡ o ∷ rest_of marks (n + 1) pool
 rest_more marks pool n o below is marked =
-    rest_next marks pool n o below is marked ∙ ap (λ k. o ∷ rest_of marks k pool) (sym (one n))
+    rest_next marks pool n o below is marked ∙ ap (λ k. o ∷ rest_of marks k pool) (sym (plus_one n))
 
 pub rest_same : (marks : List Bool) (pool : List Posted) (n : ℕ) → get_or marks n false ≡ false
     → rest_of marks n pool ≡ rest_of marks (n + 1) pool
-rest_same marks pool n unmarked = rest_passed marks pool n unmarked ∙ ap (λ k. rest_of marks k pool) (sym (one n))
+rest_same marks pool n unmarked = rest_passed marks pool n unmarked ∙ ap (λ k. rest_of marks k pool) (sym (plus_one n))
 
 -- there is none behind the last
 pub rest_none : (marks : List Bool) (pool : List Posted) (n : ℕ) → length pool ≤ n → rest_of marks n pool ≡ []
@@ -132,7 +130,7 @@ pub decides_not : (asked whole rest more : List Posted) (n : ℕ) (o : Posted) �
     → (drop n asked ≡ o ∷ drop (n + 1) asked → ⊥) → Decides rest n asked whole → whole ≡ asked → ⊥
 decides_not asked whole rest more n o is differs decides same =
     let starts : drop n asked ≡ o ∷ more = sym (decides.there same) ∙ is in
-    let tail : more ≡ drop (n + 1) asked = next_of asked n o more starts ∙ ap (λ k. drop k asked) (sym (one n)) in
+    let tail : more ≡ drop (n + 1) asked = next_of asked n o more starts ∙ ap (λ k. drop k asked) (sym (plus_one n)) in
     differs (starts ∙ ap (λ xs. o ∷ xs) tail)
 
 pub decides_same : (asked whole rest more : List Posted) (n : ℕ) → rest ≡ more → Decides rest n asked whole

@@ -23,14 +23,12 @@ AreSo terms values =
 one_value : (a b : Value) → Some a ≡ Some b → a ≡ b
 one_value a b e = cc
 
-value_itself : (value : Value) → eq_by_cmp value_cmp value value ≡ true
-value_itself value = (eq_by_cmp_equiv values_total).refl value
-
 terms_of_one : (demanded offered : Option Value) (value : Value)
     → ((own : Value) → demanded ≡ Some own → value ≡ own) → ((own : Value) → offered ≡ Some own → value ≡ own)
     → may_be_one demanded offered ≡ true
 terms_of_one (Some known) (Some other) value first second =
-    ap (λ (v : Value). eq_by_cmp value_cmp known v) (sym (second other refl) ∙ first known refl) ∙ value_itself known
+    ap (λ (v : Value). eq_by_cmp value_cmp known v) (sym (second other refl) ∙ first known refl)
+    ∙ (eq_by_cmp_equiv values_total).refl known
 terms_of_one (Some known) None value first second = refl
 terms_of_one None offered value first second = refl
 

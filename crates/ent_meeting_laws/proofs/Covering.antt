@@ -17,6 +17,7 @@ use Rattle.ent_semantics.specs.Entangled.{Valuation, condition_posts, head_terms
 use Rattle.ent_semantics.specs.Entangled.{term_worth, variable_value, written_variables}
 use Rattle.ent_semantics.specs.Term.{known_value as worth_of, no_value}
 use Rattle.std.specs.Prelude.{unwrap_or}
+use Rattle.std.proofs.lemmas.Simd.{map-map}
 use Rattle.ent_meetings.specs.Known.{known_term, known_value}
 use Rattle.ent_meetings.specs.Party.{TextView, condition_demands, offered_in, view_demands, view_offers}
 use Rattle.ent_meetings.specs.declared.pattern.Pattern.{Pattern}
@@ -62,10 +63,6 @@ module _ {X : Type 0} (known : X → Option Value) (worth : X → Value) where
       (record { relation = relation; values = map worth xs })
   row_covered relation so xs = record { relation = refl; as_long = as_long xs; known = known_so so xs }
 
-map_twice : {X Y Z : Type 0} (f : Y → Z) (g : X → Y) (xs : List X) → map f (map g xs) ≡ map (λ x. f (g x)) xs
-map_twice f g [] = refl
-map_twice f g (x ∷ xs) = ap (λ zs. f (g x) ∷ zs) (map_twice f g xs)
-
 -- ---- a statement
 
 module _ (view : TextView) (environment : Environment) (valuation : Valuation) (agrees : Agrees view.known environment) where
@@ -79,7 +76,7 @@ module _ (view : TextView) (environment : Environment) (valuation : Valuation) (
       (record { relation = relation.name; values = map worth (head_terms view.entangled) })
   relation_covered relation =
       subst (λ (values : List Value). Covers (offered_in view relation) (record { relation = relation.name; values = values }))
-      (sym (map_twice worth (λ (item : EntangledItem). item.term) view.entangled.items))
+      (sym (map-map worth (λ (item : EntangledItem). item.term) view.entangled.items))
       (row_covered (λ (item : EntangledItem). known_term view.known item.term) (λ (item : EntangledItem). worth item.term)
       relation.name (λ item value is. term_known view.known environment variables item.term value agrees is)
       view.entangled.items)

@@ -1,10 +1,11 @@
 -- What members of a run have passed was met in their group.
-use Rattle.std.proofs.Common.{◌≡◌, ◌⊎◌, ℕ, zero, suc, ◌==◌, ◌&&◌, true, List, [], ◌∷◌, ◌++◌, map, Option, Some, None}
+use Rattle.std.proofs.Common.{◌≡◌, ◌⊎◌, ℕ, zero, suc, ◌==◌, ◌&&◌, true, List, [], ◌∷◌, ◌++◌, map, Option, Some}
 use Rattle.std.proofs.Common.{Bool, Contains, AllPairs, slice_get, refl, sym, ap, subst, ◌∙◌, inl, inr}
-use Rattle.std.specs.List.{AllByRecursion, cons_option, filter, filter_map, list_any}
+use Rattle.std.specs.List.{AllByRecursion, filter, list_any}
 use Rattle.ent_lists.specs.Elements.{In, Pairs, and_both, any_in, any_some, contains_in, in_contains, in_either, in_flat}
 use Rattle.ent_lists.specs.Elements.{in_first, in_second, index_pairs, nth_in, number_itself, of_all, of_filter, of_map}
 use Rattle.ent_lists.specs.Elements.{same_number, to_filter, to_map}
+use Rattle.ent_lists.proofs.Lists.{of_filter_map, to_filter_map}
 use Rattle.ent_tree.specs.declared.script.Script.{Script}
 use Rattle.ent_tree.specs.declared.script.Statement.TheVariants as statements
 use Rattle.ent_semantics.specs.declared.book.JointAnswer.{JointAnswer}
@@ -71,31 +72,6 @@ module _ (s : State) (serial : IsSerialState s) where
       (serial.prepared ++ serial.others) serial.distinct) x.1 y.1
       (ap (λ (m : Member). m.tx) (sym x.2) ∙ same ∙ ap (λ (m : Member). m.tx) y.2) in
       x.2 ∙ ap (λ (h : History). h.member) is ∙ sym y.2
-
--- ---- lists of what is there
-
-of_filter_map : {X Y : Type 0} (f : X → Option Y) (xs : List X) (y : Y) → In y (filter_map f xs)
-    → (x : X) × In x xs × (f x ≡ Some y)
-of_filter_map f [] y at = absurd at
-of_filter_map f (x ∷ xs) y at = by (f x) refl at (λ later. of_filter_map f xs y later)
-  where
-    by : (o : Option _) → f x ≡ o → In y (cons_option o (filter_map f xs))
-        → (In y (filter_map f xs) → (z : _) × In z xs × (f z ≡ Some y))
-        → (z : _) × In z (x ∷ xs) × (f z ≡ Some y)
-    by (Some own) is (inl same) rest = (x, inl refl, is ∙ ap Some (sym same))
-    by (Some own) is (inr later) rest = let r = rest later in (r.0, inr r.1, r.2)
-    by None is later rest = let r = rest later in (r.0, inr r.1, r.2)
-
-to_filter_map : {X Y : Type 0} (f : X → Option Y) (xs : List X) (x : X) (y : Y) → In x xs → f x ≡ Some y
-    → In y (filter_map f xs)
-to_filter_map f [] x y at is = absurd at
-to_filter_map f (z ∷ xs) x y (inl same) is =
-    subst (λ (o : Option _). In y (cons_option o (filter_map f xs))) (sym is ∙ ap f same) (inl refl)
-to_filter_map f (z ∷ xs) x y (inr at) is = by (f z) (to_filter_map f xs x y at is)
-  where
-    by : (o : Option _) → In y (filter_map f xs) → In y (cons_option o (filter_map f xs))
-    by (Some own) later = inr later
-    by None later = later
 
 -- ---- joint answers
 

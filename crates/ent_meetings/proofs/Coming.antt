@@ -7,6 +7,7 @@ use Rattle.std.proofs.lemmas.List.{append-nil}
 use Rattle.std.proofs.lemmas.List.Elements.{filter_map-append}
 use Rattle.std.proofs.lemmas.List.Sums.{AllPass-from_list_all, sum_by-append, sum_by-cons}
 use Rattle.ent_lists.specs.Elements.{In, and_both, any_none, in_contains, in_either, in_first, neither, same_number, turned}
+use Rattle.ent_lists.proofs.Lists.{of_index, index_all}
 use Rattle.ent_meetings.specs.PartyMeeting.{offers, ways}
 use Rattle.ent_meetings.specs.Pattern.{may_meet}
 use Rattle.ent_meetings.specs.declared.party.Party.{Party}
@@ -14,7 +15,7 @@ use Rattle.ent_meetings.specs.declared.pattern.Pattern.{Pattern}
 use Rattle.ent_meetings.specs.Group.{demands_of, is_served_once, may_come, serves}
 use Rattle.ent_meetings.specs.Waiting.{Waiting, named, party_at}
 use Rattle.ent_meetings.specs.Widening.{IsServed, IsWidened}
-use Rattle.ent_meetings.proofs.Waiters.{all_in, in_all, within_by}
+use Rattle.ent_meetings.proofs.Waiters.{within_by}
 
 -- the ways of one more party are added
 pub ways_joined : (parties : List Party) (party : Party) (demand : Pattern)
@@ -59,7 +60,7 @@ module _ (waiting : Waiting) (tickets : List ℕ) (ticket : ℕ) (party : Party)
         let tested : (d : Pattern) → Bool = λ (d : Pattern). ways (named waiting tickets ++ party ∷ []) d == 1 in
         ap (λ (ps : List Party). ways ps demand) named_joined
         ∙ same_number (ways (named waiting tickets ++ party ∷ []) demand) 1
-        (in_all (λ (d : Pattern). (ways (named waiting tickets ++ party ∷ []) d == 1) ≡ true) party.demands demand
+        (of_index (λ (d : Pattern). (ways (named waiting tickets ++ party ∷ []) d == 1) ≡ true) party.demands demand
         (AllPass-from_list_all (λ (d : Pattern). ways (named waiting tickets ++ party ∷ []) d == 1) party.demands parts.0) there)
 
     served : IsServed waiting (tickets ++ ticket ∷ []) ticket
@@ -67,16 +68,18 @@ module _ (waiting : Waiting) (tickets : List ℕ) (ticket : ℕ) (party : Party)
       waits = subst IsSome (sym at) refl;
       once = subst (λ (who : Option Party). IfSome who (λ (p : Party).
           All (λ (d : Pattern). ways (named waiting (tickets ++ ticket ∷ [])) d ≡ 1) p.demands)) (sym at)
-          (all_in (λ (d : Pattern). ways (named waiting (tickets ++ ticket ∷ [])) d ≡ 1) party.demands once);
+          (index_all (λ (d : Pattern). ways (named waiting (tickets ++ ticket ∷ [])) d ≡ 1) party.demands once);
     }
 
     -- the set is wider
     pub comes : IsWidened waiting tickets (tickets ++ ticket ∷ [])
     comes = record {
       kept = within_by tickets (tickets ++ ticket ∷ []) (λ t there. in_first tickets (ticket ∷ []) t there);
-      ways = all_in (λ (d : Pattern). ways (named waiting (tickets ++ ticket ∷ [])) d ≡ ways (named waiting tickets) d)
+      ways = index_all
+          (λ (d : Pattern). ways (named waiting (tickets ++ ticket ∷ [])) d ≡ ways (named waiting tickets) d)
           (demands_of (named waiting tickets)) as_before;
-      others = all_in (λ (t : ℕ). Contains tickets t ⊎ IsServed waiting (tickets ++ ticket ∷ []) t) (tickets ++ ticket ∷ [])
+      others = index_all (λ (t : ℕ). Contains tickets t ⊎ IsServed waiting (tickets ++ ticket ∷ []) t)
+          (tickets ++ ticket ∷ [])
           (λ t there.
           elim (in_either tickets (ticket ∷ []) t there) [
             | inl a ↦ inl (in_contains tickets t a)

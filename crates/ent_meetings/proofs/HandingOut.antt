@@ -3,6 +3,7 @@ use Rattle.std.proofs.Common.{◌≡◌, ◌++◌, ◌∷◌, [], ℕ, List, map
 use Rattle.std.proofs.Common.{◌⊎◌, inl, inr}
 use Rattle.std.specs.Global.{Vec}
 use Rattle.ent_lists.specs.Elements.{in_either, in_first, in_second, in_contains, contains_in, map_joined}
+use Rattle.ent_lists.proofs.Lists.{of_index, index_all}
 use Rattle.ent_meetings.specs.PartyMeeting.{IsClear}
 use Rattle.ent_meetings.specs.Meeting.{HasOneOf, IsMeeting, IsWithin}
 use Rattle.ent_meetings.specs.Search.{AreCleared, IsStand, IsTaken, found_of}
@@ -12,7 +13,6 @@ use Rattle.ent_meetings.specs.Waiting.{Waiting, named}
 use Rattle.ent_meetings.specs.declared.search.Search.{Search}
 use Rattle.ent_meetings.proofs.Passed.{passed_found}
 use Rattle.ent_meetings.proofs.Stands.{still}
-use Rattle.ent_meetings.proofs.Waiters.{all_in, in_all}
 
 lists : List (Vec ℕ) → List (List ℕ)
 lists vectors = map (λ vector. vector.items) vectors
@@ -44,9 +44,9 @@ module _ (waiting : Waiting) (old : Search) (right : IsStand waiting old) (found
   still_right = record {
     root = right.root;
     meetings = subst (All (IsMeeting waiting old.root)) (sym is)
-        (all_in (IsMeeting waiting old.root) (found_of old ++ meeting ∷ []) (λ one at.
+        (index_all (IsMeeting waiting old.root) (found_of old ++ meeting ∷ []) (λ one at.
         elim (in_either (found_of old) (meeting ∷ []) one at) [
-          | inl a ↦ in_all (IsMeeting waiting old.root) (found_of old) one right.meetings a
+          | inl a ↦ of_index (IsMeeting waiting old.root) (found_of old) one right.meetings a
           | inr b ↦ elim b [ inl same ↦ subst (IsMeeting waiting old.root) (sym same) meets | inr bad ↦ absurd bad ]
         ]));
     stand = subst (λ (sets : List (List ℕ)). Stand waiting old.root sets old.is_clear old.is_cut old.chosen.items old.last) (sym is)

@@ -5,12 +5,12 @@ use Rattle.std.specs.BTreeMap.{is_at}
 use Rattle.std.specs.Option.{option_map_or}
 use Rattle.std.specs.Ordering.{nat_cmp}
 use Rattle.std.proofs.lemmas.Bool.{cases_eq, ne_eqb}
+use Rattle.ent_lists.proofs.Numbers.{cmp_equal}
 use Rattle.ent_meetings.specs.declared.party.Party.{Party}
 use Rattle.ent_meetings.specs.declared.pattern.Pattern.{Pattern}
 use Rattle.ent_meetings.specs.Keys.{have_key}
 use Rattle.ent_meetings.specs.Postings.{IsPosted, Posts, Postings, Unposts, has}
 use Rattle.ent_meetings.specs.Waiting.{Waiting, party_at}
-use Rattle.ent_meetings.proofs.Posted.{same_number}
 
 -- what those who wait are posted under, after a change at one ticket
 abbrev pub PartyAt : ℕ → Option Party → Waiting → Waiting → Type 0
@@ -25,14 +25,14 @@ module _ (patterns : Party → List Pattern) (before after : Waiting) (old new :
   here change at =
       at ticket
       ∙ ap (λ (b : Bool). cond b change (party_at before ticket))
-      (same_number ticket ticket ∙ eq-eqb ticket ticket refl)
+      (cmp_equal ticket ticket ∙ eq-eqb ticket ticket refl)
 
   there : (change : Option Party) → PartyAt ticket change before after → (other : ℕ) → (ticket ≡ other → ⊥)
       → party_at after other ≡ party_at before other
   there change at other apart =
       at other
       ∙ ap (λ (b : Bool). cond b change (party_at before other))
-      (same_number ticket other ∙ ne_eqb ticket other apart)
+      (cmp_equal ticket other ∙ ne_eqb ticket other apart)
 
   pub posted_new : party_at before ticket ≡ None → PartyAt ticket (Some party) before after → IsPosted patterns before old
       → Posts ticket (have_key (patterns party)) old new → IsPosted patterns after new

@@ -4,6 +4,7 @@ use Rattle.std.specs.List.Sorted.{IsPermutation}
 use Rattle.std.proofs.lemmas.List.Sorted.{IsPermutation-sym}
 use Rattle.std.proofs.lemmas.List.Sums.{AllPass-from_list_all}
 use Rattle.ent_lists.specs.Elements.{In, and_both, any_none, clash, contains_in, in_contains, same_number, turned}
+use Rattle.ent_lists.proofs.Lists.{of_index}
 use Rattle.ent_meetings.specs.PartyMeeting.{offers, ways}
 use Rattle.ent_meetings.specs.Pattern.{may_meet}
 use Rattle.ent_meetings.specs.declared.party.Party.{Party}
@@ -16,7 +17,7 @@ use Rattle.ent_meetings.specs.Widening.{MightCome}
 use Rattle.ent_meetings.proofs.Coming.{none_counted, ways_joined}
 use Rattle.ent_meetings.proofs.Settled.{none_any, offered_within}
 use Rattle.ent_meetings.proofs.Taking.{within_permuted}
-use Rattle.ent_meetings.proofs.Waiters.{demanded_more, in_all, within}
+use Rattle.ent_meetings.proofs.Waiters.{demanded_more, within}
 use Rattle.ent_meetings.proofs.Ways.{ways_permuted}
 
 module _ (parties : List Party) (party : Party) (may : may_come parties party ≡ true) where
@@ -27,7 +28,7 @@ module _ (parties : List Party) (party : Party) (may : may_come parties party �
   once demand there =
       sym (ways_joined parties party demand)
       ∙ same_number (ways (parties ++ party ∷ []) demand) 1
-      (in_all (λ (d : Pattern). (ways (parties ++ party ∷ []) d == 1) ≡ true) party.demands demand
+      (of_index (λ (d : Pattern). (ways (parties ++ party ∷ []) d == 1) ≡ true) party.demands demand
       (AllPass-from_list_all (λ (d : Pattern). ways (parties ++ party ∷ []) d == 1) party.demands parts.0) there)
 
   unserving : (demand : Pattern) → In demand (demands_of parties) → offers demand party ≡ false

@@ -4,32 +4,22 @@ use Rattle.std.proofs.Common.{take, drop, get_or, refl, sym, ap, ◌∙◌, ⊎_
 use Rattle.std.specs.BTreeSet.{IsUnchanged, Updates}
 use Rattle.std.specs.BTreeMap.{is_at}
 use Rattle.std.specs.List.{list_any}
-use Rattle.std.specs.Ordering.{is_eq, nat_cmp, ordering_then}
-use Rattle.std.specs.declared.cmp.Ordering.{Ordering}
-use Rattle.std.specs.declared.cmp.Ordering.TheVariants.{Less, Equal, Greater}
+use Rattle.std.specs.Ordering.{is_eq, nat_cmp}
 use Rattle.std.proofs.lemmas.Bool.{cases_eq, or_left, or_right}
-use Rattle.std.proofs.lemmas.Bool.Decides.{nat_tests}
 use Rattle.std.proofs.lemmas.List.{take-append-drop}
 use Rattle.std.proofs.lemmas.List.Folds.{list_any-append, list_any_at}
+use Rattle.ent_lists.proofs.Numbers.{cmp_equal}
+use Rattle.ent_lists.proofs.Orders.{is_eq-then}
 use Rattle.ent_meetings.specs.declared.pattern.Pattern.{Pattern}
 use Rattle.ent_meetings.specs.Keys.{has_key, has_key_below, have_key, key_at}
 use Rattle.ent_meetings.specs.Postings.{Posts, PostsSome, Unposts, entry_cmp, has, is_among, Postings}
 use Rattle.ent_meetings.proofs.EntryOrder.{at}
 
--- two numbers compare as one exactly if they are one
-pub same_number : (a b : ℕ) → is_eq (nat_cmp a b) ≡ (a == b)
-same_number a b = grind (arith, nat_tests)
-
-both : (one other : Ordering) → is_eq (ordering_then one other) ≡ (is_eq one && is_eq other)
-both Less other = refl
-both Equal other = refl
-both Greater other = refl
-
 same_entry : (key ticket k t : ℕ) → is_at (entry_cmp (at key ticket)) (at k t) ≡ ((key == k) && (ticket == t))
 same_entry key ticket k t =
-    both (nat_cmp key k) (nat_cmp ticket t)
-    ∙ ap (λ (b : Bool). b && is_eq (nat_cmp ticket t)) (same_number key k)
-    ∙ ap (λ (b : Bool). (key == k) && b) (same_number ticket t)
+    is_eq-then (nat_cmp key k) (nat_cmp ticket t)
+    ∙ ap (λ (b : Bool). b && is_eq (nat_cmp ticket t)) (cmp_equal key k)
+    ∙ ap (λ (b : Bool). (key == k) && b) (cmp_equal ticket t)
 
 one_more : (x y old b : Bool) → cond (x && y) true (old || (y && b)) ≡ (old || (y && (x || b)))
 one_more true true true b = refl

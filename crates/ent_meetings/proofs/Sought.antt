@@ -4,16 +4,16 @@ use Rattle.std.proofs.Common.{All, ◌⊎◌, Option, None, Some, IsSome, get_or
 use Rattle.std.specs.Cmp.Lexicographic.{pointwise}
 use Rattle.std.specs.Option.{option_map_or}
 use Rattle.std.specs.Ordering.{is_eq}
-use Rattle.std.specs.declared.cmp.Ordering.{Ordering}
-use Rattle.std.specs.declared.cmp.Ordering.TheVariants.{Less, Equal, Greater}
 use Rattle.std.proofs.lemmas.List.{get_or_past}
 use Rattle.std.proofs.lemmas.List.Elements.{All-contains}
 use Rattle.std.proofs.lemmas.Map.Lookups.{exact_unsigned}
 use Rattle.std.proofs.lemmas.Map.Views.{Contains-keys_from_lookup, tells_apart}
 use Rattle.std.specs.Map.{keys_of}
 use Rattle.std.proofs.lemmas.Bool.{cases_eq, cases_lt, or_left, or_right}
-use Rattle.ent_lists.specs.Elements.{In, and_both, any_in, any_some, same_number}
+use Rattle.ent_lists.specs.Elements.{In, and_both, any_in, any_some}
+use Rattle.ent_lists.proofs.Orders.{is_equal}
 use Rattle.ent_semantics.specs.Database.{Name, same_name}
+use Rattle.ent_semantics.specs.Names.{equal_names}
 use Rattle.ent_value.specs.Order.{exact_values}
 use Rattle.ent_value.specs.Value.{value_cmp}
 use Rattle.ent_value.specs.declared.value.Value.{Value}
@@ -24,30 +24,15 @@ use Rattle.ent_meetings.specs.Keys.{has_key, has_key_below, have_key, key, key_a
 use Rattle.ent_meetings.specs.Postings.{Agrees, IsPosted, Postings, has}
 use Rattle.ent_meetings.specs.Sides.{fits, fits_at, patterns_of}
 use Rattle.ent_meetings.specs.Waiting.{Waiting, party_at}
-use Rattle.ent_meetings.specs.declared.side.Side.{Side}
-use Rattle.ent_meetings.specs.declared.side.Side.TheVariants.{Offers, Demands}
-
-same_names : (one other : Name) → same_name one other ≡ true → one ≡ other
-same_names [] [] is = refl
-same_names [] (y ∷ ys) is = cc
-same_names (x ∷ xs) [] is = cc
-same_names (x ∷ xs) (y ∷ ys) is =
-    let both = and_both (x == y) (same_name xs ys) is in
-    let first : x ≡ y = same_number x y both.0 in
-    let rest : xs ≡ ys = same_names xs ys both.1 in
-    cc
+use Rattle.ent_meetings.specs.declared.side.SoughtSide.{SoughtSide}
+use Rattle.ent_meetings.specs.declared.side.SoughtSide.TheVariants.{Offers, Demands}
 
 -- a term is like a known one: it is the same, or it isn't known
 pub IsLike : Option Value → Option Value → Type 0
 IsLike known other = (other ≡ known) ⊎ (other ≡ None)
 
-equal : (o : Ordering) → is_eq o ≡ true → o ≡ Equal
-equal Less is = cc
-equal Equal is = refl
-equal Greater is = cc
-
 same_values : (one other : Value) → is_eq (value_cmp one other) ≡ true → one ≡ other
-same_values one other is = exact_values one other (equal (value_cmp one other) is)
+same_values one other is = exact_values one other (is_equal (value_cmp one other) is)
 
 like_offered : (demanded offered : Option Value) → may_be_one demanded offered ≡ true → IsSome demanded
     → IsLike demanded offered
@@ -90,7 +75,7 @@ offer_matches : (demand offer : Pattern) → may_meet demand offer ≡ true → 
 offer_matches demand offer is =
     let both = and_both (same_name demand.relation offer.relation) (pointwise may_be_one demand.terms offer.terms) is in
     record {
-      relation = same_names demand.relation offer.relation both.0;
+      relation = equal_names demand.relation offer.relation both.0;
       size = as_long demand.terms offer.terms both.1;
       terms = λ place known. like_offered (get_or demand.terms place None) (get_or offer.terms place None)
           (each_may demand.terms offer.terms both.1 place) known;
@@ -100,7 +85,7 @@ demand_matches : (offer demand : Pattern) → may_meet demand offer ≡ true →
 demand_matches offer demand is =
     let both = and_both (same_name demand.relation offer.relation) (pointwise may_be_one demand.terms offer.terms) is in
     record {
-      relation = sym (same_names demand.relation offer.relation both.0);
+      relation = sym (equal_names demand.relation offer.relation both.0);
       size = sym (as_long demand.terms offer.terms both.1);
       terms = λ place known. like_demanded (get_or demand.terms place None) (get_or offer.terms place None)
           (each_may demand.terms offer.terms both.1 place) known;
@@ -120,12 +105,13 @@ has_place pattern place (suc more) low =
     (cases_eq place more)
 
 -- a pattern of somebody fits what is sought
-pub record Fitting (side : Side) (sought : Pattern) (party : Party) : Type 0 where
+pub record Fitting (side : SoughtSide) (sought : Pattern) (party : Party) : Type 0 where
   pub pattern : Pattern
   pub among : In pattern (patterns_of side party)
   pub matches : Matches sought pattern
 
-fitting : (side : Side) (sought : Pattern) (party : Party) → fits side sought party ≡ true → Fitting side sought party
+fitting : (side : SoughtSide) (sought : Pattern) (party : Party) → fits side sought party ≡ true
+    → Fitting side sought party
 fitting Offers sought party is =
     let some = any_some (may_meet sought) party.offers is in
     record { pattern = some.0; among = some.1; matches = offer_matches sought some.0 some.2 }
@@ -137,7 +123,7 @@ known_within : (terms : List (Option Value)) (place : ℕ) → IsSome (get_or te
 known_within terms place known =
     ⊎_elim (λ low. low) (λ past. let unknown : false ≡ true = subst IsSome (get_or_past terms place None past) known in cc) (cases_lt place (length terms))
 
-module _ (side : Side) (waiting : Waiting) (postings : Postings) (sought : Pattern) (ticket : ℕ)
+module _ (side : SoughtSide) (waiting : Waiting) (postings : Postings) (sought : Pattern) (ticket : ℕ)
     (posted : IsPosted (patterns_of side) waiting postings) (party : Party) (waits : party_at waiting ticket ≡ Some party)
     (some : Fitting side sought party) where
   stands : (place : ℕ) → place ≤ length some.pattern.terms → has postings (key_at some.pattern place) ticket ≡ true
@@ -177,7 +163,7 @@ module _ (side : Side) (waiting : Waiting) (postings : Postings) (sought : Patte
   }
 
 -- who fits agrees with what is sought
-pub fitting_agrees : (side : Side) (waiting : Waiting) (postings : Postings) (sought : Pattern) (ticket : ℕ)
+pub fitting_agrees : (side : SoughtSide) (waiting : Waiting) (postings : Postings) (sought : Pattern) (ticket : ℕ)
     → IsPosted (patterns_of side) waiting postings → fits_at side waiting sought ticket ≡ true
     → Agrees postings sought ticket
 fitting_agrees side waiting postings sought ticket posted is = by (party_at waiting ticket) refl is
@@ -188,8 +174,8 @@ fitting_agrees side waiting postings sought ticket posted is = by (party_at wait
     by (Some party) at is' = agrees side waiting postings sought ticket posted party at (fitting side sought party is')
 
 -- who fits waits, so the ticket is a number of the index
-pub fitting_waits : (side : Side) (waiting : Waiting) (sought : Pattern) (P : ℕ → Type 0) → All P (keys_of waiting)
-    → (ticket : ℕ) → fits_at side waiting sought ticket ≡ true → P ticket
+pub fitting_waits : (side : SoughtSide) (waiting : Waiting) (sought : Pattern) (P : ℕ → Type 0)
+    → All P (keys_of waiting) → (ticket : ℕ) → fits_at side waiting sought ticket ≡ true → P ticket
 fitting_waits side waiting sought P all ticket is = by (party_at waiting ticket) refl is
   where
     by : (who : Option Party) → party_at waiting ticket ≡ who → option_map_or (fits side sought) who false ≡ true

@@ -12,6 +12,7 @@ use Rattle.std.proofs.lemmas.Map.Keys.{IsDistinct-IsPermutation, IsStrictlyIncre
 use Rattle.std.proofs.lemmas.Map.Made.{AllPairs-from_IsDistinct, IsDistinct-from_AllPairs}
 use Rattle.std.specs.Prelude.{nat_eq}
 use Rattle.ent_lists.specs.Elements.{In, Pairs, any_none, any_some, contains_in, in_contains, index_pairs, of_all, pairs_index, to_flat}
+use Rattle.ent_lists.proofs.Lists.{index_all}
 use Rattle.ent_meetings.specs.PartyMeeting.{IsClear, IsClosed, MeetAll, is_met, offers, ways}
 use Rattle.ent_meetings.specs.Pattern.{may_meet}
 use Rattle.ent_meetings.specs.declared.party.Party.{Party}
@@ -21,7 +22,7 @@ use Rattle.ent_meetings.specs.Meeting.{IsMeeting, IsWithin}
 use Rattle.ent_meetings.specs.Stand.{Stand}
 use Rattle.ent_meetings.specs.Waiting.{Waiting, Waits, named}
 use Rattle.ent_meetings.proofs.Ways.{ways_more}
-use Rattle.ent_meetings.proofs.Waiters.{all_in, closed_by, closed_meets, demanded_more, giver_of, met_by, within, within_by}
+use Rattle.ent_meetings.proofs.Waiters.{closed_by, closed_meets, demanded_more, giver_of, met_by, within, within_by}
 
 -- the same tickets in another order
 pub within_permuted : (one other : List ℕ) → IsPermutation one other → IsWithin one other
@@ -78,8 +79,8 @@ module _ (waiting : Waiting) (root : ℕ) (found : List (List ℕ)) (clear cut :
 
   closed : IsClosed (named waiting sorted)
   closed =
-      all_in (MeetAll (named waiting sorted)) (named waiting sorted) (λ party at.
-      all_in (λ (demand : Pattern). is_met (named waiting sorted) demand ≡ true) party.demands (λ demand asked.
+      index_all (MeetAll (named waiting sorted)) (named waiting sorted) (λ party at.
+      index_all (λ (demand : Pattern). is_met (named waiting sorted) demand ≡ true) party.demands (λ demand asked.
       met_more waiting chosen sorted demand there
       (closed_meets (named waiting chosen) demand (closed_by (named waiting chosen) none)
       (demanded_more waiting sorted chosen demand back
@@ -88,7 +89,7 @@ module _ (waiting : Waiting) (root : ℕ) (found : List (List ℕ)) (clear cut :
   pub is_meeting : IsNonDecreasing sorted → IsMeeting waiting root sorted
   is_meeting rises = record {
     stands = record {
-      waits = all_in (Waits waiting) sorted (λ ticket at.
+      waits = index_all (Waits waiting) sorted (λ ticket at.
           of_all (Waits waiting) chosen ticket stand.waits (within sorted chosen ticket back at));
       has_root = in_contains sorted root (within chosen sorted root there (root_in chosen some (stand.begins some)));
       closed = closed;
@@ -100,9 +101,9 @@ module _ (waiting : Waiting) (root : ℕ) (found : List (List ℕ)) (clear cut :
 
   pub is_clear : is_crowded (named waiting chosen) ≡ false → IsClear (named waiting sorted)
   is_clear free =
-      all_in (λ (party : Party). All (λ demand. ways (named waiting sorted) demand ≡ 1) party.demands) (named waiting sorted)
-      (λ party at.
-      all_in (λ (demand : Pattern). ways (named waiting sorted) demand ≡ 1) party.demands (λ demand asked.
+      index_all (λ (party : Party). All (λ demand. ways (named waiting sorted) demand ≡ 1) party.demands)
+      (named waiting sorted) (λ party at.
+      index_all (λ (demand : Pattern). ways (named waiting sorted) demand ≡ 1) party.demands (λ demand asked.
       let demanded : In demand (demands_of (named waiting sorted)) =
       to_flat (λ (p : Party). p.demands) (named waiting sorted) party demand at asked in
       let single : ways (named waiting chosen) demand ≤ 1 =

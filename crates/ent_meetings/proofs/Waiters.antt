@@ -1,11 +1,12 @@
 -- The parties that tickets name.
-use Rattle.std.proofs.Common.{◌≡◌, ◌<◌, ℕ, zero, suc, Bool, true, false, not, cond, List, [], ◌∷◌, ◌++◌, ◌+◌, length, take, get_or, Option, None, Some}
-use Rattle.std.proofs.Common.{IsSome, All, Contains, refl, sym, ap, subst, ◌∙◌, inl, inr, arith}
+use Rattle.std.proofs.Common.{◌≡◌, ◌<◌, ℕ, Bool, true, false, not, cond, List, [], ◌∷◌, ◌++◌, ◌+◌, length, take}
+use Rattle.std.proofs.Common.{get_or, Option, None, Some, IsSome, Contains, refl, sym, ap, subst, ◌∙◌, inl, inr}
 use Rattle.std.specs.List.{cons_option, filter_map, find}
 use Rattle.std.specs.Option.{option_map_or}
 use Rattle.std.proofs.lemmas.List.{take_more}
-use Rattle.std.proofs.lemmas.List.Elements.{All-contains, filter_map-append}
+use Rattle.std.proofs.lemmas.List.Elements.{filter_map-append}
 use Rattle.ent_lists.specs.Elements.{In, any_in, any_some, contains_in, in_contains, in_flat, to_flat, turned}
+use Rattle.ent_lists.proofs.Lists.{of_index, index_all}
 use Rattle.ent_meetings.specs.PartyMeeting.{IsClosed, MeetAll, is_met, offers}
 use Rattle.ent_meetings.specs.declared.party.Party.{Party}
 use Rattle.ent_meetings.specs.declared.pattern.Pattern.{Pattern}
@@ -13,19 +14,11 @@ use Rattle.ent_meetings.specs.Group.{demands_of, first_unmet}
 use Rattle.ent_meetings.specs.Meeting.{IsWithin}
 use Rattle.ent_meetings.specs.Waiting.{Waiting, Waits, named, offers_at, party_at}
 
-pub in_all : {X : Type 0} (P : X → Type 0) (xs : List X) (x : X) → All P xs → In x xs → P x
-in_all P xs x all at = All-contains P xs x all (in_contains xs x at)
-
-pub all_in : {X : Type 0} (P : X → Type 0) (xs : List X) → ((x : X) → In x xs → P x) → All P xs
-all_in P [] f k d low = absurd (omega (arith, low))
-all_in P (x ∷ xs) f zero d low = f x (inl refl)
-all_in P (x ∷ xs) f (suc k) d low = all_in P xs (λ y at. f y (inr at)) k d (omega (arith, low))
-
 pub within : (one others : List ℕ) (ticket : ℕ) → IsWithin one others → In ticket one → In ticket others
-within one others ticket all at = contains_in others ticket (in_all (Contains others) one ticket all at)
+within one others ticket all at = contains_in others ticket (of_index (Contains others) one ticket all at)
 
 pub within_by : (one others : List ℕ) → ((ticket : ℕ) → In ticket one → In ticket others) → IsWithin one others
-within_by one others f = all_in (Contains others) one (λ ticket at. in_contains others ticket (f ticket at))
+within_by one others f = index_all (Contains others) one (λ ticket at. in_contains others ticket (f ticket at))
 
 pub within_both : (one mid others : List ℕ) → IsWithin one mid → IsWithin mid others → IsWithin one others
 within_both one mid others first second =
@@ -115,14 +108,14 @@ pub closed_meets : (parties : List Party) (demand : Pattern) → IsClosed partie
     → is_met parties demand ≡ true
 closed_meets parties demand closed at =
     let from = in_flat (λ (party : Party). party.demands) parties demand at in
-    in_all (λ (d : Pattern). is_met parties d ≡ true) from.0.demands demand
-    (in_all (MeetAll parties) parties from.0 closed from.1) from.2
+    of_index (λ (d : Pattern). is_met parties d ≡ true) from.0.demands demand
+    (of_index (MeetAll parties) parties from.0 closed from.1) from.2
 
 -- where nothing is unmet, the set is closed
 pub closed_by : (parties : List Party) → first_unmet parties ≡ None → IsClosed parties
 closed_by parties none =
-    all_in (MeetAll parties) parties (λ party at.
-    all_in (λ (demand : Pattern). is_met parties demand ≡ true) party.demands (λ demand there.
+    index_all (MeetAll parties) parties (λ party at.
+    index_all (λ (demand : Pattern). is_met parties demand ≡ true) party.demands (λ demand there.
     turned' (is_met parties demand)
     (none_found (λ (d : Pattern). not (is_met parties d)) (demands_of parties) none demand
     (to_flat (λ (p : Party). p.demands) parties party demand at there))))

@@ -7,6 +7,7 @@ use Rattle.std.proofs.lemmas.List.Sorted.{sum_by-IsPermutation}
 use Rattle.std.proofs.lemmas.List.Sums.{sum_by-append, sum_by-cons}
 use Rattle.std.specs.List.Sorted.{IsPermutation}
 use Rattle.ent_lists.specs.Elements.{In, Pairs, in_either, in_first, in_second, in_flat, of_all}
+use Rattle.ent_lists.proofs.Lists.{of_index}
 use Rattle.ent_meetings.specs.PartyMeeting.{IsClear, ways}
 use Rattle.ent_meetings.specs.Pattern.{may_meet}
 use Rattle.ent_meetings.specs.declared.party.Party.{Party}
@@ -14,7 +15,7 @@ use Rattle.ent_meetings.specs.declared.pattern.Pattern.{Pattern}
 use Rattle.ent_meetings.specs.Group.{demands_of}
 use Rattle.ent_meetings.specs.Meeting.{IsWithin}
 use Rattle.ent_meetings.specs.Waiting.{Waiting, named, party_at}
-use Rattle.ent_meetings.proofs.Waiters.{in_all, within}
+use Rattle.ent_meetings.proofs.Waiters.{within}
 
 -- an element of a list, with what is before and behind it
 record Split {X : Type 0} (x : X) (xs : List X) : Type 0 where
@@ -93,5 +94,6 @@ pub clear_ways : (parties : List Party) (demand : Pattern) → IsClear parties �
     → ways parties demand ≡ 1
 clear_ways parties demand clear at =
     let from = in_flat (λ (party : Party). party.demands) parties demand at in
-    in_all (λ (d : Pattern). ways parties d ≡ 1) from.0.demands demand
-    (in_all (λ (party : Party). All (λ (d : Pattern). ways parties d ≡ 1) party.demands) parties from.0 clear from.1) from.2
+    of_index (λ (d : Pattern). ways parties d ≡ 1) from.0.demands demand
+    (of_index (λ (party : Party). All (λ (d : Pattern). ways parties d ≡ 1) party.demands) parties from.0 clear from.1)
+    from.2

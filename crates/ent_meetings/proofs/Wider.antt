@@ -10,6 +10,7 @@ use Rattle.std.proofs.lemmas.List.Sums.{sum_by-cons}
 use Rattle.std.proofs.lemmas.Map.Keys.{IsStrictlyIncreasing-from_distinct}
 use Rattle.std.proofs.lemmas.Map.Made.{IsDistinct-from_AllPairs}
 use Rattle.ent_lists.specs.Elements.{In, any_in, contains_in, in_contains, in_flat, index_pairs, pairs_by, pairs_index, to_flat}
+use Rattle.ent_lists.proofs.Lists.{of_index, index_all}
 use Rattle.ent_meetings.specs.PartyMeeting.{IsClear, IsClosed, MeetAll, is_met, offers, ways}
 use Rattle.ent_meetings.specs.Pattern.{may_meet}
 use Rattle.ent_meetings.specs.declared.party.Party.{Party}
@@ -20,16 +21,16 @@ use Rattle.ent_meetings.specs.Meeting.{IsClearMeeting, IsMeeting}
 use Rattle.ent_meetings.specs.Waiting.{Waiting, Waits, named, party_at}
 use Rattle.ent_meetings.specs.Widening.{IsServed, IsWidened}
 use Rattle.ent_meetings.proofs.Taking.{distinct_permuted, met_more, within_permuted}
-use Rattle.ent_meetings.proofs.Waiters.{all_in, closed_meets, demanded_more, in_all, of_named, to_named, within, within_both, within_by}
+use Rattle.ent_meetings.proofs.Waiters.{closed_meets, demanded_more, of_named, to_named, within, within_both, within_by}
 use Rattle.ent_meetings.proofs.Ways.{clear_ways, ways_permuted}
 
 module _ (waiting : Waiting) where
   pub widened_not : (tickets : List ℕ) → IsWidened waiting tickets tickets
   widened_not tickets = record {
     kept = within_by tickets tickets (λ ticket at. at);
-    ways = all_in (λ (d : Pattern). ways (named waiting tickets) d ≡ ways (named waiting tickets) d)
+    ways = index_all (λ (d : Pattern). ways (named waiting tickets) d ≡ ways (named waiting tickets) d)
         (demands_of (named waiting tickets)) (λ demand at. refl);
-    others = all_in (λ (t : ℕ). Contains tickets t ⊎ IsServed waiting tickets t) tickets
+    others = index_all (λ (t : ℕ). Contains tickets t ⊎ IsServed waiting tickets t) tickets
         (λ ticket at. inl (in_contains tickets ticket at));
   }
 
@@ -37,9 +38,9 @@ module _ (waiting : Waiting) where
   pub widened_permuted : (one other : List ℕ) → IsPermutation one other → IsWidened waiting one other
   widened_permuted one other moved = record {
     kept = within_permuted one other moved;
-    ways = all_in (λ (d : Pattern). ways (named waiting other) d ≡ ways (named waiting one) d)
+    ways = index_all (λ (d : Pattern). ways (named waiting other) d ≡ ways (named waiting one) d)
         (demands_of (named waiting one)) (λ demand at. ways_permuted waiting one other demand moved);
-    others = all_in (λ (t : ℕ). Contains one t ⊎ IsServed waiting other t) other (λ ticket at.
+    others = index_all (λ (t : ℕ). Contains one t ⊎ IsServed waiting other t) other (λ ticket at.
         inl (in_contains one ticket
         (within other one ticket (within_permuted other one (IsPermutation-sym one other moved)) at)));
   }
@@ -54,26 +55,26 @@ module _ (waiting : Waiting) where
             → IfSome who (λ (party : Party). All (λ (d : Pattern). ways (named waiting last) d ≡ 1) party.demands)
         by None is once = once
         by (Some party) is once =
-            all_in (λ (d : Pattern). ways (named waiting last) d ≡ 1) party.demands (λ demand there.
-            in_all (λ (d : Pattern). ways (named waiting last) d ≡ ways (named waiting mid) d)
+            index_all (λ (d : Pattern). ways (named waiting last) d ≡ 1) party.demands (λ demand there.
+            of_index (λ (d : Pattern). ways (named waiting last) d ≡ ways (named waiting mid) d)
             (demands_of (named waiting mid)) demand second.ways
             (to_flat (λ (p : Party). p.demands) (named waiting mid) party demand
             (to_named (party_at waiting) mid ticket party at is) there)
-            ∙ in_all (λ (d : Pattern). ways (named waiting mid) d ≡ 1) party.demands demand once there)
+            ∙ of_index (λ (d : Pattern). ways (named waiting mid) d ≡ 1) party.demands demand once there)
 
     -- one after the other
     pub widened_both : IsWidened waiting one last
     widened_both = record {
       kept = within_both one mid last first.kept second.kept;
-      ways = all_in (λ (d : Pattern). ways (named waiting last) d ≡ ways (named waiting one) d)
+      ways = index_all (λ (d : Pattern). ways (named waiting last) d ≡ ways (named waiting one) d)
           (demands_of (named waiting one)) (λ demand at.
-          in_all (λ (d : Pattern). ways (named waiting last) d ≡ ways (named waiting mid) d)
+          of_index (λ (d : Pattern). ways (named waiting last) d ≡ ways (named waiting mid) d)
           (demands_of (named waiting mid)) demand second.ways (demanded_more waiting one mid demand first.kept at)
-          ∙ in_all (λ (d : Pattern). ways (named waiting mid) d ≡ ways (named waiting one) d)
+          ∙ of_index (λ (d : Pattern). ways (named waiting mid) d ≡ ways (named waiting one) d)
           (demands_of (named waiting one)) demand first.ways at);
-      others = all_in (λ (t : ℕ). Contains one t ⊎ IsServed waiting last t) last (λ ticket at.
-          elim (in_all (λ (t : ℕ). Contains mid t ⊎ IsServed waiting last t) last ticket second.others at) [
-            | inl there ↦ elim (in_all (λ (t : ℕ). Contains one t ⊎ IsServed waiting mid t) mid ticket first.others
+      others = index_all (λ (t : ℕ). Contains one t ⊎ IsServed waiting last t) last (λ ticket at.
+          elim (of_index (λ (t : ℕ). Contains mid t ⊎ IsServed waiting last t) last ticket second.others at) [
+            | inl there ↦ elim (of_index (λ (t : ℕ). Contains one t ⊎ IsServed waiting mid t) mid ticket first.others
                 (contains_in mid ticket there)) [
                   | inl before ↦ inl before
                   | inr served ↦ inr (still_served ticket (contains_in mid ticket there) served)
@@ -110,10 +111,10 @@ module _ (waiting : Waiting) (root : ℕ) (meeting wider : List ℕ) (widened : 
       → (party : Party) → In party (named waiting wider) → (demand : Pattern) → In demand party.demands → P demand
   each P old new party at demand there =
       let who = of_named (party_at waiting) wider party at in
-      elim (in_all (λ (t : ℕ). Contains meeting t ⊎ IsServed waiting wider t) wider who.0 widened.others who.1) [
+      elim (of_index (λ (t : ℕ). Contains meeting t ⊎ IsServed waiting wider t) wider who.0 widened.others who.1) [
         | inl before ↦ old demand (to_flat (λ (p : Party). p.demands) (named waiting meeting) party demand
             (to_named (party_at waiting) meeting who.0 party (contains_in meeting who.0 before) who.2) there)
-        | inr served ↦ new demand (in_all (λ (d : Pattern). ways (named waiting wider) d ≡ 1) party.demands demand
+        | inr served ↦ new demand (of_index (λ (d : Pattern). ways (named waiting wider) d ≡ 1) party.demands demand
             (subst (λ (o : Option Party). IfSome o (λ (p : Party).
             All (λ (d : Pattern). ways (named waiting wider) d ≡ 1) p.demands)) who.2 served.once) there)
       ]
@@ -121,8 +122,8 @@ module _ (waiting : Waiting) (root : ℕ) (meeting wider : List ℕ) (widened : 
   module _ (meets : IsMeeting waiting root meeting) where
     closed : IsClosed (named waiting wider)
     closed =
-        all_in (MeetAll (named waiting wider)) (named waiting wider) (λ party at.
-        all_in (λ (d : Pattern). is_met (named waiting wider) d ≡ true) party.demands (λ demand there.
+        index_all (MeetAll (named waiting wider)) (named waiting wider) (λ party at.
+        index_all (λ (d : Pattern). is_met (named waiting wider) d ≡ true) party.demands (λ demand there.
         each (λ d. is_met (named waiting wider) d ≡ true)
         (λ d asked. met_more waiting meeting wider d widened.kept
         (closed_meets (named waiting meeting) d meets.stands.closed asked))
@@ -131,9 +132,10 @@ module _ (waiting : Waiting) (root : ℕ) (meeting wider : List ℕ) (widened : 
     pub wider_meets : IsNonDecreasing wider → IsRunnable wider → IsMeeting waiting root wider
     wider_meets rises runnable = record {
       stands = record {
-        waits = all_in (Waits waiting) wider (λ ticket at.
-            elim (in_all (λ (t : ℕ). Contains meeting t ⊎ IsServed waiting wider t) wider ticket widened.others at) [
-              | inl before ↦ in_all (Waits waiting) meeting ticket meets.stands.waits (contains_in meeting ticket before)
+        waits = index_all (Waits waiting) wider (λ ticket at.
+            elim (of_index (λ (t : ℕ). Contains meeting t ⊎ IsServed waiting wider t) wider ticket widened.others at) [
+              | inl before ↦
+                  of_index (Waits waiting) meeting ticket meets.stands.waits (contains_in meeting ticket before)
               | inr served ↦ served.waits
             ]);
         has_root = in_contains wider root (within meeting wider root widened.kept (contains_in meeting root meets.stands.has_root));
@@ -147,12 +149,12 @@ module _ (waiting : Waiting) (root : ℕ) (meeting wider : List ℕ) (widened : 
   -- a clear set stays clear
   pub wider_clear : IsClear (named waiting meeting) → IsClear (named waiting wider)
   wider_clear clear =
-      all_in (λ (p : Party). All (λ (d : Pattern). ways (named waiting wider) d ≡ 1) p.demands) (named waiting wider)
+      index_all (λ (p : Party). All (λ (d : Pattern). ways (named waiting wider) d ≡ 1) p.demands) (named waiting wider)
       (λ party at.
-      all_in (λ (d : Pattern). ways (named waiting wider) d ≡ 1) party.demands (λ demand there.
+      index_all (λ (d : Pattern). ways (named waiting wider) d ≡ 1) party.demands (λ demand there.
       each (λ d. ways (named waiting wider) d ≡ 1)
       (λ d asked.
-      in_all (λ (e : Pattern). ways (named waiting wider) e ≡ ways (named waiting meeting) e)
+      of_index (λ (e : Pattern). ways (named waiting wider) e ≡ ways (named waiting meeting) e)
       (demands_of (named waiting meeting)) d widened.ways asked ∙ clear_ways (named waiting meeting) d clear asked)
       (λ d one. one) party at demand there))
 

@@ -16,7 +16,7 @@ ghost use Rattle.ent_meetings.specs.Waiting.{ChangesAt, demands_at, named, offer
 use crate::board::{post_party, unpost_party};
 use crate::next::Next;
 use crate::postings::{Postings, leap};
-use crate::side::{Side, fits};
+use crate::side::{SoughtSide, fits};
 use crate::{Party, Pattern};
 use std::alloc::{AllocError, AllocFailed, Global};
 use std::collections::btree_map::Iter;
@@ -146,7 +146,7 @@ impl Index {
     }
 
     /// Whether who waits under a ticket is one of those who are sought.
-    fn fits(&self, side: Side, sought: &Pattern, ticket: u64) -> bool
+    fn fits(&self, side: SoughtSide, sought: &Pattern, ticket: u64) -> bool
         ensures { result ≡ fits_at side self.now sought.now ticket }
     {
         match self.parties.get(&ticket) {
@@ -156,18 +156,24 @@ impl Index {
     }
 
     /// Where those are posted who are sought.
-    fn postings(&self, side: Side) -> &Postings
+    fn postings(&self, side: SoughtSide) -> &Postings
         ensures posted { IsPosted (patterns_of side) self.now result.now }
         ensures tickets { All (λ ticket. ticket < 2 ^ 64) (keys_of self.now) }
     {
         match side {
-            Side::Offers => &self.offers,
-            Side::Demands => &self.demands,
+            SoughtSide::Offers => &self.offers,
+            SoughtSide::Demands => &self.demands,
         }
     }
 
     /// The next one after a ticket who is sought.
-    fn next(&self, side: Side, sought: &Pattern, after: Option<u64>, looks: &mut usize) -> Next
+    fn next(
+        &self,
+        side: SoughtSide,
+        sought: &Pattern,
+        after: Option<u64>,
+        looks: &mut usize,
+    ) -> Next
         ensures next { IsNext (fits_at side self.now sought.now) after looks.old looks.new result }
         ensures looks { looks.new ≤ looks.old }
         ensures looked { 0 < looks.old → looks.new < looks.old }
@@ -197,7 +203,7 @@ impl Index {
         ensures looks { looks.new ≤ looks.old }
         ensures looked { 0 < looks.old → looks.new < looks.old }
     {
-        self.next(Side::Offers, demand, after, looks)
+        self.next(SoughtSide::Offers, demand, after, looks)
     }
 
     /// The next one after a ticket, or the first of all, who demands what the offer may meet. `looks` says how many
@@ -207,6 +213,6 @@ impl Index {
         ensures looks { looks.new ≤ looks.old }
         ensures looked { 0 < looks.old → looks.new < looks.old }
     {
-        self.next(Side::Demands, offer, after, looks)
+        self.next(SoughtSide::Demands, offer, after, looks)
     }
 }

@@ -12,7 +12,7 @@ use std::alloc::{AllocError, Global};
 
 /// A host variable and its value, or that its value isn't known any more.
 #[derive(Drop)]
-struct Binding<'a> {
+struct ValueBinding<'a> {
     variable: &'a Name,
     value: Option<&'a Value>,
 }
@@ -21,11 +21,11 @@ struct Binding<'a> {
 /// counts.
 #[derive(Drop)]
 pub(crate) struct Known<'a> {
-    bindings: Vec<Binding<'a>>,
+    bindings: Vec<ValueBinding<'a>>,
 }
 
 /// What the last binding of a host variable says.
-fn last_value<'a>(bindings: &[Binding<'a>], variable: &Name) -> Option<&'a Value>
+fn last_value<'a>(bindings: &[ValueBinding<'a>], variable: &Name) -> Option<&'a Value>
     ensures { option_copied result ≡ with_bindings nothing_bound bindings.now variable.now }
 {
     let mut found = None;
@@ -76,7 +76,7 @@ impl<'a> Known<'a> {
     fn set(&mut self, variable: &'a Name, value: &'a Value) -> Result<(), AllocError>
         ensures { OnOk result (known_of self.new ≡ with_value (known_of self.old) variable.now value.now) }
     {
-        self.bindings.push(Binding {
+        self.bindings.push(ValueBinding {
             variable,
             value: Some(value),
         })?;
@@ -90,7 +90,7 @@ impl<'a> Known<'a> {
         if self.value_of(variable).is_none() {
             return Ok(());
         }
-        self.bindings.push(Binding {
+        self.bindings.push(ValueBinding {
             variable,
             value: None,
         })?;

@@ -7,7 +7,7 @@ use crate::{Party, Pattern};
 
 /// Who is sought.
 #[derive(Clone, Copy, Debug, PartialEq, Eq)]
-pub(crate) enum Side {
+pub(crate) enum SoughtSide {
     /// Who offers what may meet a demand.
     Offers,
     /// Who demands what an offer may meet.
@@ -22,11 +22,11 @@ fn demands(party: &Party, offer: &Pattern) -> bool
 }
 
 /// Whether a party is one of those who are sought.
-pub(crate) fn fits(side: Side, sought: &Pattern, party: &Party) -> bool
+pub(crate) fn fits(side: SoughtSide, sought: &Pattern, party: &Party) -> bool
     ensures { result ≡ fits side sought.now party.now }
 {
     match side {
-        Side::Offers => party.offers(sought),
-        Side::Demands => demands(party, sought),
+        SoughtSide::Offers => party.offers(sought),
+        SoughtSide::Demands => demands(party, sought),
     }
 }

@@ -16,6 +16,7 @@ use Rattle.std.proofs.lemmas.List.Sums.{sum_by-set}
 use Rattle.slab.specs.Slab.{Slab, ContainsKey, Updates, get as value_at, slab_len, with_value}
 use Rattle.slab.proofs.SlabLemmas.{ContainsKey-within}
 use Rattle.indexmap.specs.IndexMap.{IndexMap, keys, get, Updates as Puts}
+use Rattle.ent_lists.specs.Elements.{number_itself}
 use Rattle.ent_protocol.specs.State.{Dormant}
 use Rattle.ent_members.specs.TransactionOrder.{first_behind}
 use Rattle.ent_members.specs.TransactionTable.{Stand, entrant_of, runs_at, runs_of, waiting, is_dormant}
@@ -101,9 +102,6 @@ module _ {S : Type 0} (live new : Slab Dormant) (order after : IndexMap ℕ ℕ 
         | inr ne ↦ stand_others k other ne at
       ]
 
-pub is_itself : (n : ℕ) → (n == n) ≡ true
-is_itself n = grind arith
-
 both_parts : (o : Option (ℕ × ℕ)) (tx key : ℕ) → option_map (λ (e : ℕ × ℕ). e.0) o ≡ Some tx
     → option_map (λ (e : ℕ × ℕ). e.1) o ≡ Some key → o ≡ Some (tx, key)
 both_parts None tx key k v = cc
@@ -146,7 +144,7 @@ module _ {S : Type 0} (live : Slab Dormant) (order : IndexMap ℕ ℕ S) (r tx a
 
   pub in_front : at < r
   in_front =
-      before (λ k. k == tx) (keys order) at r tx key_at (is_itself tx)
+      before (λ k. k == tx) (keys order) at r tx key_at (number_itself tx)
       (sym (list_any-map (entrant_of live order) (λ (own : Dormant). own.tx == tx) (drop r (keys order))) ∙ away)
 
   module _ (new : Slab Dormant) (after : IndexMap ℕ ℕ S) (members : r ≤ length order.entries)

@@ -7,14 +7,10 @@ use Rattle.std.specs.Map.{keys_of, values_of, lookup}
 use Rattle.std.proofs.lemmas.List.{drop-map}
 use Rattle.slab.specs.Slab.{Slab, ContainsKey, Updates, get as value_at}
 use Rattle.indexmap.specs.IndexMap.{IndexMap, keys, get}
+use Rattle.ent_lists.proofs.Lists.{map_same, all_take}
 use Rattle.ent_protocol.specs.State.{Dormant}
 use Rattle.ent_members.specs.TransactionTable.{Stand, entrant_of, runs_at, runs_of, waiting}
 use Rattle.ent_members.proofs.Lists.{or_no}
-
-all_front : {A : Type 0} (P : A → Type 0) (r : ℕ) (xs : List A) → AllByRecursion P xs → AllByRecursion P (take r xs)
-all_front P zero xs all = tt
-all_front P (suc r) [] all = tt
-all_front P (suc r) (x ∷ xs) all = (all.0, all_front P r xs all.1)
 
 module _ {X : Type 0} where
   -- a key that stands apart from all isn't one that is found
@@ -172,15 +168,11 @@ keys_front zero es = refl
 keys_front (suc r) [] = refl
 keys_front (suc r) (e ∷ es) = ap (λ (ns : List ℕ). e.0 ∷ ns) (keys_front r es)
 
-map_same : {A B : Type 0} (f g : A → B) (xs : List A) → AllByRecursion (λ x. f x ≡ g x) xs → map f xs ≡ map g xs
-map_same f g [] all = refl
-map_same f g (x ∷ xs) all = λ i. all.0 i ∷ map_same f g xs all.1 i
-
 module _ {S : Type 0} (live : Slab Dormant) (order : IndexMap ℕ ℕ S) (r : ℕ) (stand : Stand live order)
     (distinct : IsDistinct nat_eq (keys order)) where
   front_owned : Owned live (take r order.entries)
   front_owned =
-      all_front (IsOwned live) r order.entries
+      all_take (IsOwned live) r order.entries
       (owned_from live order stand order.entries (all_found order.entries distinct))
 
   pub front_keys_distinct : IsDistinct nat_eq (take r (values_of order.entries))

@@ -14,7 +14,7 @@ use Rattle.ent_lock.specs.declared.mode.Mode.TheVariants.{Shared, Exclusive}
 use Rattle.ent_lock.specs.Mode.{mode_rank}
 use Rattle.ent_lock.specs.Use as lock
 use Rattle.ent_lock.specs.Use.{Holds, Uses, key_of_number, use_cmp}
-use Rattle.ent_lock.proofs.Held.{is_use, is_use-true, is_use-itself, the_use}
+use Rattle.ent_lock.proofs.Held.{is_use, is_use-true, is_use-itself, the_use, same_mode}
 use Rattle.ent_protocol.specs.Begin.{same_use, use_rank, with_uses}
 use Rattle.ent_protocol.specs.State.{Use, inserted}
 use Rattle.ent_members.specs.InRun.{AreByNumber, number_of_key, uses_of}
@@ -126,13 +126,7 @@ low_rank : (mode : Mode) → mode_rank mode < 2
 low_rank Shared = omega arith
 low_rank Exclusive = omega arith
 
-same_mode : (a b : Mode) → mode_rank a ≡ mode_rank b → a ≡ b
-same_mode Shared Shared e = refl
-same_mode Shared Exclusive e = absurd (omega (arith, e))
-same_mode Exclusive Shared e = absurd (omega (arith, e))
-same_mode Exclusive Exclusive e = refl
-
-same_is : (a b : Use) → same_use a b ≡ true → a ≡ b
+pub same_is : (a b : Use) → same_use a b ≡ true → a ≡ b
 same_is a b e =
     let parts = and_both (a.table == b.table) (mode_rank a.mode == mode_rank b.mode) e in
     let table : a.table ≡ b.table = same_number a.table b.table parts.0 in

@@ -9,7 +9,7 @@ ghost use Rattle.ent_members.specs.Form.{next_form};
 
 use crate::numbered::script_of;
 use crate::submitted::SubmittedScript;
-use crate::{Member, uses_are_kept_by_closing};
+use crate::{RunMember, uses_are_kept_by_closing};
 use ent_semantics::{Known, Statement, element};
 
 /// The statement that a member is at, before it is closed; none where it is at the end of its script, or where no
@@ -17,7 +17,7 @@ use ent_semantics::{Known, Statement, element};
 /// no memory.
 pub fn next_form<'a>(
     submitted: &'a [SubmittedScript],
-    member: &Member,
+    member: &RunMember,
 ) -> Option<&'a Statement<Known>>
     ensures form { option_copied result ≡ next_form (numbered submitted.now member.now.tx) member.now }
     ensures uses { IfSome result (λ form.

@@ -1,6 +1,6 @@
 //! A member of the present run, and what it has.
 //!
-//! A [`Progress`] is what a member has itself: its place, what it bound and its answers. A [`Member`] is one in its
+//! A [`Progress`] is what a member has itself: its place, what it bound and its answers. A [`RunMember`] is one in its
 //! run, with the locks that the lock table shows for it and the label that the groups give it. Here too are those who
 //! wait for a run, the uses that a statement asks for, what a member gets of a joint answer, and the list of those who
 //! leave. A caller may rely on it that each call does to a member exactly what the protocol's functions say, and that a
@@ -47,7 +47,7 @@ pub use conflict::Conflict;
 pub use entrant::Entrant;
 pub use form::next_form;
 pub use hold::with_uses;
-pub use member::{Member, label_in};
+pub use member::{RunMember, label_in};
 pub use member_answer::MemberAnswer;
 pub use next::{Next, next_of};
 pub use numbered::script_of;

@@ -16,13 +16,13 @@ use std::marker::Model;
 /// A member of the present run: what it has itself, the locks that the run's lock table shows for it, and the label of
 /// its group. It owns nothing.
 #[derive(Drop)]
-pub struct Member<'a> {
+pub struct RunMember<'a> {
     own: &'a Progress,
     locks: &'a LockTable<usize>,
     groups: &'a Groups,
 }
 
-impl<'a> Model for Member<'a> {
+impl<'a> Model for RunMember<'a> {
     ghost use Rattle.ent_protocol.specs.State.{Member as Seen};
     ghost use Rattle.ent_members.specs.InRun.{AreByNumber, in_run};
 
@@ -43,13 +43,13 @@ pub fn label_in(groups: &Groups, tx: Tx) -> Tx
     }
 }
 
-impl<'a> Member<'a> {
+impl<'a> RunMember<'a> {
     /// A member of a run with this lock table and these groups.
     pub fn new(own: &'a Progress, locks: &'a LockTable<usize>, groups: &'a Groups) -> Self
         requires { AreByNumber locks.now }
         ensures { result ≡ in_run locks.now groups.now own.now }
     {
-        Member { own, locks, groups }
+        RunMember { own, locks, groups }
     }
 
     pub fn tx(&self) -> Tx

@@ -6,7 +6,7 @@ ghost use Rattle.ent_closing.specs.Environment.{environment_of};
 ghost use Rattle.ent_protocol.specs.Member.{Commits, RollsBack, end_next, next_in, statement_next};
 ghost use Rattle.ent_members.specs.Next.{next_seen};
 
-use crate::Member;
+use crate::RunMember;
 use crate::numbered::script_of;
 use crate::submitted::SubmittedScript;
 use ent_closing::{Environment, closed};
@@ -64,7 +64,7 @@ fn end_next(end: End) -> Next
 }
 
 /// What comes next in a member's script.
-fn next_in(alloc: Global, own: &SubmittedScript, member: &Member) -> Result<Next, AllocError>
+fn next_in(alloc: Global, own: &SubmittedScript, member: &RunMember) -> Result<Next, AllocError>
     ensures next { IfOk result (λ next. next_seen next ≡ next_in (Some own.now) member.now) }
     ensures commits { next_in (Some own.now) member.now ≡ Commits → IsOk result }
     ensures rolls_back { next_in (Some own.now) member.now ≡ RollsBack → IsOk result }
@@ -80,7 +80,7 @@ fn next_in(alloc: Global, own: &SubmittedScript, member: &Member) -> Result<Next
 pub fn next_of(
     alloc: Global,
     submitted: &[SubmittedScript],
-    member: &Member,
+    member: &RunMember,
 ) -> Result<Next, AllocError>
     ensures next { IfOk result (λ next.
         next_seen next ≡ next_in (numbered submitted.now member.now.tx) member.now) }

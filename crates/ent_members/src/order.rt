@@ -6,7 +6,7 @@ ghost use Rattle.ent_members.specs.TransactionOrder.{first_behind, part_reversed
 use ent_group::Tx;
 use indexmap::IndexMap;
 
-/// So many at most go one by one, each past all others: for more, one pass for all together is shorter.
+/// Up to so many entries are moved one by one, each past all others; for more, one pass for all together is shorter.
 const FEW: usize = 3;
 
 /// The entries from one place up to another come into the opposite order.

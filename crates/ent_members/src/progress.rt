@@ -18,7 +18,7 @@ use std::marker::Model;
 
 /// What a member of the present run has itself: its runs, what its host variables are bound to, and its answers. Its
 /// place is the number of its next statement, from 1. Contracts see it as a member that holds nothing, in a group of
-/// its own; a [`Member`](crate::Member) is the same with the locks that a lock table shows for it and its group's
+/// its own; a [`RunMember`](crate::RunMember) is the same with the locks that a lock table shows for it and its group's
 /// label.
 #[derive(Drop)]
 pub struct Progress {

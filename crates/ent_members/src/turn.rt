@@ -5,7 +5,7 @@ ghost use Rattle.ent_protocol.specs.Lookup as lookups;
 ghost use Rattle.ent_protocol.specs.Member.{next_in};
 ghost use Rattle.ent_members.specs.Turn.{turn_seen};
 
-use crate::Member;
+use crate::RunMember;
 use crate::numbered::script_of;
 use crate::submitted::SubmittedScript;
 use ent_semantics::element;
@@ -20,7 +20,7 @@ pub enum Turn {
 }
 
 /// What a member begins next. It takes no memory.
-pub fn turn_of(submitted: &[SubmittedScript], member: &Member) -> Turn
+pub fn turn_of(submitted: &[SubmittedScript], member: &RunMember) -> Turn
     ensures { turn_seen result ≡ lookups.turn_of (next_in (numbered submitted.now member.now.tx) member.now) }
 {
     match script_of(submitted, member.tx()) {

@@ -3,7 +3,7 @@ use Rattle.std.proofs.Common.{◌≡◌, ℕ, zero, suc, ◌+◌, ◌<◌, List,
 use Rattle.std.proofs.Common.{refl, ap, subst, ◌∙◌, arith}
 use Rattle.std.specs.Prelude.{Some, slice_get, slice_index_or, IsTrue}
 use Rattle.std.specs.Cmp.{unsigned_Decides}
-use Rattle.std.proofs.lemmas.List.{drop_all, take-append-drop, append_assoc, append_cancel_right}
+use Rattle.std.proofs.lemmas.List.{drop_all, take-append-drop, append_assoc, append_cancel_right, length-map}
 use Rattle.std.proofs.lemmas.Slice.Eq.{starts_is}
 use Rattle.ent_value.specs.Value.{value_cmp, kind_of, kinds_of}
 use Rattle.ent_value.specs.declared.value.Value.{Value}
@@ -122,10 +122,6 @@ value_there [] n lt = absurd (omega arith)
 value_there (v ∷ row) zero lt = (v, refl)
 value_there (v ∷ row) (suc n) lt = value_there row n (omega arith)
 
-length-kinds : (row : List Value) → length (kinds_of row) ≡ length row
-length-kinds [] = refl
-length-kinds (v ∷ row) = ap suc (length-kinds row)
-
 module _ (kinds : List Kind) (key : List ℕ) (n : ℕ) (left : List ℕ) (read : left ≡ past_values (take n kinds) key)
     (row : List Value) (v : Value) (same : kinds_of row ≡ kinds) (is : key ≡ key_of row)
     (at : slice_get row n ≡ Some v) where
@@ -134,7 +130,7 @@ module _ (kinds : List Kind) (key : List ℕ) (n : ℕ) (left : List ℕ) (read 
 
   pub last_cell : n + 1 ≡ length kinds → left ≡ value_key v
   last_cell end =
-      let none : drop (n + 1) row ≡ [] = drop_all (n + 1) row (omega (arith, length-kinds row, ap length same)) in
+      let none : drop (n + 1) row ≡ [] = drop_all (n + 1) row (omega (arith, length-map row kind_of, ap length same)) in
       left_is ∙ ap (λ z. value_key v ++ key_of z) none ∙ append-nil (value_key v)
 
   pub inner_cell : (bytes rest : List ℕ) (d : Kind) → left ≡ bytes ++ rest

@@ -8,6 +8,7 @@ use Rattle.std.specs.Ordering.{eq_by_cmp, is_lt}
 use Rattle.std.specs.declared.cmp.Ordering.{Ordering}
 use Rattle.std.specs.declared.cmp.Ordering.TheVariants.{Less, Equal, Greater}
 use Rattle.std.proofs.lemmas.List.{append_assoc, length-append, take-append-drop, drop_all, drop_more}
+use Rattle.std.proofs.lemmas.Bool.{and_parts}
 use Rattle.ent_page.proofs.Paging.{flat_at, flat_from}
 use Rattle.ent_lists.specs.Elements.{all_by, all_joined, from_here}
 use Rattle.ent_lists.specs.Sets as set
@@ -25,10 +26,6 @@ use Rattle.ent_page.proofs.Beginnings.{not_itself, none_below_all}
 or_parts : (a b : Bool) (P : Type 0) → (a ≡ true → P) → (b ≡ true → P) → (a || b) ≡ true → P
 or_parts true b P h k e = h refl
 or_parts false b P h k e = k e
-
-and_first : (a b : Bool) → (a && b) ≡ true → a ≡ true
-and_first true b e = refl
-and_first false b e = e
 
 -- one half of a test of two halves, where the other answers no
 left_only : (k r a m o n : Bool) → m ≡ false → o ≡ false → n ≡ false
@@ -97,7 +94,7 @@ module _ (low : List ℕ → Bool) (apart : (x y : List ℕ) → low x ≡ true 
       → IsChanged keys removed added after → Side t after
   side_after t keys removed added after h k is = of_all (λ q. low q ≡ t) after (λ q e.
       or_parts (has keys q && not (has removed q)) (has added q) (low q ≡ t)
-      (λ s. of_one (λ k. low k ≡ t) keys q h (and_first (has keys q) (not (has removed q)) s))
+      (λ s. of_one (λ k. low k ≡ t) keys q h (and_parts (has keys q) (not (has removed q)) s).0)
       (of_one (λ k. low k ≡ t) added q k) (sym (is.same q) ∙ e))
 
   -- two changes, side by side
@@ -259,7 +256,7 @@ kept key keys removed added later above from stays old is =
     all_above : (q : List ℕ) → has later q ≡ true → key_cmp key q ≡ Less
     all_above q h =
         or_parts (has keys q && not (has removed q)) (has added q) (key_cmp key q ≡ Less)
-        (λ s. of_one (λ k. key_cmp key k ≡ Less) keys q above (and_first (has keys q) (not (has removed q)) s))
+        (λ s. of_one (λ k. key_cmp key k ≡ Less) keys q above (and_parts (has keys q) (not (has removed q)) s).0)
         (λ s. behind q s (key_cmp key q) refl) (sym (is.same q) ∙ h)
 
     on : (k r a : Bool) → r ≡ false → true ≡ ((true && not r) || a)

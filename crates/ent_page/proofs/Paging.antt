@@ -12,7 +12,7 @@ use Rattle.std.specs.List.{dedup}
 use Rattle.std.specs.List.Sorted.{IsSorted, IsPermutation}
 use Rattle.std.specs.List.Retain.{IsFiltered, DiffersFromLast}
 use Rattle.std.specs.Ordering.{eq_by_cmp}
-use Rattle.std.proofs.lemmas.List.{take_all, take-append-le}
+use Rattle.std.proofs.lemmas.List.{take_at}
 use Rattle.std.proofs.lemmas.List.Filters.{dedup_is}
 use Rattle.std.proofs.lemmas.List.Kept.{IsStrictlySortedBy-dedup}
 use Rattle.std.proofs.lemmas.Map.Keys.{IsDistinct-from_sorted}
@@ -23,7 +23,8 @@ use Rattle.ent_page.specs.Key.{key_cmp}
 use Rattle.ent_page.specs.Layout.{Ascends, AreBelow, AreAbove}
 use Rattle.ent_page.specs.Paged.{IsSized, AllBelow, AllAbove}
 use Rattle.ent_lists.specs.Elements.{all_at, all_joined}
-use Rattle.ent_page.proofs.Sorted.{keys_total, keys_exact, all_take, all_drop, sorted_back}
+use Rattle.ent_lists.proofs.Lists.{all_take}
+use Rattle.ent_page.proofs.Sorted.{keys_total, keys_exact, all_drop, sorted_back}
 use Rattle.ent_page.proofs.Sorted.{sorted_front, sorted_below, sorted_above, sorted_put, sorted_cut, below_more}
 use Rattle.ent_page.proofs.Sorted.{above_more, flip, ascends, below_taken, above_left, inserted_at, removed_at}
 use Rattle.ent_page.proofs.Sorted.{taken_out, set_put, set_cut, absent, present}
@@ -357,9 +358,6 @@ ascending_is keys sorted = ascending-from_list keys_total keys_exact keys (is_so
 
 -- ---- keys put in order
 
-written_over : {X : Type 0} (n : ℕ) (xs old : List X) → length xs ≡ n → take n (xs ++ drop (length xs) old) ≡ xs
-written_over n xs old e = take-append-le n xs (drop (length xs) old) (omega arith) ∙ take_all n xs (omega arith)
-
 pub moved_from : (xs given ys : List (List ℕ)) → given ≡ xs → IsPermutation given ys → IsPermutation xs ys
 moved_from xs given ys e moved =
     let P : List (List ℕ) → Type 0 = λ keys. IsPermutation keys ys in
@@ -369,7 +367,7 @@ pub deduped : (n : ℕ) (ys old zs : List (List ℕ)) → length ys ≡ n
     → IsFiltered (DiffersFromLast (eq_by_cmp key_cmp)) [] (take n (ys ++ drop (length ys) old)) zs
     → zs ≡ dedup (eq_by_cmp key_cmp) ys
 deduped n ys old zs e left = dedup_is (eq_by_cmp key_cmp) _ zs left
-    ∙ ap (dedup (eq_by_cmp key_cmp)) (written_over n ys old e)
+    ∙ ap (dedup (eq_by_cmp key_cmp)) (take_at ys (drop (length ys) old) n e)
 
 module _ (xs ys zs : List (List ℕ)) (moved : IsPermutation xs ys) (sorted : IsSorted key_cmp ys)
     (e : zs ≡ dedup (eq_by_cmp key_cmp) ys) where

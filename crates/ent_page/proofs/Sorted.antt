@@ -11,9 +11,12 @@ use Rattle.std.specs.Cmp.{IsTotalOrder, Equal-is, eq_by_cmp_equiv}
 use Rattle.std.proofs.lemmas.Cmp.{nat_list_cmp_total}
 use Rattle.std.proofs.lemmas.Map.Lookups.{CmpEqualImpliesEq, exact_bytes}
 use Rattle.std.proofs.lemmas.Map.Keys.{Less-from_sorted}
+use Rattle.std.proofs.lemmas.Bool.{and_right}
+use Rattle.std.proofs.Math.Bool.{and-true}
 use Rattle.ent_lists.specs.Sets as set
 use Rattle.ent_lists.specs.Laws.{same_set, contains-from_list, contains-insert, contains-without_all}
 use Rattle.ent_lists.specs.Elements.{all_by, all_first, all_joined, all_second}
+use Rattle.ent_lists.proofs.Truth.{or_swap}
 use Rattle.ent_page.specs.Key.{key_cmp}
 use Rattle.ent_page.specs.Layout.{Ascends, AreBelow, AreAbove}
 use Rattle.ent_page.specs.Paged.{AllBelow, AllAbove}
@@ -36,11 +39,6 @@ unfolding IsStrictlySortedBy
 one_sorted key = (tt, tt)
 
 -- ---- a fact of all elements, by recursion
-
-pub all_take : {X : Type 0} (P : X → Type 0) (n : ℕ) (xs : List X) → AllByRecursion P xs → AllByRecursion P (take n xs)
-all_take P zero xs h = tt
-all_take P (suc n) [] h = tt
-all_take P (suc n) (x ∷ xs) h = (h.0, all_take P n xs h.1)
 
 pub all_drop : {X : Type 0} (P : X → Type 0) (n : ℕ) (xs : List X) → AllByRecursion P xs → AllByRecursion P (drop n xs)
 all_drop P zero xs h = h
@@ -165,14 +163,9 @@ any_over p (x ∷ xs) ys = ap (λ b. p x || b) (any_over p xs ys) ∙ assoc (p x
     assoc true b c = refl
     assoc false b c = refl
 
-middle : (a b c : Bool) → (a || (b || c)) ≡ (b || (a || c))
-middle true true c = refl
-middle true false c = refl
-middle false b c = refl
-
 any_middle : (p : List ℕ → Bool) (xs ys : List (List ℕ)) (key : List ℕ)
     → list_any p (xs ++ key ∷ ys) ≡ (p key || list_any p (xs ++ ys))
-any_middle p xs ys key = any_over p xs (key ∷ ys) ∙ middle (list_any p xs) (p key) (list_any p ys)
+any_middle p xs ys key = any_over p xs (key ∷ ys) ∙ or_swap (list_any p xs) (p key) (list_any p ys)
     ∙ ap (λ b. p key || b) (sym (any_over p xs ys))
 
 pub set_put : (xs ys : List (List ℕ)) (key : List ℕ)
@@ -207,21 +200,13 @@ present xs ys key = contains-from_list keys_total keys_exact (xs ++ key ∷ ys) 
     ∙ any_middle (eq_by_cmp key_cmp key) xs ys key
     ∙ ap (λ b. b || list_any (eq_by_cmp key_cmp key) (xs ++ ys)) (same_key key)
 
-and_true : (b : Bool) → (b && true) ≡ b
-and_true true = refl
-and_true false = refl
-
-and_false : (b : Bool) → (b && false) ≡ false
-and_false true = refl
-and_false false = refl
-
 apart_or_same : (q key : List ℕ) (b c : Bool) → (eq_by_cmp key_cmp q key ≡ true → c ≡ false)
     → b ≡ (eq_by_cmp key_cmp q key || c) → c ≡ (b && not (eq_by_cmp key_cmp q key || false))
 apart_or_same q key b c one is = by (eq_by_cmp key_cmp q key) one is
   where
     by : (e : Bool) → (e ≡ true → c ≡ false) → b ≡ (e || c) → c ≡ (b && not (e || false))
-    by true one is = one refl ∙ sym (and_false b)
-    by false one is = sym is ∙ sym (and_true b)
+    by true one is = one refl ∙ sym (and_right b false refl)
+    by false one is = sym is ∙ sym (and-true b)
 
 pub set_cut : (xs ys : List (List ℕ)) (key : List ℕ) → IsStrictlySortedBy key_cmp (xs ++ key ∷ ys)
     → set.from_list {R = key_cmp} (xs ++ ys) ≡ set.without_all (set.from_list (xs ++ key ∷ ys)) (key ∷ [])
@@ -256,5 +241,5 @@ set_kept s key none = same_set keys_total keys_exact _ _ (λ q.
     eq_is Greater h = absurd cc
 
     by : (c e : Bool) → (e ≡ true → c ≡ false) → c ≡ (c && not (e || false))
-    by c true one = one refl ∙ sym (and_false c)
-    by c false one = sym (and_true c)
+    by c true one = one refl ∙ sym (and_right c false refl)
+    by c false one = sym (and-true c)

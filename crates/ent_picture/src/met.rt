@@ -97,7 +97,7 @@ fn put_partners(
     Ok(())
 }
 
-/// Puts those who meet one who is picked in an exchange.
+/// Adds all who met a picked transaction in an exchange.
 fn put_companies(
     alloc: Global,
     found: &mut Vec<Tx>,

@@ -4,6 +4,7 @@ use Rattle.std.proofs.Common.{refl, sym, ◌∙◌, ap, subst, arith}
 use Rattle.std.specs.Prelude.{Contains}
 use Rattle.std.proofs.lemmas.List.{length-map}
 use Rattle.std.proofs.lemmas.List.Elements.{Contains-append_left, Contains-append_right, Contains-append_cases}
+use Rattle.ent_lists.proofs.Contained.{to_mapped}
 use Rattle.ent_value.specs.Value.{kinds_of}
 use Rattle.ent_value.specs.declared.value.Value.{Value}
 use Rattle.ent_semantics.specs.declared.answer.Fact.{Fact}
@@ -11,17 +12,12 @@ use Rattle.ent_semantics.specs.Entangled.{Valuation}
 use Rattle.ent_semantics.specs.declared.entangled.Atom.{Atom}
 use Rattle.ent_coordination.specs.Choice.{all_heads, all_posts}
 use Rattle.ent_coordination.specs.Pool.{Posted, fact_under}
+use Rattle.ent_unify.proofs.Pairs.{kinds_at}
 use Rattle.ent_plan.specs.Agreement.{variables_of}
 use Rattle.ent_plan.specs.Pairs.{Placed, placed_at, placed_from}
 use Rattle.ent_plan.specs.Plan.{AreKindedFor}
 
 -- ---- lists
-
-pub contains_map : {X Y : Type 0} (f : X → Y) (xs : List X) (x : X) → Contains xs x → Contains (map f xs) (f x)
-contains_map f [] x (k, below, is) = absurd (omega arith)
-contains_map f (y ∷ xs) x (zero, below, is) = (0, omega arith, ap f is)
-contains_map f (y ∷ xs) x (suc k, below, is) =
-    let r = contains_map f xs x (k, omega arith, is) in (suc r.0, (let l = r.1 in omega arith), r.2)
 
 pub mapped_from : {X Y : Type 0} (f : X → Y) (xs : List X) (y : Y) → Contains (map f xs) y
     → (x : X) × Contains xs x × (f x ≡ y)
@@ -85,7 +81,7 @@ module _ (atoms : Posted → List (Atom Value)) (values : ℕ → Valuation) whe
             let placed = placed_at n member.statement.variables found.0 in (
               placed,
               Contains-append_left here (placed_from atoms (suc n) members) placed
-                  (contains_map (placed_at n member.statement.variables) (atoms member) found.0 found.1),
+                  (to_mapped (placed_at n member.statement.variables) (atoms member) found.0 found.1),
               ap (λ vs. fact_under vs found.0) (values_first values n first more are) ∙ found.2,
             )
         | inr others ↦
@@ -109,7 +105,7 @@ module _ (atoms : Posted → List (Atom Value)) (values : ℕ → Valuation) whe
             ∙ ap (fact_at values) found.2 in
             subst (Contains (here ++ facts atoms members more)) fact
             (Contains-append_left here (facts atoms members more) (fact_under first found.0)
-            (contains_map (fact_under first) (atoms member) found.0 found.1))
+            (to_mapped (fact_under first) (atoms member) found.0 found.1))
         | inr others ↦
             Contains-append_right here (facts atoms members more) (fact_at values placed)
             (fact_there (suc n) members more (values_rest values n first more are) (omega arith) placed others)
@@ -169,12 +165,6 @@ kinds_of_groundings members groundings kinded =
     sym (length-map groundings kinds_of)
     ∙ (ap length kinded ∙ length-map members (λ (member : Posted). member.statement.variables))
 
-pub kinds_get : (groundings : List Valuation) (m : ℕ)
-    → get_or (map kinds_of groundings) m [] ≡ kinds_of (get_or groundings m [])
-kinds_get [] m = refl
-kinds_get (values ∷ groundings) zero = refl
-kinds_get (values ∷ groundings) (suc m) = kinds_get groundings m
-
 variables_get : (members : List Posted) (m : ℕ) (member : Posted) → m < length members
     → get_or members m member ≡ member → get_or (variables_of members) m [] ≡ member.statement.variables
 variables_get [] m member below is = absurd (omega arith)
@@ -188,7 +178,7 @@ pub placed_kinds : (atoms : Posted → List (Atom Value)) (members : List Posted
 placed_kinds atoms members groundings placed kinded there =
     let found = placed_in atoms 0 members placed there in
     let place : placed.place ≡ found.index = (let p = found.place_is in omega arith) in
-    sym (kinds_get groundings placed.place)
+    sym (kinds_at groundings placed.place)
     ∙ (ap (λ ks. get_or ks placed.place []) kinded
     ∙ (ap (λ m. get_or (variables_of members) m []) place
     ∙ (variables_get members found.index found.member found.within found.member_is ∙ sym found.kinds_are)))

@@ -5,6 +5,7 @@ use Rattle.std.specs.Prelude.{Contains, AllPairs, MatchOption, slice_get}
 use Rattle.std.proofs.lemmas.Bool.{cases_lt}
 use Rattle.std.proofs.lemmas.List.{get_or_default}
 use Rattle.std.proofs.lemmas.List.Elements.{All-contains, Contains-get_or}
+use Rattle.ent_lists.proofs.Contained.{to_mapped}
 use Rattle.ent_value.specs.declared.value.Kind.{Kind}
 use Rattle.ent_value.specs.declared.value.Kind.TheVariants as kinds
 use Rattle.ent_value.specs.declared.value.Value.{Value}
@@ -14,14 +15,14 @@ use Rattle.ent_semantics.specs.declared.entangled.Atom.{Atom}
 use Rattle.ent_coordination.specs.Choice.{all_heads, all_posts}
 use Rattle.ent_coordination.specs.Pool.{Posted, IsPool, IsSafe, CanMeet, fact_under}
 use Rattle.ent_unify.specs.Unifier.{AreAllOfKinds, AreEqual, NoneEquals, IsMostGeneral, AreKinded}
-use Rattle.ent_unify.specs.declared.unifier.Binding.{Binding}
+use Rattle.ent_unify.specs.declared.unifier.ClassBinding.{ClassBinding}
 use Rattle.ent_unify.specs.declared.unifier.MemberAtom.{MemberAtom}
 use Rattle.ent_unify.proofs.Atoms.{kinds_from}
 use Rattle.ent_plan.specs.Agreement.{variables_of, IsUnifierOf}
 use Rattle.ent_plan.specs.Pairs.{Placed, placed_posts, placed_heads, AtPlace, seen_pair, pair_of, DoUnify, StandApart}
 use Rattle.ent_plan.specs.Pairs.{ArePairs, HasLonePost}
 use Rattle.ent_plan.specs.Plan.{AreKindedFor, AreMet, HaveNoPlan, HaveDistinctHeads}
-use Rattle.ent_plan.proofs.Facts.{contains_map, mapped_from, posts_are, heads_are, fact_at, fact_from, fact_there}
+use Rattle.ent_plan.proofs.Facts.{mapped_from, posts_are, heads_are, fact_at, fact_from, fact_there}
 use Rattle.ent_plan.proofs.Facts.{placed_in, kinds_of_groundings, placed_kinds}
 
 -- ---- elements of lists
@@ -198,7 +199,7 @@ module _ (members : List Posted) (one : IsPool members) (safe : IsSafe members) 
         pub all_equal : AreMet members groundings → All (AreEqual groundings) pairs
         all_equal met k d below =
             equal_at met (seen_pair (get_or pairs k d))
-            (contains_map seen_pair pairs (get_or pairs k d) (Contains-get_or pairs k d below))
+            (to_mapped seen_pair pairs (get_or pairs k d) (Contains-get_or pairs k d below))
 
         pub all_met : All (AreEqual groundings) pairs → AreMet members groundings
         all_met equal fact there =
@@ -234,7 +235,7 @@ module _ (members : List Posted) (one : IsPool members) (safe : IsSafe members) 
       none_from_pairs none groundings kinded met =
           none groundings (kinded ∙ sym same) (all_equal members one safe distinct groundings kinded pairs are met)
 
-      pub unifier_from_pairs : (bs : List Binding) → IsMostGeneral K pairs bs → IsUnifierOf members bs
+      pub unifier_from_pairs : (bs : List ClassBinding) → IsMostGeneral K pairs bs → IsUnifierOf members bs
       unifier_from_pairs bs general =
           let is = subst (λ ks. IsMostGeneral ks pairs bs) same general in
           let kinded = all_kinds_are (variables_of members) is.some is.of_kinds in
@@ -250,7 +251,7 @@ module _ (members : List Posted) (one : IsPool members) (safe : IsSafe members) 
             agrees = (is.exact is.some kinded).0 is.equal;
           }
 
-      pub told : (o : Option (List Binding)) → MatchOption o (NoneEquals K pairs) (λ bs. IsMostGeneral K pairs bs)
+      pub told : (o : Option (List ClassBinding)) → MatchOption o (NoneEquals K pairs) (λ bs. IsMostGeneral K pairs bs)
           → MatchOption o (HaveNoPlan members) (IsUnifierOf members)
       told None none = none_from_pairs none
       told (Some bs) general = unifier_from_pairs bs general

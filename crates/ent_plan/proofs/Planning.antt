@@ -12,16 +12,16 @@ use Rattle.ent_semantics.specs.Entangled.{Valuation}
 use Rattle.ent_semantics.specs.Term.{no_value}
 use Rattle.ent_coordination.specs.Pool.{Posted}
 use Rattle.ent_unify.specs.Unifier.{class_of, constant_in, constant_of, member_value, IsVariableOf, Agrees}
-use Rattle.ent_unify.specs.declared.unifier.Binding.{Binding}
+use Rattle.ent_unify.specs.declared.unifier.ClassBinding.{ClassBinding}
 use Rattle.ent_unify.specs.declared.variable.Representative.TheVariants.{Constant, Variable}
 use Rattle.ent_unify.specs.declared.variable.Variable.{Variable as Variables}
+use Rattle.ent_unify.proofs.Pairs.{kinds_at}
 use Rattle.ent_plan.specs.Agreement.{variables_of, IsUnifierOf}
 use Rattle.ent_plan.specs.Classes.{variable_at, Stands, AreSlotRows}
 use Rattle.ent_plan.specs.Plan.{IsPlan, AreNumbered, all_slots, slot_kind, slot_value}
 use Rattle.ent_plan.specs.declared.class.Class.{Class as Classes}
 use Rattle.ent_plan.specs.declared.slot.Slot.{Slot}
 use Rattle.ent_plan.specs.declared.slot.Slot.TheVariants.{Fixed, Class}
-use Rattle.ent_plan.proofs.Facts.{kinds_get}
 use Rattle.ent_plan.proofs.Rows.{variable_is_of}
 
 -- ---- lists of lists
@@ -83,7 +83,7 @@ kind_in : (K : List (List Kind)) (V : List Valuation) → map kinds_of V ≡ K �
     → kind_of (member_value V x) ≡ x.kind
 kind_in K V kinded x of_members =
     let row : kinds_of (get_or V x.member []) ≡ get_or K x.member [] =
-    sym (kinds_get V x.member) ∙ ap (λ ks. get_or ks x.member []) kinded in
+    sym (kinds_at V x.member) ∙ ap (λ ks. get_or ks x.member []) kinded in
     kind_at (get_or V x.member []) x.index x.kind (ap (λ ks. slice_get ks x.index) row ∙ of_members)
 
 -- ---- the values of classes
@@ -100,7 +100,7 @@ no_class =
     let x : Variables = record { member = 0; index = 0; kind = kinds.Int } in
     record { representative = x; first = x }
 
-module _ (bs : List Binding) (K : List (List Kind)) (classes : List Classes) (rows : List (List Slot))
+module _ (bs : List ClassBinding) (K : List (List Kind)) (classes : List Classes) (rows : List (List Slot))
     (are : AreSlotRows bs K classes rows) where
   first_of : (n : ℕ) → n < length classes → IsVariableOf K (get_or classes n no_class).first
       × (class_of bs (get_or classes n no_class).first ≡ Variable (get_or classes n no_class).representative)
@@ -151,7 +151,7 @@ module _ (bs : List Binding) (K : List (List Kind)) (classes : List Classes) (ro
       → length (get_or V m []) ≡ length (get_or K m [])
   widths_of V kinded m =
       sym (length-map (get_or V m []) kind_of)
-      ∙ (ap length (sym (kinds_get V m)) ∙ ap (λ ks. length (get_or ks m [])) kinded)
+      ∙ (ap length (sym (kinds_at V m)) ∙ ap (λ ks. length (get_or ks m [])) kinded)
 
   count_of : (V : List Valuation) → map kinds_of V ≡ K → length V ≡ length K
   count_of V kinded = sym (length-map V kinds_of) ∙ ap length kinded
@@ -278,7 +278,7 @@ module _ (bs : List Binding) (K : List (List Kind)) (classes : List Classes) (ro
       (slot_stands m k below_K below_k)
       ∙ get_or_default (get_or K m []) k kinds.Int d below_k)))
 
-pub planned : (members : List Posted) (K : List (List Kind)) → K ≡ variables_of members → (bs : List Binding)
+pub planned : (members : List Posted) (K : List (List Kind)) → K ≡ variables_of members → (bs : List ClassBinding)
     (classes : List Classes) (rows : List (List Slot)) (class_kinds : List Kind) → IsUnifierOf members bs
     → AreSlotRows bs K classes rows → class_kinds ≡ first_kinds classes
     → IsPlan (record { members = members; slots = rows; kinds = class_kinds })

@@ -10,7 +10,7 @@ use Rattle.std.proofs.lemmas.List.Quantifiers.{all_pairs_push}
 use Rattle.ent_value.specs.declared.value.Kind.{Kind}
 use Rattle.ent_value.specs.declared.value.Kind.TheVariants as kinds
 use Rattle.ent_unify.specs.Unifier.{class_of, IsVariableOf, kinds_seen}
-use Rattle.ent_unify.specs.declared.unifier.Binding.{Binding}
+use Rattle.ent_unify.specs.declared.unifier.ClassBinding.{ClassBinding}
 use Rattle.ent_unify.specs.declared.variable.Representative.TheVariants.{Variable}
 use Rattle.ent_unify.specs.declared.variable.Variable.{Variable as Variables}
 use Rattle.ent_plan.specs.Plan.{AreNumbered}
@@ -35,14 +35,14 @@ numbered_append a (Class n ∷ slots) b others c (inr new) right =
 -- ---- one slot
 
 -- the classes with what one more slot has put down
-pub record IsStep (bs : List Binding) (K : List (List Kind)) (old new : List Classes) (x : Variables) (s : Slot) :
+pub record IsStep (bs : List ClassBinding) (K : List (List Kind)) (old new : List Classes) (x : Variables) (s : Slot) :
     Type 0 where
   pub stands : Stands bs new x s
   pub numbered : AreNumbered (length old) (s ∷ []) (length new)
   pub kept : (n : ℕ) (d : Classes) → n < length old → get_or new n d ≡ get_or old n d
   pub classes : AreClasses bs K new
 
-module _ (bs : List Binding) (K : List (List Kind)) (x : Variables) (of_members : IsVariableOf K x) where
+module _ (bs : List ClassBinding) (K : List (List Kind)) (x : Variables) (of_members : IsVariableOf K x) where
   with_class : (old : List Classes) (r : Variables) → AreClasses bs K old → class_of bs x ≡ Variable r → IsNewTo old r
       → AreClasses bs K (old ++ record { representative = r; first = x } ∷ [])
   with_class old r are is is_new =
@@ -91,7 +91,7 @@ module _ (bs : List Binding) (K : List (List Kind)) (x : Variables) (of_members 
 -- ---- one more variable of a member
 
 -- a slot stands as long as the classes are kept
-stands_on : (bs : List Binding) (old new : List Classes) (x : Variables) (s : Slot) → length old ≤ length new
+stands_on : (bs : List ClassBinding) (old new : List Classes) (x : Variables) (s : Slot) → length old ≤ length new
     → ((n : ℕ) (d : Classes) → n < length old → get_or new n d ≡ get_or old n d) → Stands bs old x s → Stands bs new x s
 stands_on bs old new x (Fixed value) longer kept stands = stands
 stands_on bs old new x (Class n) longer kept (below, is) = (
@@ -107,7 +107,7 @@ slice_get_at (x ∷ xs) (suc n) d below = slice_get_at xs n d (omega arith)
 pub variable_is_of : (K : List (List Kind)) (m n : ℕ) → n < length (get_or K m []) → IsVariableOf K (variable_at K m n)
 variable_is_of K m n below = slice_get_at (get_or K m []) n kinds.Int below
 
-pub row_more : (bs : List Binding) (K : List (List Kind)) (m n : ℕ) (old mid new : List Classes)
+pub row_more : (bs : List ClassBinding) (K : List (List Kind)) (m n : ℕ) (old mid new : List Classes)
     (slots fresh : List Slot) (x : Variables) (s : Slot) → n < length (get_or K m []) → x ≡ variable_at K m n
     → IsSlotRowTo bs K m n old mid slots → IsSlot bs x mid new s → fresh ≡ slots ++ s ∷ []
     → IsSlotRowTo bs K m (n + 1) old new fresh
@@ -143,7 +143,7 @@ kinds_at (ks ∷ given) (suc m) d none = kinds_at given m d none
 
 -- ---- one more member
 
-pub rows_more : (bs : List Binding) (K : List (List Kind)) (m : ℕ) (old new : List Classes)
+pub rows_more : (bs : List ClassBinding) (K : List (List Kind)) (m : ℕ) (old new : List Classes)
     (rows fresh : List (List Slot)) (row : List Slot) → AreSlotRowsTo bs K m old rows → IsSlotRow bs K m old new row
     → fresh ≡ rows ++ row ∷ [] → AreSlotRowsTo bs K (m + 1) new fresh
 rows_more bs K m old new rows fresh row are one pushed =

@@ -4,7 +4,7 @@ use Rattle.ent_value.specs.declared.value.Kind.{Kind}
 use Rattle.ent_semantics.specs.Entangled.{Valuation}
 use Rattle.ent_coordination.specs.Pool.{Posted}
 use Rattle.ent_unify.specs.Unifier.{Agrees}
-use Rattle.ent_unify.specs.declared.unifier.Binding.{Binding}
+use Rattle.ent_unify.specs.declared.unifier.ClassBinding.{ClassBinding}
 use Rattle.ent_plan.specs.Plan.{AreKindedFor, AreMet}
 
 -- the kinds of each statement's variables
@@ -12,7 +12,7 @@ abbrev pub variables_of : List Posted → List (List Kind)
 variables_of members = map (λ (member : Posted). member.statement.variables) members
 
 -- values of the kinds make each post equal to a head exactly where they agree with the unifier, and there are such
-pub record IsUnifierOf (members : List Posted) (bindings : List Binding) : Type 0 where
+pub record IsUnifierOf (members : List Posted) (bindings : List ClassBinding) : Type 0 where
   pub exact : (groundings : List Valuation) → AreKindedFor members groundings
       → AreMet members groundings ↔ Agrees (variables_of members) bindings groundings
   pub some : List Valuation

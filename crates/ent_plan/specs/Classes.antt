@@ -4,7 +4,7 @@ use Rattle.std.specs.List.{flat_map}
 use Rattle.ent_value.specs.declared.value.Kind.{Kind}
 use Rattle.ent_value.specs.declared.value.Kind.TheVariants as kinds
 use Rattle.ent_unify.specs.Unifier.{class_of, IsVariableOf}
-use Rattle.ent_unify.specs.declared.unifier.Binding.{Binding}
+use Rattle.ent_unify.specs.declared.unifier.ClassBinding.{ClassBinding}
 use Rattle.ent_unify.specs.declared.variable.Representative.TheVariants.{Constant, Variable}
 use Rattle.ent_unify.specs.declared.variable.Variable.{Variable as Variables}
 use Rattle.ent_plan.specs.Plan.{AreNumbered}
@@ -30,7 +30,7 @@ IsNumbered representative variable old new n =
     × (new ≡ old ++ record { representative = representative; first = variable } ∷ []))
 
 -- the slot of a variable
-abbrev pub IsSlot : List Binding → Variables → List Classes → List Classes → Slot → Type 0
+abbrev pub IsSlot : List ClassBinding → Variables → List Classes → List Classes → Slot → Type 0
 IsSlot bindings variable old new (Fixed value) = (class_of bindings variable ≡ Constant value) × (new ≡ old)
 IsSlot bindings variable old new (Class n) =
     (representative : Variables) × (class_of bindings variable ≡ Variable representative)
@@ -48,20 +48,21 @@ variable_at members member index =
     }
 
 -- a slot is what stands for a variable
-abbrev pub Stands : List Binding → List Classes → Variables → Slot → Type 0
+abbrev pub Stands : List ClassBinding → List Classes → Variables → Slot → Type 0
 Stands bindings classes variable (Fixed value) = class_of bindings variable ≡ Constant value
 Stands bindings classes variable (Class n) =
     (n < length classes)
     × ((d : Classes) → class_of bindings variable ≡ Variable (slice_index_or classes n d).representative)
 
 -- the first variable of each class is one of the members' and of that class, and no two classes are one
-pub record AreClasses (bindings : List Binding) (members : List (List Kind)) (classes : List Classes) : Type 0 where
+pub record AreClasses (bindings : List ClassBinding) (members : List (List Kind)) (classes : List Classes)
+    : Type 0 where
   pub firsts : (n : ℕ) (d : Classes) → n < length classes → IsVariableOf members (slice_index_or classes n d).first
       × (class_of bindings (slice_index_or classes n d).first ≡ Variable (slice_index_or classes n d).representative)
   pub apart : AllPairs (λ (one other : Classes). one.representative ≢ other.representative) classes
 
 -- the slots of a member's first variables
-pub record IsSlotRowTo (bindings : List Binding) (members : List (List Kind)) (member width : ℕ)
+pub record IsSlotRowTo (bindings : List ClassBinding) (members : List (List Kind)) (member width : ℕ)
     (old new : List Classes) (slots : List Slot) : Type 0 where
   pub width_is : length slots ≡ width
   pub stands : (k : ℕ) (d : Slot) → k < width
@@ -70,12 +71,12 @@ pub record IsSlotRowTo (bindings : List Binding) (members : List (List Kind)) (m
   pub kept : (n : ℕ) (d : Classes) → n < length old → slice_index_or new n d ≡ slice_index_or old n d
   pub classes : AreClasses bindings members new
 
-abbrev pub IsSlotRow : List Binding → List (List Kind) → ℕ → List Classes → List Classes → List Slot → Type 0
+abbrev pub IsSlotRow : List ClassBinding → List (List Kind) → ℕ → List Classes → List Classes → List Slot → Type 0
 IsSlotRow bindings members member = IsSlotRowTo bindings members member (length (slice_index_or members member []))
 
 -- the slots of the first members
-pub record AreSlotRowsTo (bindings : List Binding) (members : List (List Kind)) (count : ℕ) (classes : List Classes)
-    (rows : List (List Slot)) : Type 0 where
+pub record AreSlotRowsTo (bindings : List ClassBinding) (members : List (List Kind)) (count : ℕ)
+    (classes : List Classes) (rows : List (List Slot)) : Type 0 where
   pub count_is : length rows ≡ count
   pub widths : (m : ℕ) → m < count → length (slice_index_or rows m []) ≡ length (slice_index_or members m [])
   pub stands : (m k : ℕ) (d : Slot) → m < count → k < length (slice_index_or members m [])
@@ -83,5 +84,5 @@ pub record AreSlotRowsTo (bindings : List Binding) (members : List (List Kind)) 
   pub numbered : AreNumbered 0 (flat_map (λ slots. slots) rows) (length classes)
   pub classes_are : AreClasses bindings members classes
 
-abbrev pub AreSlotRows : List Binding → List (List Kind) → List Classes → List (List Slot) → Type 0
+abbrev pub AreSlotRows : List ClassBinding → List (List Kind) → List Classes → List (List Slot) → Type 0
 AreSlotRows bindings members = AreSlotRowsTo bindings members (length members)

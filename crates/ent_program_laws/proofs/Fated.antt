@@ -1,7 +1,7 @@
 -- Who gets a fate in an event was a member of the run, and the fate counts its runs.
 use Rattle.std.proofs.Common.{◌≡◌, ◌⊎◌, ◌==◌, ◌||◌, ℕ, suc, Bool, true, false, cond, List, [], ◌∷◌, length, refl, sym}
 use Rattle.std.proofs.Common.{ap, subst, ◌∙◌, inl, inr, Option, Some, None, Result, Ok, Err}
-use Rattle.std.specs.List.{cons_option, filter, filter_map}
+use Rattle.std.specs.List.{filter, filter_map}
 use Rattle.ent_value.specs.declared.value.Value.{Value}
 use Rattle.ent_tree.specs.declared.script.Script.{Script}
 use Rattle.ent_semantics.specs.declared.book.Fate.{Fate}
@@ -32,6 +32,7 @@ use Rattle.ent_protocol_laws.specs.Numbered.{from_by_number}
 use Rattle.ent_protocol_laws.proofs.Found.{found}
 use Rattle.ent_protocol_laws.proofs.Left.{tx_of}
 use Rattle.ent_lists.specs.Elements.{In, in_either, in_first, in_second, of_filter}
+use Rattle.ent_lists.proofs.Lists.{of_filter_map}
 use Rattle.ent_verdict.specs.Reportable.{runs_of}
 
 -- ---- fates that members get
@@ -79,24 +80,13 @@ fated_runs submitted cause m fated e = by (fate_of submitted cause m) refl e
         ∙ given_runs (own_fate cause m) (is_last_run submitted m) m.attempt fate (own_runs cause m) is
     by None is e = cc (e)
 
-given_by : {X Y : Type 0} (f : X → Option Y) (xs : List X) (y : Y) → In y (filter_map f xs)
-    → (x : X) × In x xs × (f x ≡ Some y)
-given_by f [] y at = absurd at
-given_by {X} {Y} f (x ∷ xs) y at = by (f x) refl at (given_by f xs y)
-  where
-    by : (o : Option Y) → f x ≡ o → In y (cons_option o (filter_map f xs))
-        → (In y (filter_map f xs) → (z : X) × In z xs × (f z ≡ Some y)) → (z : X) × In z (x ∷ xs) × (f z ≡ Some y)
-    by (Some z) is (inl same) rest = (x, inl refl, is ∙ ap (λ w. Some w) (sym same))
-    by (Some z) is (inr at) rest = let r = rest at in (r.0, inr r.1, r.2)
-    by None is at rest = let r = rest at in (r.0, inr r.1, r.2)
-
 left_out : (s : State) (gone : List Member) (cause : Cause) → ((m : Member) → In m gone → In m (members s))
     → FatesFrom s (taken_out gone cause s)
 left_out s gone cause of_run fated at =
     elim (in_either s.fates (filter_map (fated_by s.submitted cause) (by_number tx_of gone)) fated at) [
       | inl old ↦ inl old
       | inr new ↦
-          let r = given_by (fated_by s.submitted cause) (by_number tx_of gone) fated new in
+          let r = of_filter_map (fated_by s.submitted cause) (by_number tx_of gone) fated new in
           inr (r.0, of_run r.0 (from_by_number tx_of gone r.0 r.1), fated_runs s.submitted cause r.0 fated r.2)
     ]
 

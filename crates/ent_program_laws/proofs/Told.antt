@@ -19,6 +19,7 @@ use Rattle.ent_semantics.specs.declared.book.Member.{Member}
 use Rattle.ent_semantics.specs.Book.{IsLegal, all_members}
 use Rattle.ent_semantics.specs.Database.{Database, Name, opening_database, row_of}
 use Rattle.ent_semantics.specs.Serial.{Runs, Turn, numbered}
+use Rattle.ent_semantics.proofs.Numbered.{numbered_in}
 use Rattle.ent_book.specs.Report.{entry_answers, fate_answers, names_by_bytes}
 use Rattle.ent_history.specs.declared.history.Shown.{Shown}
 use Rattle.ent_history.specs.declared.history.Told.{Told}
@@ -33,7 +34,6 @@ use Rattle.ent_answer_laws.specs.Answered.{CanRun}
 use Rattle.ent_answer_laws.specs.Unplaced.{unplaced_book, unplaced_opening}
 use Rattle.ent_verdict.specs.Reportable.{CanBeReported}
 use Rattle.ent_verdict.proofs.Joints.{all_grounded}
-use Rattle.ent_verdict.proofs.Kept.{numbered_in}
 use Rattle.ent_answer_laws.specs.Kept.{CanKeep, OpeningsKeep, RunsKeep, ReadViewsKeep, TablesShow}
 use Rattle.ent_answer_laws.specs.Values.{HoldsValues, IsOfCharacters, IsWritten}
 use Rattle.ent_answer_laws.specs.Characters.{HoldsCharacters, IsAnswerOfCharacters, IsLexemeOfCharacters}

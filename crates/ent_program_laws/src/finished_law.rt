@@ -44,8 +44,8 @@ pub fn joint_answers_come_by_number<F>()
         → AllPairs (λ (first second : Member). first.tx < second.tx) joint.members }
 {}
 
-/// In every state that is reached in which each script asks for one run at least, and for so many at most, each fate
-/// counts one run at least, and no more than that.
+/// If each script asks for one run at least and for so many at most, each fate of a reached state counts one run at
+/// least and so many at most.
 pub fn fates_count_runs<F>()
     ensures { (forms : Forms F) (s : State) (most : ℕ) (fated : Fated)
         → IsReached forms s

@@ -10,13 +10,11 @@ use Rattle.ent_protocol.specs.Member.{pool}
 use Rattle.ent_protocol.specs.Partners.{Mickey, Minnie, query, pair, pair_job, pair_done}
 use Rattle.ent_protocol.specs.PoolEvents.{joining, joint_job, CanBePicked, IsPresentComponent, Lends, Joins}
 use Rattle.ent_lists.specs.Elements.{in_contains}
+use Rattle.ent_lists.proofs.Contained.{contains_none}
 use Rattle.ent_protocol.specs.PostedBy.{is_present}
 use Rattle.ent_protocol.specs.State.{State}
 use Rattle.ent_protocol.proofs.PartnersChoice.{taken, least_taken}
 use Rattle.ent_protocol.proofs.PartnersPool.{one_component, two_cases}
-
-not_there : {A : Type 0} (x : A) → Contains [] x → ⊥
-not_there x h = let r : h.0 < 0 = h.1 in omega arith
 
 -- a state in whose pool the two are, and no other
 module _ (s : State) (one two : ℕ) (before : one < two) (asked : pool s ≡ pair one two) where
@@ -36,7 +34,7 @@ module _ (s : State) (one two : ℕ) (before : one < two) (asked : pool s ≡ pa
 
   least : (others : List Posted) → CanBePicked s others → one ≤ first_tx others
   least [] h =
-      absurd (not_there h.component.first ((h.component.class h.component.first).1
+      absurd (contains_none h.component.first ((h.component.class h.component.first).1
       (h.component.in_remainder, (zero, refl))))
   least (a ∷ more) h =
       at_least a (in_contains (pool s) a (is_present (pool s) (a ∷ more) h.component a (inl refl)))
@@ -51,8 +49,8 @@ module _ (s : State) (one two : ℕ) (before : one < two) (asked : pool s ≡ pa
         asked = pair one two;
         can = record {
           component = present;
-          untried = λ h. not_there (pair one two) (subst (λ xs. Contains xs (pair one two)) tried_is h);
-          not_out = λ h. not_there h.0 (subst (λ xs. Contains xs h.0) lent_is h.1);
+          untried = λ h. contains_none (pair one two) (subst (λ xs. Contains xs (pair one two)) tried_is h);
+          not_out = λ h. contains_none h.0 (subst (λ xs. Contains xs h.0) lent_is h.1);
         };
         least = least;
         replies = refl;

@@ -4,6 +4,8 @@ use Rattle.std.proofs.Common.{arith, rules, refl, sym, ap, subst, ◌∙◌, Som
 use Rattle.std.specs.Prelude.{◌==◌}
 use Rattle.std.specs.List.{AllByRecursion, filter}
 use Rattle.std.proofs.Math.Bool.{or-true}
+use Rattle.std.proofs.lemmas.Bool.{false≢true}
+use Rattle.std.proofs.lemmas.List.{map-id}
 use Rattle.ent_lists.specs.Elements.{turned, same_number, or_first, all_by}
 use Rattle.ent_value.specs.declared.value.Value.{Value}
 use Rattle.ent_semantics.specs.Entangled.{Valuation}
@@ -27,9 +29,6 @@ use Rattle.ent_protocol.proofs.Among.{among_mapped, among_left, among_right, amo
 use Rattle.ent_protocol.proofs.Among.{found_among}
 use Rattle.ent_protocol.proofs.Numbers.{answered_tx, replaced_tx}
 
-false_true : false ≡ true → ⊥
-false_true x = cc
-
 no_member : (s : State) → IsTidy s → s.running ≡ false → (tx : ℕ) → is_member s tx ≡ false
 no_member s h off tx =
     ap (λ ms. is_among ms tx || is_among s.active tx) (h.no_prepared off)
@@ -38,7 +37,7 @@ no_member s h off tx =
 none_owned : (P : ℕ → Bool) (changes : List Change) → ((tx : ℕ) → P tx ≡ false)
     → AllByRecursion (λ (c : Change). P c.tx ≡ true) changes → changes ≡ []
 none_owned P [] f h = refl
-none_owned P (c ∷ changes) f h = absurd (false_true (sym (f c.tx) ∙ h.0))
+none_owned P (c ∷ changes) f h = absurd (false≢true (sym (f c.tx) ∙ h.0))
 
 -- where no run is on, nothing is noted
 pub no_changes : (s : State) → IsTidy s → s.running ≡ false → s.changes ≡ []
@@ -70,16 +69,12 @@ same_members s new f g f_same g_same running prepared active changes h =
         ap (λ ms. is_among ms tx) active ∙ among_mapped g s.active tx g_same in
         λ i. p i || a i
 
-identity : (ms : List Member) → ms ≡ map (λ m. m) ms
-identity [] = refl
-identity (m ∷ ms) = ap (λ xs. m ∷ xs) (identity ms)
-
 -- a state in which one member is another of its number
 pub one_replaced : (s new : State) (member : Member) → new.running ≡ s.running → new.prepared ≡ s.prepared
     → new.active ≡ map (replaced member) s.active → new.changes ≡ s.changes → IsTidy s → IsTidy new
 one_replaced s new member running prepared active changes h =
     same_members s new (λ m. m) (replaced member) (λ m. refl) (replaced_tx member) running
-    (prepared ∙ identity s.prepared) active changes h
+    (prepared ∙ sym (map-id s.prepared)) active changes h
 
 -- ---- members are taken out
 
@@ -118,7 +113,7 @@ all_out s h =
 pub found_on : (s : State) (tx : ℕ) (member : Member) → IsTidy s → active_member s tx ≡ Some member
     → s.running ≡ false → ⊥
 found_on s tx member h found off =
-    false_true (sym (ap (λ ms. is_among ms tx) (h.no_active off)) ∙ (found_among tx s.active member found).1)
+    false≢true (sym (ap (λ ms. is_among ms tx) (h.no_active off)) ∙ (found_among tx s.active member found).1)
 
 another : (n tx k : ℕ) → (n == tx) ≡ false → (k == tx) ≡ true → not (k == n) ≡ true
 another n tx k is e = grind (arith, rules)

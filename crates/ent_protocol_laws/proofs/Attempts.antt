@@ -10,6 +10,7 @@ use Rattle.ent_semantics.specs.declared.book.Fate.{Fate}
 use Rattle.ent_semantics.specs.Serial.{numbered}
 use Rattle.ent_semantics.specs.declared.operand.Known.{Known}
 use Rattle.ent_semantics.specs.declared.statement.Statement.{Statement}
+use Rattle.ent_semantics.proofs.Numbered.{of_numbered}
 use Rattle.ent_coordination.specs.Pool.{Posted}
 use Rattle.ent_protocol.specs.Begin.{replaced}
 use Rattle.ent_protocol.specs.Commit.{preparing}
@@ -317,13 +318,6 @@ reached_within forms s r asked =
     }
 
 -- ---- below a number
-
-of_numbered : {A : Type 0} (P : A → Type 0) (xs : List A) (n : ℕ) (a : A) → AllByRecursion P xs
-    → numbered xs n ≡ Some a → P a
-of_numbered P xs zero a all e = cc
-of_numbered P [] (suc n) a all e = cc
-of_numbered P (x ∷ xs) (suc zero) a all e = let same : x ≡ a = cc in subst P same all.0
-of_numbered P (x ∷ xs) (suc (suc n)) a all e = of_numbered P xs (suc n) a all.1 e
 
 pub stay_below : (most : ℕ) (s : State) → AskForMost most s → StayWithin s → StayBelow most s
 stay_below most s few h =

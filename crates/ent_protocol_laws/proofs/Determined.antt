@@ -39,10 +39,10 @@ use Rattle.ent_protocol_laws.proofs.Reasons.{BothCycles, begin_alike, no_reason,
 same_member : (m n : Member) → Some m ≡ Some n → m ≡ n
 same_member m n e = cc
 
-same_single : (one other : Single) → One one ≡ One other → one ≡ other
+pub same_single : (one other : Single) → One one ≡ One other → one ≡ other
 same_single one other e = cc
 
-same_asked : (one other : List Posted) → Joint one ≡ Joint other → one ≡ other
+pub same_asked : (one other : List Posted) → Joint one ≡ Joint other → one ≡ other
 same_asked one other e = cc
 
 same_choice : (one other : Option (List Valuation)) → Choice one ≡ Choice other → one ≡ other

@@ -1,7 +1,7 @@
 -- Members that are left at the end of a run.
-use Rattle.std.proofs.Common.{◌≡◌, ◌↔◌, inl, inr, ℕ, suc, Bool, true, false, ◌==◌, List, [], ◌∷◌}
-use Rattle.std.proofs.Common.{map, refl, sym, ap, subst, ◌∙◌, Option, Some, None, Contains}
-use Rattle.std.specs.List.{cons_option, filter, filter_map}
+use Rattle.std.proofs.Common.{◌≡◌, ◌↔◌, inl, inr, ℕ, suc, Bool, true, false, ◌==◌, List, []}
+use Rattle.std.proofs.Common.{map, refl, sym, ap, subst, ◌∙◌, Some, None, Contains}
+use Rattle.std.specs.List.{filter, filter_map}
 use Rattle.ent_tree.specs.declared.declaration.Opening.{Opening}
 use Rattle.ent_semantics.specs.Serial.{numbered}
 use Rattle.ent_semantics.specs.declared.book.Fate.{Fate}
@@ -20,24 +20,11 @@ use Rattle.ent_protocol_laws.specs.Standing.{GoesOn, StandOnce}
 use Rattle.ent_protocol_laws.specs.Last.{HasGivenUp, WaitsAgain}
 use Rattle.ent_lists.specs.Elements.{In, clash, contains_in, in_contains, in_second, index_pairs, not_so, pairs_across}
 use Rattle.ent_lists.specs.Elements.{number_itself, pairs_second, same_number, to_filter, to_map}
+use Rattle.ent_lists.proofs.Lists.{to_filter_map}
 use Rattle.ent_protocol_laws.specs.Numbered.{to_by_number}
 use Rattle.ent_protocol_laws.proofs.Left.{tx_of}
 
 -- ---- one of those that are left
-
-to_given : {X Y : Type 0} (f : X → Option Y) (xs : List X) (x : X) (y : Y) → In x xs → f x ≡ Some y
-    → In y (filter_map f xs)
-to_given f [] x y at is = absurd at
-to_given f (z ∷ xs) x y (inl same) is = here (f z) (ap f (sym same) ∙ is)
-  where
-    here : (o : Option _) → o ≡ Some y → In y (cons_option o (filter_map f xs))
-    here (Some w) e = inl (let one : y ≡ w = cc in one)
-    here None e = cc
-to_given f (z ∷ xs) x y (inr at) is = behind (f z) (to_given f xs x y at is)
-  where
-    behind : (o : Option _) → In y (filter_map f xs) → In y (cons_option o (filter_map f xs))
-    behind (Some w) rest = inr rest
-    behind None rest = rest
 
 -- a member among those that leave, whose cause gives it no fate
 module _ (s : State) (gone : List Member) (cause : Cause) (member : Member) (own : Submitted)
@@ -54,7 +41,7 @@ module _ (s : State) (gone : List Member) (cause : Cause) (member : Member) (own
     gives_up same =
         in_second s.fates (filter_map (fated_by s.submitted cause) left)
         (record { tx = member.tx; fate = GaveUp member.attempt })
-        (to_given (fated_by s.submitted cause) left member _ (to_by_number tx_of gone member at) fated)
+        (to_filter_map (fated_by s.submitted cause) left member _ (to_by_number tx_of gone member at) fated)
       where
         last : is_last_run s.submitted member ≡ true
         last = last_is ∙ ap (λ n. n == own.script.within) same ∙ number_itself own.script.within
@@ -67,7 +54,7 @@ module _ (s : State) (gone : List Member) (cause : Cause) (member : Member) (own
     waits differ =
         in_second s.dormant (filter_map (dormant_by s.submitted cause) left)
         (record { tx = member.tx; runs = member.attempt })
-        (to_given (dormant_by s.submitted cause) left member _ (to_by_number tx_of gone member at) asleep)
+        (to_filter_map (dormant_by s.submitted cause) left member _ (to_by_number tx_of gone member at) asleep)
       where
         not_last : is_last_run s.submitted member ≡ false
         not_last =
@@ -83,7 +70,7 @@ pub has_own : (s : State) (gone : List Member) (cause : Cause) (member : Member)
 has_own s gone cause member fate at is =
     in_second s.fates (filter_map (fated_by s.submitted cause) (by_number tx_of gone))
     (record { tx = member.tx; fate = fate })
-    (to_given (fated_by s.submitted cause) (by_number tx_of gone) member _ (to_by_number tx_of gone member at)
+    (to_filter_map (fated_by s.submitted cause) (by_number tx_of gone) member _ (to_by_number tx_of gone member at)
     (rw is refl))
 
 -- the members of a group

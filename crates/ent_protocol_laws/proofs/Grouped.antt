@@ -23,10 +23,9 @@ use Rattle.ent_protocol_laws.proofs.Left.{dormant_tx, in_among}
 use Rattle.ent_lists.specs.Elements.{In, of_filter, to_filter, to_map, any_some, any_in, contains_in, in_contains}
 use Rattle.ent_lists.specs.Elements.{same_number}
 use Rattle.ent_protocol_laws.proofs.Placed.{places_kept, places_opened}
-use Rattle.ent_protocol_laws.proofs.Times.{count, count_joined}
+use Rattle.ent_protocol_laws.proofs.Times.{one_if, count, count_joined}
 use Rattle.ent_protocol_laws.proofs.Groups.{label_of, labels, GroupsRight, one_member, replaced_labels, of_labels}
 use Rattle.ent_protocol_laws.proofs.Groups.{as_before, prepares, commits, rolls_back, ends, starts}
-use Rattle.ent_protocol_laws.proofs.Times.{one_if}
 use Rattle.ent_protocol_laws.proofs.Together.{joins}
 
 finishes : (s : State) (m : Member) (left : List Job) (statement : Statement Value) (outcome : Outcome)

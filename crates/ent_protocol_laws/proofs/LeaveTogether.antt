@@ -1,6 +1,7 @@
 -- Members of a group leave the run together.
 use Rattle.std.proofs.Common.{◌≡◌, inl, inr, ℕ, Bool, true, false, not, ◌==◌, List, [], ◌∷◌, ◌++◌, map, refl, sym}
 use Rattle.std.proofs.Common.{ap, subst, ◌∙◌}
+use Rattle.std.proofs.lemmas.List.{map-id}
 use Rattle.std.specs.List.{filter, list_any}
 use Rattle.ent_value.specs.declared.value.Value.{Value}
 use Rattle.ent_semantics.specs.Entangled.{Valuation}
@@ -69,15 +70,12 @@ mapped s new f g of_f of_g prepared active m at =
       )
     ]
 
-unmapped : (ms : List Member) → ms ≡ map (λ m. m) ms
-unmapped [] = refl
-unmapped (m ∷ ms) = ap (λ more. m ∷ more) (unmapped ms)
-
 one_replaced : (s new : State) (member : Member) (rolled : Bool) → new.prepared ≡ s.prepared
     → new.active ≡ map (replaced member) s.active → LeaveTogether s rolled new
 one_replaced s new member rolled prepared active =
     all_stay s new rolled
-    (mapped s new (λ m. m) (replaced member) (λ m. refl) (replaced_tx member) (prepared ∙ unmapped s.prepared) active)
+    (mapped s new (λ m. m) (replaced member) (λ m. refl) (replaced_tx member)
+    (prepared ∙ sym (map-id s.prepared)) active)
 
 finishes : (s : State) (m : Member) (c : Statement Value) (outcome : Outcome)
     → LeaveTogether s false (finished s m c outcome)

@@ -29,3 +29,5 @@ pub mod LeaveTogether
 pub mod Journals
 pub mod Ended
 pub mod SettledTables
+pub mod JoinedLabels
+pub mod Few

@@ -1,7 +1,7 @@
 -- Each transaction that was submitted is a member, is dormant or has a fate, and once.
-use Rattle.std.proofs.Common.{◌≡◌, ◌<◌, ◌≤◌, ◌+◌, ℕ, zero, suc, Bool, true, false, ◌==◌, List, [], ◌∷◌}
+use Rattle.std.proofs.Common.{◌≡◌, ◌<◌, ◌≤◌, ◌+◌, ℕ, zero, suc, Bool, true, false, ◌==◌, []}
 use Rattle.std.proofs.Common.{◌++◌, map, length, refl, sym, ap, ◌∙◌, arith}
-use Rattle.std.proofs.lemmas.List.{length-append, length-map}
+use Rattle.std.proofs.lemmas.List.{length-append, length-map, map-id}
 use Rattle.ent_group.specs.declared.members.TheConstants.{MOST_MEMBERS}
 use Rattle.ent_protocol.specs.Begin.{replaced}
 use Rattle.ent_protocol.specs.State.{State, Member, members}
@@ -119,16 +119,12 @@ mapped_places s new g f g_tx f_tx prepared active dormant fates submitted runnin
         ∙ (λ i. length-map s.prepared g i + length-map s.active f i)
         ∙ sym (length-append s.prepared s.active)
 
-pub unmapped : (ms : List Member) → ms ≡ map (λ m. m) ms
-unmapped [] = refl
-unmapped (m ∷ ms) = ap (λ more. m ∷ more) (unmapped ms)
-
 -- a state of the same members
 pub other_parts : (s new : State) → new.prepared ≡ s.prepared → new.active ≡ s.active → new.dormant ≡ s.dormant
     → new.fates ≡ s.fates → new.submitted ≡ s.submitted → new.running ≡ s.running → Stands s → Stands new
 other_parts s new prepared active dormant fates submitted running h =
-    mapped_places s new (λ m. m) (λ m. m) (λ m. refl) (λ m. refl) (prepared ∙ unmapped s.prepared)
-    (active ∙ unmapped s.active) dormant fates submitted running h
+    mapped_places s new (λ m. m) (λ m. m) (λ m. refl) (λ m. refl) (prepared ∙ sym (map-id s.prepared))
+    (active ∙ sym (map-id s.active)) dormant fates submitted running h
 
 -- another in the place of a member
 pub one_replaced : (s new : State) (member : Member) → new.prepared ≡ s.prepared
@@ -136,4 +132,4 @@ pub one_replaced : (s new : State) (member : Member) → new.prepared ≡ s.prep
     → new.submitted ≡ s.submitted → new.running ≡ s.running → Stands s → Stands new
 one_replaced s new member prepared active dormant fates submitted running h =
     mapped_places s new (λ m. m) (replaced member) (λ m. refl) (replaced_tx member)
-    (prepared ∙ unmapped s.prepared) active dormant fates submitted running h
+    (prepared ∙ sym (map-id s.prepared)) active dormant fates submitted running h

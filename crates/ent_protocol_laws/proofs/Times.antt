@@ -5,19 +5,12 @@ use Rattle.std.specs.List.{filter}
 use Rattle.std.proofs.lemmas.List.{map-append, take-append-drop}
 use Rattle.ent_protocol.specs.State.{inserted, by_number}
 use Rattle.ent_lists.specs.Elements.{In, Pairs, to_all, same_number, number_itself}
-
--- one more where the test holds
-abbrev pub one_if : Bool → ℕ → ℕ
-one_if true k = suc k
-one_if false k = k
+use Rattle.ent_lists.proofs.Numbers.{one_added}
+pub use Rattle.ent_lists.proofs.Numbers.{one_if, one_more}
 
 abbrev pub times : ℕ → List ℕ → ℕ
 times n [] = 0
 times n (m ∷ more) = one_if (m == n) (times n more)
-
-one_added : (b : Bool) (j k : ℕ) → one_if b (j + k) ≡ one_if b j + k
-one_added true j k = omega arith
-one_added false j k = refl
 
 one_behind : (b : Bool) (j k : ℕ) → one_if b (j + k) ≡ j + one_if b k
 one_behind true j k = omega arith
@@ -28,10 +21,6 @@ one_swapped true true k = refl
 one_swapped true false k = refl
 one_swapped false true k = refl
 one_swapped false false k = refl
-
-pub one_more : (b : Bool) (k : ℕ) → k ≤ one_if b k
-one_more true k = omega arith
-one_more false k = omega arith
 
 pub times_joined : (n : ℕ) (xs ys : List ℕ) → times n (xs ++ ys) ≡ times n xs + times n ys
 times_joined n [] ys = nothing_before (times n ys)

@@ -10,8 +10,8 @@ mod steps;
 
 pub use standing::{
     attempts_stay_within, groups_are_classes, lent_jobs_stand_once, lent_tables_are_declared,
-    members_stand_by_number, pools_are_safe, steps_go_on, transactions_are_counted,
-    transactions_stand_once,
+    members_stand_by_number, pools_are_safe, scripts_are_few, steps_go_on,
+    transactions_are_counted, transactions_stand_once,
 };
 pub use steps::{
     ended_members_give_up_at_last, events_are_determined, groups_leave_together,

@@ -1,6 +1,7 @@
 //! Laws of reached states. What holds is in the contracts.
 ghost use Rattle.std.specs.Prelude.{◌≡◌, ◌≤◌, ℕ, ◌+◌, length};
 ghost use Rattle.std.specs.List.{AllByRecursion};
+ghost use Rattle.ent_tree.specs.declared.limits.TheConstants.{MOST_SCRIPTS};
 ghost use Rattle.ent_group.specs.declared.members.TheConstants.{MOST_MEMBERS};
 ghost use Rattle.ent_coordination.specs.Pool.{IsSafe};
 ghost use Rattle.ent_protocol.specs.Event.{Event, Reply};
@@ -34,6 +35,12 @@ pub fn transactions_stand_once<F>()
 pub fn transactions_are_counted<F>()
     ensures { (forms : Forms F) (s : State) → IsReached forms s
         → length s.fates + length s.dormant + length (members s) ≡ length s.submitted }
+{}
+
+/// In every state that is reached no more scripts were submitted than there may be, so no transaction is of a greater
+/// number.
+pub fn scripts_are_few<F>()
+    ensures { (forms : Forms F) (s : State) → IsReached forms s → length s.submitted ≤ MOST_SCRIPTS }
 {}
 
 /// In every state that is reached members are of distinct numbers; those that aren't prepared stand by number, and so

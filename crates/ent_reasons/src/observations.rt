@@ -94,7 +94,7 @@ impl Observations {
         });
     }
 
-    /// All of these were seen now: what each of them lacks is kept as it is now.
+    /// All of these were seen: keeps what each of them lacks.
     pub fn settle(&mut self, members: &Members) {
         for tx in members.as_slice() {
             let lacking = self.lacking_now(*tx);
@@ -258,7 +258,7 @@ impl Observations {
     }
 }
 
-/// Keeps nothing of each transaction up to one of which nothing is kept yet. Where memory runs out it may be fewer.
+/// Adds empty entries up to this place. If memory runs out, there may be fewer.
 fn extend_to(kept: &mut Vec<Kept>, place: usize) -> Result<(), AllocError>
     ensures { OnOk result (place < length kept.new.items) }
 {

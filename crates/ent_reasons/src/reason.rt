@@ -52,7 +52,7 @@ impl<'a> Reason<'a> {
         }
     }
 
-    /// That it was rolled back for the sake of another one, where that one stood, and what ties it to that one.
+    /// Says that it was rolled back because of another transaction: where that one stood, and what ties it to that one.
     fn put_other<W: fmt::Write>(&self, f: &mut fmt::Formatter<W>, other: Tx) -> fmt::Result {
         write!(f, "rolled back with tx {other} of its group (")?;
         self.put_spot(f, other)?;

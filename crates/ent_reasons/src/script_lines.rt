@@ -35,7 +35,7 @@ impl ScriptLines {
             spots: Vec::new(alloc),
             firsts: Vec::new(alloc),
         };
-        let mut counted = Counted::new(text);
+        let mut counted = LineCounter::new(text);
         let mut begins = false;
         let mut left = Tokens::of(text);
         while let Some(view) = left.front() {
@@ -115,15 +115,15 @@ fn sort_of(view: &TokenView<'_>) -> Sort {
 
 /// The line of a place of a text, counted on from place to place.
 #[derive(Drop)]
-struct Counted<'a> {
+struct LineCounter<'a> {
     text: &'a str,
     place: usize,
     line: usize,
 }
 
-impl<'a> Counted<'a> {
+impl<'a> LineCounter<'a> {
     fn new(text: &'a str) -> Self {
-        Counted {
+        LineCounter {
             text,
             place: 0,
             line: 1,

@@ -1,5 +1,6 @@
 -- A closure that may run out of memory, whose refusals are errors of which those of memory are excused.
 use Rattle.std.proofs.Common.{◌≡◌, Bool, true, false, inl, inr, List, [], ◌∷◌, refl, ap, ◌∙◌}
+use Rattle.std.proofs.lemmas.Bool.{false≢true}
 use Rattle.std.specs.Prelude.{Result, Ok, Err}
 use denote.Param.Members.{Shared}
 use denote.Ref.{Bor}
@@ -47,16 +48,13 @@ changes_answer {F} {E} calls closure rows image changes row answer here says =
     of (Err Memory) meant h = inl refl
     of (Err (Fault fault)) meant h = inr (ap faulted h)
 
-differ : false ≡ true → ⊥
-differ e = cc
-
 pub gives_flat : {X Y E : Type 0} (view : X → Y) (result : Result X (Refusal (Refusal E))) (meant : Result Y E)
     → GivesUnless is_of_memory view result (faulted meant) → Gives view (flat result) meant
 gives_flat view (Ok x) (Ok y) h = let is : y ≡ view x = cc in ap (λ z. Ok z) is
 gives_flat view (Ok x) (Err fault) h = absurd cc
 gives_flat view (Err Memory) meant h = tt
 gives_flat view (Err (Fault Memory)) meant h = tt
-gives_flat view (Err (Fault (Fault fault))) meant (inl bad) = absurd (differ bad)
+gives_flat view (Err (Fault (Fault fault))) meant (inl bad) = absurd (false≢true bad)
 gives_flat view (Err (Fault (Fault fault))) (Ok y) (inr h) = absurd cc
 gives_flat view (Err (Fault (Fault fault))) (Err other) (inr h) =
     let is : other ≡ fault = cc in ap (λ f. Err f) is

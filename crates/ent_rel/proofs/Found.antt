@@ -5,6 +5,7 @@ use Rattle.std.specs.Prelude.{◌&&◌, IsTrue, ◌⊎◌, Result, Ok, Err, IfOk
 use Rattle.std.specs.List.{filter, IsDistinct}
 use Rattle.std.specs.Ordering.{eq_by_cmp}
 use Rattle.std.proofs.lemmas.Map.Keys.{IsDistinct-from_sorted}
+use Rattle.std.proofs.lemmas.Bool.{and_parts}
 use denote.Param.Members.{Shared}
 use denote.Ref.{Bor}
 use Rattle.ent_lists.specs.Sets as set
@@ -49,18 +50,14 @@ pub ascending_len : (s : RowSet) → length (set.ascending s) ≡ set.len s
 ascending_len s = sym (len-distinct rows_total exact_rows (set.ascending s) (ascending_distinct s))
     ∙ ap set.len (ascending_all s)
 
-and_first : (a b : Bool) → (a && b) ≡ true → a ≡ true
-and_first true b h = refl
-and_first false b h = absurd cc
-
 -- what is found of a set is in the set
 pub found_there : (s : RowSet) (p : List Value → Bool) (row : List Value)
     → IsTrue (set.contains (set.from_list {R = row_cmp} (filter p (set.ascending s))) row) → IsTrue (set.contains s row)
 found_there s p row here =
-    and_first (set.contains s row) (p row)
+    (and_parts (set.contains s row) (p row)
     (sym (contains-retain rows_total s p row (λ x e. sym (ap p (exact_rows row x e))))
     ∙ sym (ap (λ t. set.contains t row) (from_list-filter rows_total exact_rows p (set.ascending s)
-    ∙ ap (λ t. set.retain t p) (ascending_all s))) ∙ here)
+    ∙ ap (λ t. set.retain t p) (ascending_all s))) ∙ here)).0
 
 pub found_computes : {F : Type 0} (calls : Shared F (Bor (List Value) × Unit {0}) Bool) (closure : F) (s : RowSet)
     (p passes : List Value → Bool) (found : List (List Value))

@@ -1,11 +1,11 @@
 -- Lists of rows: what a loop over them has made, and what they have in common with the set of their rows.
 use Rattle.std.proofs.Common.{◌≡◌, ℕ, zero, suc, ◌+◌, ◌<◌, Bool, true, false, cond, List, [], ◌∷◌, ◌++◌, length, refl}
-use Rattle.std.proofs.Common.{inl, inr, sym, ap, subst, ◌∙◌, arith, get_or, take, drop, append-nil}
+use Rattle.std.proofs.Common.{inl, inr, sym, ap, subst, ◌∙◌, arith, get_or, take, append-nil}
 use Rattle.std.specs.Prelude.{Result, Ok, Err, IsTrue, All, ◌||◌}
 use Rattle.std.specs.List.{filter, list_any, Contains}
 use Rattle.std.specs.Ordering.{eq_by_cmp}
 use Rattle.std.specs.Cmp.{Equal-is}
-use Rattle.std.proofs.lemmas.List.{take_more, take_all, take-append-le}
+use Rattle.std.proofs.lemmas.List.{take_more}
 use Rattle.std.proofs.lemmas.List.Elements.{filter_more, All-append, All-take, All-contains, All-contains_itself}
 use Rattle.std.proofs.lemmas.Map.Views.{Contains-from_any, list_any-from_Contains}
 use denote.Param.Members.{Shared}
@@ -89,10 +89,6 @@ pub images_step : {E : Type 0} (image : List Value → Result (List Value) E) (r
 images_step image rows images i row new lt is one so =
     ap (images_of image) (take_more rows i row lt ∙ ap (λ y. take i rows ++ y ∷ []) (sym is))
     ∙ images_more image (take i rows) images row new so one
-
--- a list of as many elements written over another
-pub written_over : {X : Type 0} (n : ℕ) (xs old : List X) → length xs ≡ n → take n (xs ++ drop (length xs) old) ≡ xs
-written_over n xs old e = take-append-le n xs (drop (length xs) old) (omega arith) ∙ take_all n xs (omega arith)
 
 -- an element of a list is in the set of its elements
 pub there : (rows : List (List Value)) (row : List Value) → Contains rows row

@@ -63,13 +63,11 @@ widths create rows most few kinds k d low =
     each = to_ascending (λ row. length row ≤ most) rows (λ row there.
         let e = as_many create row (kinds row there) in omega (arith, few, e))
 
-no_rows : set.ascending (set.empty {R = row_cmp}) ≡ []
-no_rows = ascending-from_list rows_total exact_rows [] tt
-
 -- of a table that isn't there no row is put in
 pub nothing_put : (database : Database) (create : Create) (rows : List OpeningRow)
     → database create.name.name ≡ set.empty → rows ≡ rows ++ table_rows database create
 nothing_put database create rows none =
+    let empty : set.ascending (set.empty {R = row_cmp}) ≡ [] = ascending-from_list rows_total exact_rows [] tt in
     sym (append-nil rows)
     ∙ ap (λ (more : List (List Value)). rows ++ map (opening_row create.name) more)
-    (sym no_rows ∙ ap (λ (own : Rows). set.ascending own) (sym none))
+    (sym empty ∙ ap (λ (own : Rows). set.ascending own) (sym none))

@@ -20,6 +20,7 @@ use Rattle.ent_form.specs.declared.catalogue.ColumnSchema.{ColumnSchema}
 use Rattle.ent_form.specs.declared.catalogue.TableSchema.{TableSchema}
 use Rattle.ent_form.specs.declared.fault.FormFault.TheVariants.{Arity, NoTable, WrongKind}
 use Rattle.ent_form_laws.specs.Kinds.{column_kinds}
+use Rattle.ent_form_laws.proofs.Steps.{both_nothing}
 use Rattle.ent_lists.specs.Elements.{In, all_index, any_in, number_itself}
 use Rattle.ent_value.specs.Kinds.{kind_itself, same_kind}
 use Rattle.ent_semantics.proofs.EachRow.{to_ascending}
@@ -28,9 +29,6 @@ use Rattle.ent_renewal.specs.Rows.{literal_of, opening_row, opening_rows, table_
 use Rattle.ent_renewal.proofs.Again.{same_tables}
 
 -- ---- checks that find nothing
-
-nothing : (check later : Check) → check ≡ None → later ≡ None → (check before later) ≡ None
-nothing check later first rest = ap (λ c. c before later) first ∙ rest
 
 none_joined : {A : Type 0} (check : A → Check) (xs ys : List A) → first_of check xs ≡ None → first_of check ys ≡ None
     → first_of check (xs ++ ys) ≡ None
@@ -47,7 +45,7 @@ none_mapped : {A B : Type 0} (check : A → Check) (f : B → A) (xs : List B)
     → AllByRecursion (λ x. check (f x) ≡ None) xs → first_of check (map f xs) ≡ None
 none_mapped check f [] all = refl
 none_mapped check f (x ∷ xs) all =
-    nothing (check (f x)) (first_of check (map f xs)) all.0 (none_mapped check f xs all.1)
+    both_nothing (check (f x)) (first_of check (map f xs)) all.0 (none_mapped check f xs all.1)
 
 -- ---- a row
 
@@ -61,7 +59,7 @@ literals_formed (column ∷ columns) (value ∷ row) e =
     let rest : kinds_of row ≡ map (λ (column : ColumnSchema). column.kind) columns = cc in
     let same : same_kind column.kind (kind_of value) ≡ true =
     ap (same_kind column.kind) here ∙ kind_itself column.kind in
-    nothing (if same_kind column.kind (kind_of value) then None else Some (WrongKind 0))
+    both_nothing (if same_kind column.kind (kind_of value) then None else Some (WrongKind 0))
     (literals_fault columns (map literal_of row))
     (ap (λ (b : Bool). if b then None else Some (WrongKind 0)) same) (literals_formed columns row rest)
 
@@ -71,7 +69,7 @@ row_formed table name row e =
     let long : length (map literal_of row) ≡ length table.columns =
     length-map row literal_of ∙ sym (length-map row kind_of) ∙ ap length e
     ∙ length-map table.columns (λ (column : ColumnSchema). column.kind) in
-    nothing (if length (map literal_of row) == length table.columns then None else Some (Arity 0))
+    both_nothing (if length (map literal_of row) == length table.columns then None else Some (Arity 0))
     (literals_fault table.columns (map literal_of row))
     (ap (λ (b : Bool). if b then None else Some (Arity 0))
     (ap (λ (n : ℕ). n == length table.columns) long ∙ number_itself (length table.columns)))
@@ -141,7 +139,7 @@ renewed declared database opening once holds tables rows =
     let made : Opening = record { tables = declared; rows = opening_rows declared database } in
     let same : made ≡ opening = λ i. record { tables = sym tables i; rows = sym rows i } in
     let formed : opening_fault made ≡ None =
-    nothing (declarations_fault [] declared)
+    both_nothing (declarations_fault [] declared)
     (first_of (opening_row_fault (schemas_of declared)) (opening_rows declared database)) once
     (rows_formed database declared all declared (λ create at. at)) in
     let is : IsRenewed declared database made =

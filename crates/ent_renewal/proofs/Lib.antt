@@ -6,3 +6,4 @@ pub mod Finished
 pub mod Onward
 pub mod Rest
 pub mod Emptied
+pub mod Under

@@ -10,6 +10,7 @@ use Rattle.ent_history.specs.Told.{has_committed as is_said_to_have}
 use Rattle.ent_history.specs.Answers.{with_answer}
 use Rattle.ent_history.specs.Draft.{answer_due, on_last, unanswered}
 use Rattle.ent_lists.specs.Elements.{In}
+use Rattle.ent_lists.proofs.Lists.{got_none}
 use Rattle.ent_history.specs.Account.{Account, accounts_from, has_committed}
 use Rattle.ent_history.proofs.Bridge.{committed_same}
 use Rattle.ent_report_laws.proofs.Begun.{told_of}
@@ -30,11 +31,6 @@ none_answered [] = tt
 none_answered (script ∷ scripts) = tt
 
 -- ---- what is due
-
-pub got_none : {X : Type 0} (xs : List X) (n : ℕ) → slice_get xs n ≡ None → length xs ≤ n
-got_none [] n e = omega arith
-got_none (x ∷ xs) zero e = cc (e)
-got_none (x ∷ xs) (suc n) e = let rest : length xs ≤ n = got_none xs n e in omega arith
 
 pub got_some : {X : Type 0} (xs : List X) (n : ℕ) (x : X) → slice_get xs n ≡ Some x → n < length xs
 got_some [] n x e = cc (e)

@@ -3,6 +3,7 @@ use Rattle.std.proofs.Common.{◌≡◌, ◌≢◌, ℕ, suc, Bool, false, cond,
 use Rattle.std.proofs.Common.{refl, sym, ap, ◌∙◌, inl, inr, Option, Some, None}
 use Rattle.std.specs.List.{AllByRecursion}
 use Rattle.std.proofs.lemmas.List.{length-map}
+use Rattle.ent_form_laws.proofs.Steps.{both_nothing}
 use Rattle.ent_value.specs.Value.{kind_of, kinds_of}
 use Rattle.ent_value.specs.declared.value.Kind.{Kind}
 use Rattle.ent_tree.specs.declared.declaration.Column.{Column}
@@ -12,7 +13,7 @@ use Rattle.ent_tree.specs.declared.declaration.OpeningRow.{OpeningRow}
 use Rattle.ent_tree.specs.declared.operand.Identifier.{Identifier}
 use Rattle.ent_tree.specs.declared.operand.Literal.{Literal}
 use Rattle.ent_semantics.specs.Names.{equal_names, name_itself}
-use Rattle.ent_form.specs.OpeningFault.{Check, ◌before◌, declarations_fault, first_of, literals_fault, opening_fault}
+use Rattle.ent_form.specs.OpeningFault.{◌before◌, declarations_fault, first_of, literals_fault, opening_fault}
 use Rattle.ent_form.specs.OpeningFault.{opening_row_fault, refused_where, repeated, row_fault, where_there}
 use Rattle.ent_form.specs.declared.catalogue.TableSchema.{TableSchema}
 use Rattle.ent_form.specs.declared.fault.FormFault.{FormFault}
@@ -24,9 +25,6 @@ use Rattle.ent_value.specs.Kinds.{kind_itself, same_kind}
 use Rattle.ent_semantics.specs.Database.{Name, row_of, same_name, is_among}
 use Rattle.ent_form.specs.Catalogue.{column_schema, schemas_of, table_from, table_schema}
 use Rattle.ent_report_laws.proofs.Opened.{Before, IsOpened, IsRowOf, other_name}
-
-both_none : (first second : Check) → first ≡ None → second ≡ None → (first before second) ≡ None
-both_none first second e f = ap (λ (c : Check). c before second) e ∙ f
 
 not_refused : (test : Bool) (fault : FormFault) → test ≡ false → refused_where test fault ≡ None
 not_refused test fault e = ap (λ (b : Bool). refused_where b fault) e
@@ -69,7 +67,7 @@ none_repeated : (earlier : List Name) (identifiers : List Identifier)
     → repeated earlier identifiers ≡ None
 none_repeated earlier [] others apart = refl
 none_repeated earlier (identifier ∷ more) others apart =
-    both_none (refused_where (is_among earlier identifier.name) (Repeated identifier.place))
+    both_nothing (refused_where (is_among earlier identifier.name) (Repeated identifier.place))
     (repeated (earlier ++ identifier.name ∷ []) more)
     (not_refused (is_among earlier identifier.name) (Repeated identifier.place)
     (not_among earlier identifier.name (others identifier.name (inl refl))))
@@ -96,12 +94,12 @@ none_declared_again : (earlier : List Name) (tables : List Create)
     → declarations_fault earlier tables ≡ None
 none_declared_again earlier [] others apart declarations = refl
 none_declared_again earlier (create ∷ more) others apart declarations =
-    both_none (refused_where (is_among earlier create.name.name) (Repeated create.name.place))
+    both_nothing (refused_where (is_among earlier create.name.name) (Repeated create.name.place))
     (repeated [] (map (λ column. column.name) create.columns)
     before declarations_fault (earlier ++ create.name.name ∷ []) more)
     (not_refused (is_among earlier create.name.name) (Repeated create.name.place)
     (not_among earlier create.name.name (others create.name.name (inl refl))))
-    (both_none (repeated [] (map (λ column. column.name) create.columns))
+    (both_nothing (repeated [] (map (λ column. column.name) create.columns))
     (declarations_fault (earlier ++ create.name.name ∷ []) more)
     (none_repeated [] (map (λ column. column.name) create.columns) (λ name at other there. absurd there)
     (columns_apart create declarations.0))
@@ -150,7 +148,7 @@ none_wrong : (columns : List Column) (literals : List Literal)
 none_wrong [] literals e = refl
 none_wrong (column ∷ columns) [] e = refl
 none_wrong (column ∷ columns) (literal ∷ literals) e =
-    both_none (cond (same_kind column.kind (kind_of literal.value)) None (Some (WrongKind literal.place)))
+    both_nothing (cond (same_kind column.kind (kind_of literal.value)) None (Some (WrongKind literal.place)))
     (literals_fault (map column_schema columns) literals)
     (ap (λ (b : Bool). cond b None (Some (WrongKind literal.place)))
     (ap (λ (kind : Kind). same_kind column.kind kind) (first_kind e) ∙ kind_itself column.kind))
@@ -159,7 +157,7 @@ none_wrong (column ∷ columns) (literal ∷ literals) e =
 row_faultless : (create : Create) (row : OpeningRow)
     → kinds_of (row_of row) ≡ map (λ column. column.kind) create.columns → row_fault (table_schema create) row ≡ None
 row_faultless create row kinds =
-    both_none (cond (length row.values == length (map column_schema create.columns)) None (Some (Arity row.place)))
+    both_nothing (cond (length row.values == length (map column_schema create.columns)) None (Some (Arity row.place)))
     (literals_fault (map column_schema create.columns) row.values)
     (ap (λ (b : Bool). cond b None (Some (Arity row.place)))
     (ap (λ (n : ℕ). n == length (map column_schema create.columns)) counts
@@ -187,12 +185,12 @@ rows_faultless : (tables : List Create) (rows : List OpeningRow) → Pairs Befor
     → AllByRecursion (IsRowOf tables) rows → first_of (opening_row_fault (schemas_of tables)) rows ≡ None
 rows_faultless tables [] apart there = refl
 rows_faultless tables (row ∷ rows) apart there =
-    both_none (opening_row_fault (schemas_of tables) row) (first_of (opening_row_fault (schemas_of tables)) rows)
+    both_nothing (opening_row_fault (schemas_of tables) row) (first_of (opening_row_fault (schemas_of tables)) rows)
     (opening_row_faultless tables row apart there.0) (rows_faultless tables rows apart there.1)
 
 pub opening_faultless : (opening : Opening) → IsOpened opening → opening_fault opening ≡ None
 opening_faultless opening opened =
-    both_none (declarations_fault [] opening.tables)
+    both_nothing (declarations_fault [] opening.tables)
     (first_of (opening_row_fault (schemas_of opening.tables)) opening.rows)
     (none_declared_again [] opening.tables (λ name at other there. absurd there)
     (tables_apart opening.tables opened.apart) opened.declarations)

@@ -1,7 +1,7 @@
 -- What each line keeps of what is told so far.
 use Rattle.std.proofs.Common.{◌≡◌, ◌≤◌, ℕ, zero, suc, arith, List, [], ◌∷◌, ◌++◌, length, refl, sym, subst}
 use Rattle.std.specs.List.{AllByRecursion}
-use Rattle.ent_tree.specs.declared.limits.TheConstants.{MOST_SCRIPTS, MOST_STATEMENTS}
+use Rattle.ent_tree.specs.declared.limits.TheConstants.{MOST_SCRIPTS}
 use Rattle.ent_form.specs.Catalogue.{schemas_of}
 use Rattle.ent_form.specs.ScriptFaults.{script_faults}
 use Rattle.ent_history.specs.declared.history.History.{History}
@@ -33,7 +33,6 @@ pub record IsSound (draft : Draft) : Type 0 where
   pub resolved : AllByRecursion (λ script. script_faults (schemas_of draft.told.opening.tables) script ≡ [])
       draft.told.scripts
   pub few : length draft.told.scripts ≤ MOST_SCRIPTS
-  pub fit : AllByRecursion (λ script. length script.statements ≤ MOST_STATEMENTS) draft.told.scripts
   pub answered : AreAnswered draft.told.scripts draft.told.transactions
   pub joint : AreJoint draft.told.joint_answers draft.due
   pub shown : AreShown draft.told.opening.tables draft.told.tables
@@ -61,7 +60,6 @@ module _ (draft : Draft) (piece : List ℕ) (next : Draft) (so : IsSound draft) 
     opened = so.opened;
     resolved = so.resolved;
     few = so.few;
-    fit = so.fit;
     answered = so.answered;
     joint = joined_at Headed s.due;
     shown = so.shown;
@@ -76,7 +74,6 @@ module _ (draft : Draft) (piece : List ℕ) (next : Draft) (so : IsSound draft) 
         (AllByRecursion (λ script. script_faults (schemas_of (draft.told.opening.tables ++ s.create ∷ [])) script ≡ []))
         (sym s.no_scripts) tt;
     few = so.few;
-    fit = so.fit;
     answered = so.answered;
     joint = opening_joint draft.told.joint_answers s.count (joined_at Free s.free);
     shown = subst (AreShown (draft.told.opening.tables ++ s.create ∷ [])) (sym s.nothing_below.tables)
@@ -90,7 +87,6 @@ module _ (draft : Draft) (piece : List ℕ) (next : Draft) (so : IsSound draft) 
     opened = row_opened draft.told.opening s.create s.row so.opened s.last s.kinds;
     resolved = so.resolved;
     few = so.few;
-    fit = so.fit;
     answered = so.answered;
     joint = opening_joint draft.told.joint_answers s.more (joined_at (OpeningRows s.more) s.due);
     shown = so.shown;
@@ -104,8 +100,6 @@ module _ (draft : Draft) (piece : List ℕ) (next : Draft) (so : IsSound draft) 
     resolved = all_joined (λ script. script_faults (schemas_of draft.told.opening.tables) script ≡ [])
         draft.told.scripts (s.script ∷ []) so.resolved (s.is_script.resolved, tt);
     few = omega (arith, s.is_next.few, longer draft.told.scripts s.script);
-    fit = all_joined (λ script. length script.statements ≤ MOST_STATEMENTS) draft.told.scripts (s.script ∷ []) so.fit
-        (s.is_script.fits.2, tt);
     answered = subst (AreAnswered (draft.told.scripts ++ s.script ∷ [])) (sym s.is_next.nothing_below.transactions)
         (none_answered (draft.told.scripts ++ s.script ∷ []));
     joint = joined_at Free s.is_next.free;
@@ -119,7 +113,6 @@ module _ (draft : Draft) (piece : List ℕ) (next : Draft) (so : IsSound draft) 
     opened = so.opened;
     resolved = so.resolved;
     few = so.few;
-    fit = so.fit;
     answered = tx_answered draft.told.scripts draft.told.transactions s.fate so.answered s.answered s.of_script;
     joint = joined_at Free s.free;
     shown = so.shown;
@@ -132,7 +125,6 @@ module _ (draft : Draft) (piece : List ℕ) (next : Draft) (so : IsSound draft) 
     opened = so.opened;
     resolved = so.resolved;
     few = so.few;
-    fit = so.fit;
     answered = answer_answered draft.told.scripts draft.told.transactions s.answer s.statement so.answered s.due;
     joint = answers_joint draft.told.joint_answers s.count (joined_at Free s.free);
     shown = so.shown;
@@ -145,7 +137,6 @@ module _ (draft : Draft) (piece : List ℕ) (next : Draft) (so : IsSound draft) 
     opened = so.opened;
     resolved = so.resolved;
     few = so.few;
-    fit = so.fit;
     answered = kept_answered (with_answer_row s.row) (λ told. length_changed (with_row s.row) told.answers)
         draft.told.scripts draft.told.transactions so.answered;
     joint = answers_joint draft.told.joint_answers s.more (joined_at (AnswerRows s.more) s.due);
@@ -159,7 +150,6 @@ module _ (draft : Draft) (piece : List ℕ) (next : Draft) (so : IsSound draft) 
     opened = so.opened;
     resolved = so.resolved;
     few = so.few;
-    fit = so.fit;
     answered = so.answered;
     joint = new_joint draft.told.joint_answers s.places (joined_at Free s.free) s.some s.rise;
     shown = so.shown;
@@ -172,7 +162,6 @@ module _ (draft : Draft) (piece : List ℕ) (next : Draft) (so : IsSound draft) 
     opened = so.opened;
     resolved = so.resolved;
     few = so.few;
-    fit = so.fit;
     answered = so.answered;
     joint = member_joint draft.told.joint_answers s.tx s.place s.more
         (member_told s.tx s.place s.variables s.values) refl
@@ -187,7 +176,6 @@ module _ (draft : Draft) (piece : List ℕ) (next : Draft) (so : IsSound draft) 
     opened = so.opened;
     resolved = so.resolved;
     few = so.few;
-    fit = so.fit;
     answered = so.answered;
     joint = tables_joint draft.told.joint_answers s.count (joined_at Free s.free);
     shown = table_shown draft.told.opening.tables draft.told.tables s.create [] so.shown s.of_opening;
@@ -201,7 +189,6 @@ module _ (draft : Draft) (piece : List ℕ) (next : Draft) (so : IsSound draft) 
     opened = so.opened;
     resolved = so.resolved;
     few = so.few;
-    fit = so.fit;
     answered = so.answered;
     joint = tables_joint draft.told.joint_answers s.more (joined_at (TableRows s.more) s.due);
     shown = row_shown draft.told.opening.tables draft.told.tables s.row so.shown;
@@ -214,7 +201,6 @@ module _ (draft : Draft) (piece : List ℕ) (next : Draft) (so : IsSound draft) 
     opened = so.opened;
     resolved = so.resolved;
     few = so.few;
-    fit = so.fit;
     answered = so.answered;
     joint = joined_at Free s.free;
     shown = so.shown;
@@ -245,7 +231,6 @@ blank_sound = record {
   opened = nothing_opened;
   resolved = tt;
   few = omega arith;
-  fit = tt;
   answered = tt;
   joint = tt;
   shown = tt;

@@ -10,8 +10,6 @@ pub mod Steps
 pub mod Texts
 pub mod Sound
 pub mod Lengths
-pub mod Things
-pub mod Bounds
 pub mod Reaching
 pub mod ToOpening
 pub mod ToScripts

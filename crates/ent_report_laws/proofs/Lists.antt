@@ -5,6 +5,7 @@ use Rattle.std.proofs.Common.{inl, inr, flat_map}
 use Rattle.std.proofs.lemmas.List.{append-nil, append_assoc, length-append}
 use Rattle.std.proofs.lemmas.List.Concat.{flat_map-append}
 use Rattle.ent_lists.specs.Elements.{In, Pairs, in_either, pairs_across}
+use Rattle.ent_lists.proofs.Lists.{split_last}
 use Rattle.ent_history.specs.Draft.{on_last, last_of}
 
 -- ---- the last element
@@ -45,14 +46,6 @@ module _ {X : Type 0} where
 
 -- ---- what stands before a new element
 
-snoc : {X : Type 0} (xs : List X) → (xs ≡ []) ⊎ ((front : List X) × (last : X) × (xs ≡ front ++ last ∷ []))
-snoc [] = inl refl
-snoc (x ∷ xs) =
-    elim (snoc xs) [
-      | inl e ↦ inr ([], x, ap (λ more. x ∷ more) e)
-      | inr w ↦ inr (x ∷ w.0, w.1, ap (λ more. x ∷ more) w.2)
-    ]
-
 module _ {X : Type 0} (R : X → X → Type 0) (trans : (x y z : X) → R x y → R y z → R x z) where
   behind_last : (front : List X) (last x y : X) → Pairs R (front ++ last ∷ []) → R last x
       → In y front ⊎ In y (last ∷ []) → R y x
@@ -65,7 +58,7 @@ module _ {X : Type 0} (R : X → X → Type 0) (trans : (x y z : X) → R x y �
   pub all_before : (xs : List X) (x : X) → Pairs R xs
       → ((front : List X) (last : X) → xs ≡ front ++ last ∷ [] → R last x) → (y : X) → In y xs → R y x
   all_before xs x pairs next y at =
-      elim (snoc xs) [
+      elim (split_last xs) [
         | inl e ↦ absurd (subst (In y) e at)
         | inr w ↦ behind_last w.0 w.1 x y (subst (Pairs R) w.2 pairs) (next w.0 w.1 w.2)
             (in_either w.0 (w.1 ∷ []) y (subst (In y) w.2 at))

@@ -2,6 +2,7 @@
 use Rattle.std.proofs.Common.{◌≡◌, ◌≤◌, ◌<◌, ◌+◌, ℕ, zero, suc, Bool, true, false, cond, List, [], ◌∷◌, ◌++◌, length}
 use Rattle.std.proofs.Common.{refl}
 use Rattle.std.proofs.Common.{sym, ap, subst, ◌∙◌, arith, Some, None, slice_get}
+use Rattle.std.proofs.lemmas.Option.{same_Some}
 use Rattle.std.specs.List.{AllByRecursion}
 use Rattle.ent_value.specs.Order.{rows_total}
 use Rattle.ent_value.specs.declared.value.Value.{Value}
@@ -24,8 +25,8 @@ use Rattle.ent_history.specs.Parts.{Ascends, IsNumber, IsRow}
 use Rattle.ent_history.specs.Stands.{Stands, Heading, Opening, OpeningRow, Script, Tx, Answer, AnswerRow, Joint}
 use Rattle.ent_history.specs.Stands.{Member, Table, TableRow, End, AllStand, Tells}
 use Rattle.ent_lists.specs.Elements.{Pairs, all_joined, pairs_behind, pairs_index}
+use Rattle.ent_lists.proofs.Lists.{got_none}
 use Rattle.ent_report_laws.specs.Tellable.{AreAnswersTo, AreTransactionsOf, IsAnswerTold, IsTransactionTold}
-use Rattle.ent_report_laws.proofs.Answered.{got_none}
 use Rattle.ent_report_laws.proofs.Begun.{told_of}
 use Rattle.ent_report_laws.proofs.Kept.{IsSound}
 use Rattle.ent_report_laws.proofs.Lists.{all_before, longer}
@@ -101,15 +102,12 @@ new_answer (answers.Rows rows) count shape so_many =
     (sym shape) (omega (arith, so_many), tt, tt)
 new_answer (answers.Heads facts) count shape so_many = shape
 
-same_statement : (a b : Statement) → Some a ≡ Some b → a ≡ b
-same_statement a b e = cc
-
 answer_more : (statements : List Statement) (given : List Given) (answer : Given) (statement : Statement) (count : ℕ)
     → AnswersSoFar statements given 0 → slice_get statements (length given) ≡ Some statement
     → IsOfSort statement answer → IsAnswerSoFar answer count → AnswersSoFar statements (given ++ answer ∷ []) count
 answer_more [] given answer statement count fit e sort is = cc (e)
 answer_more (first ∷ statements) [] answer statement count fit e sort is =
-    (subst (λ (s : Statement). IsOfSort s answer) (sym (same_statement first statement e)) sort, is)
+    (subst (λ (s : Statement). IsOfSort s answer) (sym (same_Some first statement e)) sort, is)
 answer_more (first ∷ statements) (one ∷ []) answer statement count fit e sort is = (
   fit.0,
   whole_answer one fit.1,
@@ -231,9 +229,6 @@ answer_told (script ∷ scripts) (told ∷ next ∷ []) answer statement count s
 answer_told (script ∷ scripts) (told ∷ next ∷ other ∷ others) answer statement count so due sort is =
     (so.0, answer_told scripts (next ∷ other ∷ others) answer statement count so.1 due sort is)
 
-same_told : (a b : Told) → Some a ≡ Some b → a ≡ b
-same_told a b e = cc
-
 row_partly : (script : Scripted) (told : Told) (answer : Given) (row : List Value) (more : ℕ)
     → IsPartly script told (suc more) → last_of told.answers ≡ Some answer → IsRow row → Ascends (rows_of answer) row
     → IsPartly script (with_answer_row row told) more
@@ -250,7 +245,7 @@ row_told scripts [] last answer row more so e found is ascends = cc
 row_told [] (told ∷ others) last answer row more so e found is ascends = absurd so
 row_told (script ∷ scripts) (told ∷ []) last answer row more so e found is ascends =
     row_partly script told answer row more so
-    (subst (λ (t : Told). last_of t.answers ≡ Some answer) (sym (same_told told last e)) found) is ascends
+    (subst (λ (t : Told). last_of t.answers ≡ Some answer) (sym (same_Some told last e)) found) is ascends
 row_told (script ∷ scripts) (told ∷ next ∷ []) last answer row more so e found is ascends =
     (so.0, row_told scripts (next ∷ []) last answer row more so.1 e found is ascends)
 row_told (script ∷ scripts) (told ∷ next ∷ other ∷ others) last answer row more so e found is ascends =

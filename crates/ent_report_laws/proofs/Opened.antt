@@ -16,6 +16,7 @@ use Rattle.ent_semantics.specs.Names.{name_itself}
 use Rattle.ent_history.specs.Told.{opening_row}
 use Rattle.ent_history.specs.Draft.{last_of}
 use Rattle.ent_history.specs.Opening.{IsDeclaration, NamesAscend}
+pub use Rattle.ent_history.proofs.Opened.{row_again}
 use Rattle.ent_lists.specs.Elements.{In, Pairs, of_all, all_by, all_joined, in_first, in_second, filter_empty}
 use Rattle.ent_lists.specs.Elements.{filter_joined, map_joined, pairs_behind}
 use Rattle.ent_semantics.specs.Database.{Name, row_of, same_name, rows_named}
@@ -51,13 +52,6 @@ before_all tables create apart ascend =
     all_before Before (λ a b c. nat_list_cmp_total.trans a.name.name b.name.name c.name.name) tables create apart ascend
 
 -- ---- rows
-
-values_again : (values : List Value) → row_of (opening_row [] values) ≡ values
-values_again [] = refl
-values_again (value ∷ values) = ap (λ more. value ∷ more) (values_again values)
-
-pub row_again : (name : Name) (values : List Value) → row_of (opening_row name values) ≡ values
-row_again name values = values_again values
 
 abbrev pub names_it : Name → OpeningRow → Bool
 names_it name row = same_name row.table.name name

@@ -3,6 +3,7 @@ use Rattle.std.proofs.Common.{◌≡◌, ℕ, Bool, true, false, cond, ◌==◌,
 use Rattle.std.proofs.Common.{ap, ◌∙◌, inl, inr, Option, Some, None}
 use Rattle.std.specs.List.{AllByRecursion}
 use Rattle.std.proofs.lemmas.List.{length-map}
+use Rattle.ent_form_laws.proofs.Steps.{both_nothing}
 use Rattle.ent_lists.specs.Elements.{In, Pairs, any_some, clash, in_either, in_flat, not_so, of_all, of_map, to_all}
 use Rattle.ent_lists.specs.Sets as set
 use Rattle.ent_value.specs.Value.{kind_of}
@@ -34,9 +35,6 @@ pub both_before : (first second : Check) → (first before second) ≡ None → 
 both_before (Some fault) second e = cc (e)
 both_before None second e = (refl, e)
 
-both_none : (first second : Check) → first ≡ None → second ≡ None → (first before second) ≡ None
-both_none first second e f = ap (λ (check : Check). check before second) e ∙ f
-
 held : (test : Bool) (fault other : FormFault) → cond test None (Some fault) ≡ None → cond test None (Some other) ≡ None
 held true fault other e = refl
 held false fault other e = cc (e)
@@ -45,7 +43,7 @@ none_first : {A : Type 0} (check : A → Check) (xs : List A) → ((x : A) → I
     → first_of check xs ≡ None
 none_first check [] none = refl
 none_first check (x ∷ xs) none =
-    both_none (check x) (first_of check xs) (none x (inl refl)) (none_first check xs (λ y at. none y (inr at)))
+    both_nothing (check x) (first_of check xs) (none x (inl refl)) (none_first check xs (λ y at. none y (inr at)))
 
 each_none : {A : Type 0} (check : A → Check) (xs : List A) → first_of check xs ≡ None
     → (x : A) → In x xs → check x ≡ None
@@ -84,12 +82,12 @@ none_declared_again : (earlier : List Name) (tables : List Create) → AreNew ea
     → AllByRecursion HasColumnsOnce tables → declarations_fault earlier tables ≡ None
 none_declared_again earlier [] new rise once = refl
 none_declared_again earlier (create ∷ more) new rise once =
-    both_none (refused_where (is_among earlier create.name.name) (Repeated create.name.place))
+    both_nothing (refused_where (is_among earlier create.name.name) (Repeated create.name.place))
     (repeated [] (map (λ column. column.name) create.columns)
     before declarations_fault (earlier ++ create.name.name ∷ []) more)
     (ap (λ (b : Bool). refused_where b (Repeated create.name.place))
     (not_among earlier create.name.name (new create (inl refl))))
-    (both_none (repeated [] (map (λ column. column.name) create.columns))
+    (both_nothing (repeated [] (map (λ column. column.name) create.columns))
     (declarations_fault (earlier ++ create.name.name ∷ []) more) once.0
     (none_declared_again (earlier ++ create.name.name ∷ []) more (λ other at name there.
     elim (in_either earlier (create.name.name ∷ []) name there) [
@@ -110,7 +108,7 @@ literals_again (column ∷ columns) [] e = refl
 literals_again (column ∷ columns) (literal ∷ literals) e =
     let test = same_kind column.kind (kind_of literal.value) in
     let both = both_before (cond test None (Some (WrongKind literal.place))) (literals_fault columns literals) e in
-    both_none (cond test None (Some (WrongKind 0)))
+    both_nothing (cond test None (Some (WrongKind 0)))
     (literals_fault columns (opening_row [] (map (λ literal. literal.value) literals)).values)
     (held test (WrongKind literal.place) (WrongKind 0) both.0) (literals_again columns literals both.1)
 
@@ -122,7 +120,7 @@ row_again table row name e =
     let same : length (opening_row name (row_of row)).values ≡ length row.values =
     length-map (row_of row) (λ (value : Value). record { value = value; place = 0 })
     ∙ length-map row.values (λ (literal : Literal). literal.value) in
-    both_none
+    both_nothing
     (cond (length (opening_row name (row_of row)).values == length table.columns) None (Some (Arity 0)))
     (literals_fault table.columns (opening_row name (row_of row)).values)
     (ap (λ (n : ℕ). cond (n == length table.columns) None (Some (Arity 0))) same
@@ -178,7 +176,7 @@ module _ (opening : Opening) (faultless : opening_fault opening ≡ None) where
 
   pub told_faultless : opening_fault (told_opening opening) ≡ None
   told_faultless =
-      both_none (declarations_fault [] told_tables)
+      both_nothing (declarations_fault [] told_tables)
       (first_of (opening_row_fault (schemas_of told_tables)) (told_opening opening).rows)
       (none_declared_again [] told_tables (λ create at name there. absurd there)
       (tables_rise opening.tables (names_by_bytes opening) (names_rise opening))

@@ -17,18 +17,15 @@ use Rattle.ent_book.specs.Report.{names_by_bytes}
 use Rattle.ent_form.specs.OpeningFault.{opening_fault}
 use Rattle.ent_history.specs.Told.{opening_row, told_opening, told_rows}
 use Rattle.ent_history.specs.Formed.{is_declared}
+use Rattle.ent_history.proofs.Opened.{rows_again}
 use Rattle.ent_lists.specs.Elements.{In, Pairs, any_in, any_some, clash, filter_empty, filter_joined, filter_whole}
 use Rattle.ent_lists.specs.Elements.{not_so, of_all, of_filter, of_map}
 use Rattle.ent_semantics.specs.Database.{Name, opening_database, row_of, same_name, is_among, rows_named}
-use Rattle.ent_report_laws.proofs.Opened.{names_it, row_again}
+use Rattle.ent_report_laws.proofs.Opened.{names_it}
 use Rattle.ent_report_laws.specs.Alike.{AreAlike}
 use Rattle.ent_report_laws.proofs.OpeningDeclared.{named, names_apart, tables_told}
 
 -- ---- rows of some tables
-
-rows_again : (name : Name) (rows : List (List Value)) → map row_of (map (opening_row name) rows) ≡ rows
-rows_again name [] = refl
-rows_again name (row ∷ rows) = λ i. row_again name row i ∷ rows_again name rows i
 
 module _ (rows : Name → List (List Value)) (name : Name) where
   abbrev rows_of : Name → List OpeningRow

@@ -21,8 +21,10 @@ use Rattle.ent_history.specs.Parts.{Ascends, IsRow}
 use Rattle.ent_history.specs.Stands as stands
 use Rattle.ent_lists.specs.Elements.{In, Pairs, all_joined, in_second, index_pairs, pairs_across}
 use Rattle.ent_history.specs.Text.{opened_text}
+use Rattle.ent_history.proofs.Opened.{row_again}
+use Rattle.ent_history.proofs.Lists.{last_of-push}
 use Rattle.ent_report_laws.specs.Tellable.{AreRowsOf}
-use Rattle.ent_report_laws.proofs.Opened.{Before, IsOpened, IsRowOf, none_under, row_again, row_opened, table_opened}
+use Rattle.ent_report_laws.proofs.Opened.{Before, IsOpened, IsRowOf, none_under, row_opened, table_opened}
 use Rattle.ent_report_laws.proofs.Opened.{under_itself, with_row, with_table}
 use Rattle.ent_report_laws.proofs.Reaching.{Leads, behind_it, first_piece, stay, to_draft}
 use Rattle.ent_report_laws.proofs.Shown.{IsBelow}
@@ -37,11 +39,6 @@ ascends_behind rows done row more same pairs front last e =
 pub shifted_pairs : (done : List (List Value)) (row : List Value) (more : List (List Value))
     → Pairs IsBelow (done ++ row ∷ more) → Pairs IsBelow ((done ++ row ∷ []) ++ more)
 shifted_pairs done row more pairs = subst (Pairs IsBelow) (sym (append_assoc done (row ∷ []) more)) pairs
-
-pub last_behind : {X : Type 0} (front : List X) (x : X) → last_of (front ++ x ∷ []) ≡ Some x
-last_behind [] x = refl
-last_behind (y ∷ []) x = refl
-last_behind (y ∷ z ∷ front) x = last_behind (z ∷ front) x
 
 abbrev pub AreOfKinds : List Column → List (List Value) → Type 0
 AreOfKinds columns rows = AllByRecursion (λ row. IsRow row × (kinds_of row ≡ map (λ column. column.kind) columns)) rows
@@ -193,7 +190,7 @@ module _ (full : Opening) where
       opened_first = table_opened told.opening create opened declarations.0 ascend
 
       last : last_of first.opening.tables ≡ Some create
-      last = last_behind told.opening.tables create
+      last = last_of-push told.opening.tables create
 
       opened_second : IsOpened second.opening
       opened_second = record {

@@ -13,12 +13,13 @@ use Rattle.ent_history.specs.Text.{shown_text}
 use Rattle.ent_history.specs.Draft.{Draft, TableRows, TransactionsAreTold, last_of, on_last, rows_due}
 use Rattle.ent_history.specs.Stands as stands
 use Rattle.ent_history.specs.Tables.{TableRowStands, TableStands, table_line_text, with_table_row}
+use Rattle.ent_history.proofs.Lists.{last_of-push}
 use Rattle.ent_lists.specs.Elements.{Pairs, index_pairs}
 use Rattle.ent_report_laws.specs.Tellable.{AreRowsOf, AreTablesOf}
 use Rattle.ent_report_laws.proofs.Lists.{changed, length_changed, longer}
 use Rattle.ent_report_laws.proofs.Reaching.{Leads, behind_it, first_piece, stay, to_draft}
 use Rattle.ent_report_laws.proofs.Shown.{IsBelow}
-use Rattle.ent_report_laws.proofs.ToOpening.{AreOfKinds, ascends_behind, last_behind, shifted_pairs}
+use Rattle.ent_report_laws.proofs.ToOpening.{AreOfKinds, ascends_behind, shifted_pairs}
 use Rattle.ent_report_laws.proofs.ToTransactions.{at_free, get_behind}
 
 abbrev pub with_shown : History → List Shown → History
@@ -64,7 +65,7 @@ module _ (create : Create) (front : List Shown) where
         create = create;
         row = row;
         due = refl;
-        last_is = ap last_of e ∙ last_behind front (shown_of create.name.name done);
+        last_is = ap last_of e ∙ last_of-push front (shown_of create.name.name done);
         of_opening = of_opening;
         text_is = refl;
         is_row = fit.0.0;

@@ -23,6 +23,7 @@ use Rattle.ent_history.specs.Draft.{on_last}
 use Rattle.ent_history.specs.Draft.{rows_due, unanswered}
 use Rattle.ent_history.specs.Parts.{IsRow}
 use Rattle.ent_history.specs.Stands as stands
+use Rattle.ent_history.proofs.Lists.{last_of-push}
 use Rattle.ent_lists.specs.Elements.{Pairs, index_pairs}
 use Rattle.ent_report_laws.specs.Tellable.{AreAnswersTo, AreTransactionsOf, IsAnswerTold, IsTransactionTold}
 use Rattle.ent_report_laws.proofs.Begun.{placed_answer, rows_head, rows_placed, told_of}
@@ -30,7 +31,7 @@ use Rattle.ent_report_laws.proofs.Lists.{changed, longer}
 use Rattle.ent_report_laws.proofs.Reaching.{Leads, behind_it, by_text, first_piece, stay, to_draft}
 use Rattle.ent_report_laws.proofs.Shown.{IsBelow}
 use Rattle.ent_report_laws.proofs.Steps.{so_far_last}
-use Rattle.ent_report_laws.proofs.ToOpening.{ascends_behind, last_behind, shifted_pairs}
+use Rattle.ent_report_laws.proofs.ToOpening.{ascends_behind, shifted_pairs}
 
 abbrev pub with_transactions : History → List Told → History
 with_transactions told transactions = record told { transactions = transactions }
@@ -92,8 +93,8 @@ module _ (front : List Told) (fate : Fate) (given : List Answer) where
         answer = answers.Rows done;
         row = row;
         due = refl;
-        last_is = ap last_of e ∙ last_behind front (told_of fate (given ++ answers.Rows done ∷ []));
-        answer_is = last_behind given (answers.Rows done);
+        last_is = ap last_of e ∙ last_of-push front (told_of fate (given ++ answers.Rows done ∷ []));
+        answer_is = last_of-push given (answers.Rows done);
         text_is = refl;
         is_row = fit.0;
         ascends = ascends_behind done done row more refl pairs;

@@ -1,5 +1,5 @@
 //! Laws of the form of a report. Nothing here has a body; what holds is in the contracts.
-ghost use Rattle.std.specs.Prelude.{◌≡◌, ◌↔◌, ℕ, ◌≤◌, ◌<◌, ◌^◌, List, [], length, map, None, Some};
+ghost use Rattle.std.specs.Prelude.{◌≡◌, ◌↔◌, ℕ, ◌≤◌, List, [], length, map, None};
 ghost use Rattle.std.specs.List.{AllByRecursion, range_with_len};
 ghost use Rattle.ent_book.specs.Report2.{report_2_text};
 ghost use Rattle.ent_form.specs.Catalogue.{schemas_of};
@@ -12,8 +12,6 @@ ghost use Rattle.ent_history.specs.Scripts.{IsScript};
 ghost use Rattle.ent_history.specs.Stands.{Tells};
 ghost use Rattle.ent_report_laws.specs.Tellable.{AreTablesOf, CanBeTold, IsJointTold, IsOpeningTold};
 ghost use Rattle.ent_history.specs.Formed.{IsFormed};
-ghost use Rattle.ent_history.specs.Verdict.{first_finding, line_of};
-ghost use Rattle.ent_history.specs.declared.finding.Finding.{Finding};
 ghost use Rattle.ent_semantics.specs.Database.{Database};
 ghost use Rattle.ent_semantics.specs.declared.book.Book.{Book};
 ghost use Rattle.ent_tree.specs.declared.limits.TheConstants.{MOST_SCRIPTS};
@@ -38,13 +36,6 @@ pub fn told_histories_are_formed()
     resolved_scripts_keep_to_declared_tables();
     first_fault_is_first();
 }
-
-/// 64 bits hold the line of what breaks a rule first, in a text of at most 1,099,511,627,776 bytes.
-pub fn found_lines_fit()
-    ensures { (text : List ℕ) (history : History) (finding : Finding) → Tells text history
-        → first_finding history ≡ Some finding → length text ≤ 1099511627776
-        → line_of history finding.thing < 2 ^ 64 }
-{}
 
 /// A history that can be told is told by its text.
 pub fn tellable_histories_are_told()

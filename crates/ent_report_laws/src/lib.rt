@@ -17,10 +17,9 @@ mod read;
 
 pub use declared_tables::resolved_scripts_keep_to_declared_tables;
 pub use law::{
-    found_lines_fit, reports_of_tellable_books_are_told, tellable_histories_are_told,
-    told_histories_are_formed, told_histories_can_be_told, told_joints_can_be_told,
-    told_openings_can_be_told, told_scripts_can_be_told, told_tables_can_be_told,
-    told_texts_are_texts_of_histories,
+    reports_of_tellable_books_are_told, tellable_histories_are_told, told_histories_are_formed,
+    told_histories_can_be_told, told_joints_can_be_told, told_openings_can_be_told,
+    told_scripts_can_be_told, told_tables_can_be_told, told_texts_are_texts_of_histories,
 };
 pub use opening_law::{
     books_over_told_openings_are_legal, openings_alike_keep_books_legal,

@@ -28,7 +28,7 @@ use Rattle.ent_report_lines.specs.Names.{name_at}
 use Rattle.ent_report_lines.specs.Openings.{kind_at, column_of, column_at, next_column_at, is_among, are_distinct}
 use Rattle.ent_report_lines.specs.Openings.{columns_at}
 use Rattle.ent_report_lines.specs.Listing.{listed_at, with_one}
-use Rattle.ent_report_lines.proofs.Listing.{with_front, with_front_one, at_end, at_limit, at_one, at_fault}
+use Rattle.ent_report_lines.proofs.Listing.{with_many, with_many_one, at_end, at_limit, at_one, at_fault}
 use Rattle.ent_report_lines.proofs.Listing.{listed_found, listed_again}
 use Rattle.ent_report_lines.proofs.Names.{name_found, name_again}
 
@@ -239,7 +239,7 @@ distinct_again (column ∷ more) all =
 pub record ColumnsLeft (columns : List Column) (rest : List ℕ) (whole : Read (List Column)) : Type 0 where
   pub most : ℕ
   pub limit : most + length columns ≡ 16
-  pub is : with_front columns (listed_at 44 next_column_at most rest) ≡ whole
+  pub is : with_many columns (listed_at 44 next_column_at most rest) ≡ whole
 
 pub left_first : (nothing columns : List Column) (bytes rest : List ℕ) (column : Column)
     → column_at bytes ≡ Ok (column, rest) → nothing ≡ [] → columns ≡ nothing ++ column ∷ []
@@ -250,7 +250,7 @@ left_first nothing columns bytes rest column h none pushed =
     subst (λ all. ColumnsLeft all rest (columns_at bytes)) (sym one) (record {
       most = 15;
       limit = omega arith;
-      is = with_front_one column (listed_at 44 next_column_at 15 rest)
+      is = with_many_one column (listed_at 44 next_column_at 15 rest)
           ∙ sym (bind_with (column_at bytes) (column, rest)
           (λ column. with_one column.0 (listed_at 44 next_column_at 15 column.1)) h);
     })
@@ -264,7 +264,7 @@ first_fault (Fault fault) bytes h =
 
 end_by : (most : ℕ) (columns : List Column) (rest : List ℕ) (whole : Read (List Column)) → most + length columns ≡ 16
     → (length columns < 16 → slice_index rest 0 ≡ 44 → ⊥)
-    → with_front columns (listed_at 44 next_column_at most rest) ≡ whole → whole ≡ Ok (columns, rest)
+    → with_many columns (listed_at 44 next_column_at most rest) ≡ whole → whole ≡ Ok (columns, rest)
 end_by zero columns rest whole limit none is = at_limit 44 next_column_at columns rest whole is
 end_by (suc n) columns rest whole limit none is =
     at_end 44 next_column_at (suc n) columns rest whole (none (omega (arith, limit))) is
@@ -276,7 +276,7 @@ left_end columns rest whole none left = end_by left.most columns rest whole left
 one_by : (most : ℕ) (columns : List Column) (rest next : List ℕ) (column : Column) (whole : Read (List Column))
     → most + length columns ≡ 16 → length columns < 16 → slice_index rest 0 ≡ 44
     → next_column_at rest ≡ Ok (column, next)
-    → with_front columns (listed_at 44 next_column_at most rest) ≡ whole
+    → with_many columns (listed_at 44 next_column_at most rest) ≡ whole
     → ColumnsLeft (columns ++ column ∷ []) next whole
 one_by zero columns rest next column whole limit room e h is = absurd (omega (arith, limit))
 one_by (suc n) columns rest next column whole limit room e h is = record {
@@ -294,7 +294,7 @@ left_one columns more rest next column whole room e h pushed left =
 
 fault_by : (most : ℕ) (columns : List Column) (rest : List ℕ) (fault : LineFault) (whole : Read (List Column))
     → most + length columns ≡ 16 → length columns < 16 → slice_index rest 0 ≡ 44 → next_column_at rest ≡ Err fault
-    → with_front columns (listed_at 44 next_column_at most rest) ≡ whole → whole ≡ Err fault
+    → with_many columns (listed_at 44 next_column_at most rest) ≡ whole → whole ≡ Err fault
 fault_by zero columns rest fault whole limit room e h is = absurd (omega (arith, limit))
 fault_by (suc n) columns rest fault whole limit room e h is =
     at_fault 44 next_column_at n columns rest fault whole e h is

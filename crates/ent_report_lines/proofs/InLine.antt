@@ -5,7 +5,7 @@ use Rattle.std.specs.List.{list_all, list_any}
 use Rattle.std.specs.Char.{is_ascii_control, digit_value}
 use Rattle.std.specs.Fmt.{decimal}
 use Rattle.std.specs.Str.Parse.{AllDigits}
-use Rattle.std.proofs.lemmas.Bool.{eqb-true}
+use Rattle.std.proofs.lemmas.Bool.{eqb-true, and_parts, or_parts}
 use Rattle.std.proofs.lemmas.Fmt.{decimal_is_IsNumeral}
 use Rattle.std.proofs.lemmas.List.Folds.{list_all-append}
 use Rattle.ent_lists.specs.Elements.{both_and}
@@ -29,17 +29,9 @@ IsInLine text = list_all is_in_line text ≡ true
 
 -- ---- tests
 
-left_of : (p q : Bool) → (p && q) ≡ true → p ≡ true
-left_of true q h = refl
-left_of false q h = absurd cc
-
 right_of : (p q : Bool) → (p && q) ≡ true → q ≡ true
 right_of true q h = h
 right_of false q h = absurd cc
-
-no_left : (p q : Bool) → (p || q) ≡ false → p ≡ false
-no_left true q h = absurd cc
-no_left false q h = refl
 
 no_right : (p q : Bool) → (p || q) ≡ false → q ≡ false
 no_right true q h = absurd cc
@@ -64,7 +56,7 @@ word_in_line [] h = refl
 word_in_line (c ∷ cs) h =
     both_and (is_in_line c) (list_all is_in_line cs)
     (other_than_end (λ d. is_word_byte d ≡ true) (λ e. absurd cc) c
-    (left_of (is_word_byte c) (list_all is_word_byte cs) h))
+    (and_parts (is_word_byte c) (list_all is_word_byte cs) h).0)
     (word_in_line cs (right_of (is_word_byte c) (list_all is_word_byte cs) h))
 
 pub digits_in_line : (digits : List ℕ) → AllDigits 10 digits → IsInLine digits
@@ -82,7 +74,7 @@ doubled_in_line [] h = refl
 doubled_in_line (c ∷ cs) h =
     twice (c == 39)
     (other_than_end (λ d. is_ascii_control d ≡ false) (λ e. absurd cc) c
-    (no_left (is_ascii_control c) (list_any is_ascii_control cs) h))
+    (or_parts (is_ascii_control c) (list_any is_ascii_control cs) h).0)
     (doubled_in_line cs (no_right (is_ascii_control c) (list_any is_ascii_control cs) h))
   where
     twice : (test : Bool) → is_in_line c ≡ true → IsInLine (doubled cs)

@@ -14,21 +14,21 @@ use Rattle.ent_text.proofs.Numbers.{read_of, is_first, is_rest}
 use Rattle.ent_text.proofs.Values.{bind_ok}
 use Rattle.ent_report_lines.specs.Listing.{listed_at, with_one}
 
-abbrev pub with_front : {A : Type 0} → List A → Read (List A) → Read (List A)
-with_front front read = read >>= λ more. Ok (front ++ more.0, more.1)
+abbrev pub with_many : {A : Type 0} → List A → Read (List A) → Read (List A)
+with_many front read = read >>= λ more. Ok (front ++ more.0, more.1)
 
-with_front_more : {A : Type 0} (front : List A) (x : A) (read : Read (List A))
-    → with_front front (with_one x read) ≡ with_front (front ++ x ∷ []) read
-with_front_more front x (Ok more) = ap (λ all. read_of all more.1) (sym (append_assoc front (x ∷ []) more.0))
-with_front_more front x (Err fault) = refl
+with_many_more : {A : Type 0} (front : List A) (x : A) (read : Read (List A))
+    → with_many front (with_one x read) ≡ with_many (front ++ x ∷ []) read
+with_many_more front x (Ok more) = ap (λ all. read_of all more.1) (sym (append_assoc front (x ∷ []) more.0))
+with_many_more front x (Err fault) = refl
 
-with_front_none : {A : Type 0} (read : Read (List A)) → with_front [] read ≡ read
-with_front_none (Ok more) = refl
-with_front_none (Err fault) = refl
+with_many_none : {A : Type 0} (read : Read (List A)) → with_many [] read ≡ read
+with_many_none (Ok more) = refl
+with_many_none (Err fault) = refl
 
-pub with_front_one : {A : Type 0} (x : A) (read : Read (List A)) → with_front (x ∷ []) read ≡ with_one x read
-with_front_one x (Ok more) = refl
-with_front_one x (Err fault) = refl
+pub with_many_one : {A : Type 0} (x : A) (read : Read (List A)) → with_many (x ∷ []) read ≡ with_one x read
+with_many_one x (Ok more) = refl
+with_many_one x (Err fault) = refl
 
 module _ {A : Type 0} (first : ℕ) (read : List ℕ → Read A) where
   ends : (n : ℕ) (bytes : List ℕ) → eqb (slice_index bytes 0) first ≡ false
@@ -49,32 +49,32 @@ module _ {A : Type 0} (first : ℕ) (read : List ℕ → Read A) where
   -- ---- one step of a loop
 
   pub at_end : (n : ℕ) (things : List A) (rest : List ℕ) (whole : Read (List A)) → (slice_index rest 0 ≡ first → ⊥)
-      → with_front things (listed_at first read n rest) ≡ whole → whole ≡ Ok (things, rest)
+      → with_many things (listed_at first read n rest) ≡ whole → whole ≡ Ok (things, rest)
   at_end n things rest whole none is =
-      sym is ∙ ap (with_front things) (ends n rest (ne_eqb (slice_index rest 0) first none))
+      sym is ∙ ap (with_many things) (ends n rest (ne_eqb (slice_index rest 0) first none))
       ∙ ap (λ all. read_of all rest) (append-nil things)
 
   pub at_limit : (things : List A) (rest : List ℕ) (whole : Read (List A))
-      → with_front things (listed_at first read zero rest) ≡ whole → whole ≡ Ok (things, rest)
+      → with_many things (listed_at first read zero rest) ≡ whole → whole ≡ Ok (things, rest)
   at_limit things rest whole is =
-      sym is ∙ ap (with_front things) (limited rest) ∙ ap (λ all. read_of all rest) (append-nil things)
+      sym is ∙ ap (with_many things) (limited rest) ∙ ap (λ all. read_of all rest) (append-nil things)
 
   pub at_one : (n : ℕ) (things : List A) (rest next : List ℕ) (x : A) (whole : Read (List A))
       → slice_index rest 0 ≡ first → read rest ≡ Ok (x, next)
-      → with_front things (listed_at first read (suc n) rest) ≡ whole
-      → with_front (things ++ x ∷ []) (listed_at first read n next) ≡ whole
+      → with_many things (listed_at first read (suc n) rest) ≡ whole
+      → with_many (things ++ x ∷ []) (listed_at first read n next) ≡ whole
   at_one n things rest next x whole e h is =
-      sym (with_front_more things x (listed_at first read n next))
-      ∙ ap (with_front things)
+      sym (with_many_more things x (listed_at first read n next))
+      ∙ ap (with_many things)
       (ap (λ r. r >>= λ one. with_one one.0 (listed_at first read n one.1)) (sym h)
       ∙ sym (goes n rest (eq-eqb (slice_index rest 0) first e)))
       ∙ is
 
   pub at_fault : (n : ℕ) (things : List A) (rest : List ℕ) (fault : LineFault) (whole : Read (List A))
       → slice_index rest 0 ≡ first → read rest ≡ Err fault
-      → with_front things (listed_at first read (suc n) rest) ≡ whole → whole ≡ Err fault
+      → with_many things (listed_at first read (suc n) rest) ≡ whole → whole ≡ Err fault
   at_fault n things rest fault whole e h is =
-      sym is ∙ ap (with_front things) (goes n rest (eq-eqb (slice_index rest 0) first e)
+      sym is ∙ ap (with_many things) (goes n rest (eq-eqb (slice_index rest 0) first e)
       ∙ ap (λ r. r >>= λ one. with_one one.0 (listed_at first read n one.1)) h)
 
   -- ---- a loop over all of them
@@ -83,15 +83,15 @@ module _ {A : Type 0} (first : ℕ) (read : List ℕ → Read A) where
   pub record Left (things : List A) (rest : List ℕ) (whole : Read (List A)) : Type 0 where
     pub most : ℕ
     pub enough : length rest ≤ most
-    pub is : with_front things (listed_at first read most rest) ≡ whole
+    pub is : with_many things (listed_at first read most rest) ≡ whole
 
   pub left_first : (things : List A) (bytes : List ℕ) → things ≡ []
       → Left things bytes (listed_at first read (length bytes) bytes)
   left_first things bytes none = record {
     most = length bytes;
     enough = omega arith;
-    is = ap (λ front. with_front front (listed_at first read (length bytes) bytes)) none
-        ∙ with_front_none (listed_at first read (length bytes) bytes);
+    is = ap (λ front. with_many front (listed_at first read (length bytes) bytes)) none
+        ∙ with_many_none (listed_at first read (length bytes) bytes);
   }
 
   pub left_end : (things : List A) (rest : List ℕ) (whole : Read (List A)) → (slice_index rest 0 ≡ first → ⊥)
@@ -100,7 +100,7 @@ module _ {A : Type 0} (first : ℕ) (read : List ℕ → Read A) where
 
   one_by : (most : ℕ) (things : List A) (rest next : List ℕ) (x : A) (whole : Read (List A))
       → length rest ≤ most → slice_index rest 0 ≡ first → read rest ≡ Ok (x, next) → length next < length rest
-      → with_front things (listed_at first read most rest) ≡ whole → Left (things ++ x ∷ []) next whole
+      → with_many things (listed_at first read most rest) ≡ whole → Left (things ++ x ∷ []) next whole
   one_by zero things rest next x whole le e h shorter is = absurd (omega arith)
   one_by (suc n) things rest next x whole le e h shorter is =
       record { most = n; enough = omega arith; is = at_one n things rest next x whole e h is }
@@ -114,7 +114,7 @@ module _ {A : Type 0} (first : ℕ) (read : List ℕ → Read A) where
 
   fault_by : (most : ℕ) (things : List A) (rest : List ℕ) (fault : LineFault) (whole : Read (List A))
       → length rest ≤ most → 0 < length rest → slice_index rest 0 ≡ first → read rest ≡ Err fault
-      → with_front things (listed_at first read most rest) ≡ whole → whole ≡ Err fault
+      → with_many things (listed_at first read most rest) ≡ whole → whole ≡ Err fault
   fault_by zero things rest fault whole le some e h is = absurd (omega arith)
   fault_by (suc n) things rest fault whole le some e h is = at_fault n things rest fault whole e h is
 

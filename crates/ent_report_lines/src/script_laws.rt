@@ -5,8 +5,8 @@ ghost use Rattle.ent_history.specs.Draft.{Draft};
 ghost use Rattle.ent_history.specs.Scripts.{ScriptIsNext, ScriptBreaksOff};
 ghost use Rattle.ent_report_lines.specs.Begins.{HasWholeLines, BeginsScript, script_line};
 
-/// Where a script can stand next, a text of its `script` line, whole lines below it and a rest that ends no line breaks
-/// off inside a script exactly where these lines begin one of so many lines.
+/// Where a script can come next, a text of a `script` line, of whole lines and of a rest that ends no line breaks off
+/// inside a script exactly if these lines begin one of so many lines.
 pub fn scripts_break_off_in_their_lines()
     ensures { (draft : Draft) (count : ℕ) (lines unended : List ℕ) → ScriptIsNext draft → HasWholeLines lines
         → line_count unended ≡ 0 → count ≤ 9223372036854775807

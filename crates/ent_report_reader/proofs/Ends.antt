@@ -19,6 +19,7 @@ use Rattle.ent_history.specs.Parts.{Ascends}
 use Rattle.ent_history.specs.Draft.{answer_due, last_of, on_last, unanswered}
 use Rattle.ent_semantics.specs.declared.answer.Answer.{Answer}
 use Rattle.ent_history.specs.Answers.{answers_so_far, rows_of}
+use Rattle.ent_history.proofs.Lists.{last_of-push}
 use Rattle.ent_report_reader.specs.Due.{AnswerTakes}
 use Rattle.ent_report_reader.specs.Opened.{EndsBelow}
 
@@ -28,11 +29,6 @@ last_of_get (x ∷ []) = refl
 last_of_get (x ∷ y ∷ more) =
     let at : length (x ∷ y ∷ more) - 1 ≡ suc (length (y ∷ more) - 1) = omega arith in
     ap (slice_get (x ∷ y ∷ more)) at ∙ last_of_get (y ∷ more)
-
-pub last_of-push : {X : Type 0} (xs : List X) (x : X) → last_of (xs ++ x ∷ []) ≡ Some x
-last_of-push [] x = refl
-last_of-push (y ∷ []) x = refl
-last_of-push (y ∷ z ∷ more) x = last_of-push (z ∷ more) x
 
 pub on_last-push : {X : Type 0} (f : X → X) (xs : List X) (x : X) → on_last f (xs ++ x ∷ []) ≡ xs ++ f x ∷ []
 on_last-push f [] x = refl

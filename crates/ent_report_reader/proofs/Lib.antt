@@ -22,3 +22,6 @@ mod FirstPieces
 pub mod ScriptSteps
 mod Whole
 mod WholeRead
+mod Counted
+pub mod Begun
+mod ThingLines

@@ -2,7 +2,7 @@
 use Rattle.std.proofs.Common.{◌≡◌, ℕ, ◌-◌, ◌<◌, ◌≤◌, Bool, true, false, List, [], ◌∷◌, ◌++◌, map, length, Some, None}
 use Rattle.std.proofs.Common.{Option, refl, sym, ap, subst, ◌∙◌, inl, inr, arith}
 use Rattle.std.specs.List.{filter, AllByRecursion}
-use Rattle.std.specs.Cmp.Lexicographic.{slice_cmp, same_text, nat_list_eq_equiv}
+use Rattle.std.specs.Cmp.Lexicographic.{slice_cmp, same_text}
 use Rattle.std.specs.Ordering.{nat_cmp, ordering_reverse}
 use Rattle.std.specs.declared.cmp.Ordering.TheVariants.{Less, Greater}
 use Rattle.std.proofs.lemmas.Cmp.{nat_list_cmp_total}
@@ -14,6 +14,7 @@ use Rattle.std.specs.Option.{option_map}
 use Rattle.ent_value.specs.declared.value.Kind.{Kind}
 use Rattle.ent_semantics.specs.Serial.{numbered}
 use Rattle.ent_semantics.specs.Database.{Name, row_of, same_name, rows_named}
+use Rattle.ent_semantics.specs.Names.{name_itself}
 use Rattle.ent_history.specs.declared.history.History.{History}
 use Rattle.ent_history.specs.declared.history.Shown.{Shown}
 use Rattle.ent_report_reader.specs.Due.{TableTakes}
@@ -28,8 +29,10 @@ use Rattle.ent_history.specs.Told.{opening_row}
 use Rattle.ent_history.specs.Parts.{Ascends}
 use Rattle.ent_history.specs.Opening.{NamesAscend, with_row}
 use Rattle.ent_history.specs.Draft.{last_of}
+use Rattle.ent_history.proofs.Lists.{last_of-push}
+use Rattle.ent_history.proofs.Opened.{row_again}
 use Rattle.ent_report_reader.specs.Opened.{EndsBelow, IsInOrder, IsUpTo, OpeningTakes}
-use Rattle.ent_report_reader.proofs.Ends.{ascends_if, ends_below_if, last_of-push, last_split}
+use Rattle.ent_report_reader.proofs.Ends.{ascends_if, ends_below_if, last_split}
 
 -- ---- names
 
@@ -79,24 +82,17 @@ all_behind : (name : Name) (rows : List OpeningRow) (row : OpeningRow) → IsUpT
 all_behind name [] row h all = (h, tt)
 all_behind name (one ∷ rows) row h all = (all.0, all_behind name rows row h all.1)
 
-values_again : (name : Name) (values : List Value) → row_of (opening_row name values) ≡ values
-values_again name [] = refl
-values_again name (value ∷ values) = ap (λ more. value ∷ more) (values_again name values)
-
-itself : (name : Name) → same_name name name ≡ true
-itself name = nat_list_eq_equiv.refl name
-
 -- the rows of the last table, with one more
 pub under_with : (opening : Opening) (create : Create) (row : List Value)
     → rows_named (with_row create row opening) create.name.name ≡ rows_named opening create.name.name ++ row ∷ []
 under_with opening create row =
     let name = create.name.name in
     let own : OpeningRow → Bool = λ (row : OpeningRow). same_name row.table.name name in
-    let one : filter own (opening_row name row ∷ []) ≡ opening_row name row ∷ [] = rw (itself name) refl in
+    let one : filter own (opening_row name row ∷ []) ≡ opening_row name row ∷ [] = rw (name_itself name) refl in
     ap (map row_of) (filter-append own opening.rows (opening_row name row ∷ [])
     ∙ ap (λ rs. filter own opening.rows ++ rs) one)
     ∙ map-append row_of (filter own opening.rows) (opening_row name row ∷ [])
-    ∙ ap (λ r. map row_of (filter own opening.rows) ++ r ∷ []) (values_again name row)
+    ∙ ap (λ r. map row_of (filter own opening.rows) ++ r ∷ []) (row_again name row)
 
 -- ---- a table is opened
 

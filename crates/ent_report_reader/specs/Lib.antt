@@ -9,4 +9,5 @@ pub mod Members
 pub mod Taking
 pub mod Lines
 pub mod Steps
+pub mod Located
 pub mod Reports

@@ -19,6 +19,7 @@ mod kinds;
 mod line;
 mod lines;
 mod lists;
+mod located;
 mod members;
 mod opened;
 mod opening;
@@ -31,4 +32,5 @@ mod told;
 mod transactions;
 
 pub use draft::Draft;
-pub use report::read_report;
+pub use located::Located;
+pub use report::{Report, read_report};

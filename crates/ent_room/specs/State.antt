@@ -11,7 +11,7 @@ use Rattle.ent_waiting.specs.WaitingList.{WaitingList, is_stationed, waiter_of}
 use Rattle.ent_waiting.specs.declared.ended.Ended.{Ended}
 use Rattle.ent_waiting.specs.declared.queues.Rank.{Rank}
 use Rattle.ent_waiting.specs.declared.queues.Station.TheVariants.{Queue}
-use Rattle.ent_waiting.specs.declared.waiter.Place.TheVariants.{Resting}
+use Rattle.ent_waiting.specs.declared.waiter.WaitingPlace.TheVariants.{Resting}
 use Rattle.ent_waiting.specs.declared.waiter.Submission.{Submission}
 use Rattle.ent_waiting.specs.declared.waiter.Waiter.{Waiter}
 use Rattle.ent_room.specs.declared.state.State.{State}

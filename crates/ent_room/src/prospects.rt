@@ -2,7 +2,7 @@
 use std::alloc::{AllocError, Global};
 use std::collections::{BTreeMap, BTreeSet, VecDeque};
 
-/// Somebody came of whom those have yet to hear whose demands the offers may meet.
+/// A newcomer, of whom not all scripts were told whose demands its offers may meet.
 #[derive(Clone, Copy)]
 pub(crate) struct Announced {
     pub(crate) ticket: u64,
@@ -84,7 +84,7 @@ impl Prospects {
         Ok(())
     }
 
-    /// Of whom something was tried that counts until a table changes.
+    /// The tickets that have tried meetings which count until this table changes.
     pub(crate) fn watchers(&self, alloc: Global, table: usize) -> Result<Vec<u64>, AllocError> {
         let mut watchers = Vec::new(alloc);
         for watch in self.watches.range(Watch { table, ticket: 0 }..) {
@@ -96,7 +96,7 @@ impl Prospects {
         Ok(watchers)
     }
 
-    /// Nothing that was tried of a ticket counts any more.
+    /// Forgets all meetings that were tried for a ticket.
     pub(crate) fn forget(&mut self, ticket: u64) {
         if let Some(tried) = self.tried.remove(&ticket) {
             for table in tried.tables.iter() {

@@ -3,11 +3,11 @@ ghost use Rattle.std.specs.Prelude.{◌≡◌, Some, false};
 ghost use Rattle.ent_admission.specs.Admission.{is_in_batch};
 ghost use Rattle.ent_room.specs.State.{StandsAs, submissions_of};
 ghost use Rattle.ent_waiting.specs.WaitingList.{waiter_of};
-ghost use Rattle.ent_waiting.specs.declared.waiter.Place.TheVariants.{Resting};
+ghost use Rattle.ent_waiting.specs.declared.waiter.WaitingPlace.TheVariants.{Resting};
 
 use crate::room::Room;
 use ent_meetings::{Lack, MOST_LOOKS, unoffered};
-use ent_waiting::{Ending, Place, Submission, Ticket, Waiter};
+use ent_waiting::{Ending, Submission, Ticket, Waiter, WaitingPlace};
 
 /// How a ticket stands.
 #[derive(Clone, Copy, Debug, PartialEq, Eq)]
@@ -57,7 +57,7 @@ impl Room {
             return State::InBatch;
         }
         match waiter.place {
-            Place::Resting => self.resting(ticket, waiter),
+            WaitingPlace::Resting => self.resting(ticket, waiter),
             _ => State::Waits {
                 batches: waiter.batches,
             },

@@ -154,7 +154,7 @@ impl Room {
         self.prospects.note(self.alloc, ticket, meeting, tables)
     }
 
-    /// Wakes all of whom something was tried that doesn't count any more, since the batch may have changed a table.
+    /// Wakes each script that has a tried meeting which reads a table that the batch may have changed.
     fn wake_all(&mut self, batch: &Batch) -> Result<(), AllocError>
         ensures shifts { OnlyShifts self.old self.new }
     {

@@ -7,7 +7,7 @@ use crate::prospects::Announced;
 use crate::room::Room;
 use crate::tables::tables_read;
 use ent_meetings::{Index, Next};
-use ent_waiting::{Place, Rank, Ticket};
+use ent_waiting::{Rank, Ticket, WaitingPlace};
 use std::alloc::AllocError;
 use std::collections::BTreeSet;
 
@@ -54,7 +54,7 @@ impl Room {
         acts_go_on();
         let own = Ticket::new(ticket);
         let rests = match self.admission.list().waiter(own) {
-            Some(waiter) => waiter.place == Place::Resting,
+            Some(waiter) => waiter.place == WaitingPlace::Resting,
             None => false,
         };
         if rests {
@@ -63,7 +63,7 @@ impl Room {
         Ok(())
     }
 
-    /// Somebody is woken of whom nothing that was tried counts any more.
+    /// Wakes a script, and forgets the meetings that were tried for it.
     fn wake_anew(&mut self, ticket: u64) -> Result<(), AllocError>
         ensures shifts { OnlyShifts self.old self.new }
     {
@@ -72,7 +72,7 @@ impl Room {
         Ok(())
     }
 
-    /// Wakes all of whom something was tried that doesn't count any more, since a table has changed.
+    /// Wakes each script that has a tried meeting which reads this table: the table has changed.
     pub(crate) fn wake_watchers(&mut self, table: usize) -> Result<(), AllocError>
         ensures shifts { OnlyShifts self.old self.new }
     {

@@ -4,6 +4,7 @@ use Rattle.std.proofs.Common.{◌∷◌, ◌++◌, length, map, get_or, set, ref
 use Rattle.std.specs.Prelude.{None, filter}
 use Rattle.std.specs.List.{IsDistinct, AllByRecursion, list_any}
 use Rattle.std.proofs.lemmas.List.{set-get_or, set-set}
+use Rattle.std.proofs.lemmas.Bool.{eq-eqb}
 use Rattle.ent_semantics.specs.Entangled.{Valuation}
 use Rattle.ent_coordination.specs.Pool.{Posted}
 use Rattle.ent_protocol.specs.Member.{is_tx}
@@ -17,7 +18,7 @@ use Rattle.ent_run.specs.Places.{found}
 use Rattle.ent_members.specs.Order.{tx_of}
 use Rattle.ent_run.specs.Run.{Run, with_run}
 use Rattle.ent_run.proofs.JoinedGroups.{asked_labels, labels-append}
-use Rattle.ent_run.proofs.OneMember.{all_at, eq_same, eq_turned}
+use Rattle.ent_run.proofs.OneMember.{all_at, eq_turned}
 
 -- ---- one answer more, the last
 
@@ -91,7 +92,7 @@ one_more front own (x ∷ xs) zero new d apart distinct lt at is =
     let here : answered_from front new ≡ answered_from (front ++ own ∷ []) x =
     unanswered front new (subst (AreApart front) (sym at ∙ sym (ap tx_of is)) apart)
     ∙ is
-    ∙ sym (its_own front own x (subst (AreApart front) (sym at) apart) (eq_same x.tx own.tx at)) in
+    ∙ sym (its_own front own x (subst (AreApart front) (sym at) apart) (eq-eqb x.tx own.tx at)) in
     let rest = others front own xs (turned own.tx (map tx_of xs)
     (subst (λ n. AllByRecursion (λ m. nat_eq n m ≡ false) (map tx_of xs)) at distinct.0)) in
     λ j. here j ∷ rest j

@@ -1,15 +1,12 @@
 -- Members by number.
 use Rattle.std.proofs.Common.{◌≡◌, ℕ, ◌+◌, ◌<◌, ◌≤◌, Bool, true, false, nat_eq, if◌then◌else◌, List, [], ◌∷◌, length}
-use Rattle.std.proofs.Common.{map, arith}
+use Rattle.std.proofs.Common.{map}
 use Rattle.std.specs.List.{filter, IsDistinct, AllByRecursion}
-use Rattle.std.proofs.lemmas.Bool.Decides.{nat_tests}
+use Rattle.ent_lists.proofs.Numbers.{eq_below}
 use Rattle.ent_protocol.specs.State.{Member}
 use Rattle.ent_members.specs.Order.{IsAscending, tx_of}
 use Rattle.ent_members.proofs.InOrder.{all_filter}
 use Rattle.ent_run.specs.Run.{IsRun}
-
-pub eq_below : (n m : ℕ) → n < m → nat_eq n m ≡ false
-eq_below n m below = grind (arith, nat_tests)
 
 all_apart : (n : ℕ) (ns : List ℕ) → AllByRecursion (λ m. n < m) ns → AllByRecursion (λ m. nat_eq n m ≡ false) ns
 all_apart n [] all = tt

@@ -10,6 +10,7 @@ use Rattle.ent_lock.specs.declared.mode.Mode.TheVariants.{Shared, Exclusive}
 use Rattle.ent_lock.specs.Holders.{lesser}
 use Rattle.ent_lock.specs.Mode.{in_conflict}
 use Rattle.ent_lock.specs.Use.{Uses, InConflictAt, IsLeastIfAny, key_of_number}
+use Rattle.ent_lock.proofs.Requests.{least_same, least_either}
 use Rattle.ent_protocol.specs.State.{State, Member, Use}
 use Rattle.ent_protocol.specs.Uses.{is_conflicting, uses_conflict, least, blocker}
 use Rattle.ent_run.specs.Locks.{BlocksUses, IsLockedRun, use_of}
@@ -17,7 +18,7 @@ use Rattle.ent_run.specs.Moves.{run_of}
 use Rattle.ent_run.specs.Passing.{TellsPassed}
 use Rattle.ent_members.specs.Order.{tx_of}
 use Rattle.ent_run.specs.Run.{with_run}
-use Rattle.ent_run.proofs.LeastOf.{least_either, least_of_list, least_same, one_least}
+use Rattle.ent_run.proofs.LeastOf.{least_of_list, one_least}
 use Rattle.ent_run.proofs.Lists.{contains_cases, contains_first, contains_later, any_of, some_of, into_filter}
 use Rattle.ent_run.proofs.Lists.{out_of_filter, into_map, out_of_map}
 use Rattle.ent_run.proofs.Locked.{either_member, is_not}

@@ -3,6 +3,8 @@ use Rattle.std.proofs.Common.{◌≡◌, ℕ, suc, ◌<◌, ◌≤◌, Bool, tru
 use Rattle.std.proofs.Common.{length, map, refl, sym, ap, subst, arith}
 use Rattle.std.specs.List.{IsDistinct, AllByRecursion}
 use Rattle.std.proofs.lemmas.Bool.Decides.{nat_tests}
+use Rattle.std.proofs.lemmas.Bool.{ltb-true}
+use Rattle.ent_lists.proofs.Lists.{all_above}
 use Rattle.ent_protocol.specs.Run.{fresh}
 use Rattle.ent_protocol.specs.State.{Member, Dormant, inserted, by_number}
 use Rattle.ent_members.specs.Order.{IsAscending, tx_of}
@@ -30,20 +32,13 @@ all-by_number P (x ∷ xs) all = all-inserted P x (by_number tx_of xs) all.0 (al
 lower : (a b : ℕ) → nat_lt a b ≡ false → nat_eq a b ≡ false → b < a
 lower a b below apart = grind (arith, nat_tests)
 
-higher : (a b : ℕ) → nat_lt a b ≡ true → a < b
-higher a b below = grind (arith, nat_tests)
-
-all_higher : (a b : ℕ) (ns : List ℕ) → a < b → AllByRecursion (λ n. b < n) ns → AllByRecursion (λ n. a < n) ns
-all_higher a b [] lt all = tt
-all_higher a b (n ∷ ns) lt all = (omega (arith, lt, all.0), all_higher a b ns lt all.1)
-
 ascending_if : (x y : Member) (ys : List Member) (b : Bool) → nat_lt x.tx y.tx ≡ b
     → AllByRecursion (λ n. nat_eq x.tx n ≡ false) (map tx_of (y ∷ ys)) → IsAscending (map tx_of (y ∷ ys))
     → IsAscending (map tx_of (inserted tx_of x ys))
     → IsAscending (map tx_of (if b then x ∷ y ∷ ys else y ∷ inserted tx_of x ys))
 ascending_if x y ys true first apart ascending rest =
-    let below : x.tx < y.tx = higher x.tx y.tx first in
-    ((below, all_higher x.tx y.tx (map tx_of ys) below ascending.0), ascending)
+    let below : x.tx < y.tx = ltb-true x.tx y.tx first in
+    ((below, all_above x.tx y.tx (map tx_of ys) below ascending.0), ascending)
 ascending_if x y ys false first apart ascending rest =
     (all-inserted (λ n. y.tx < n) x ys (lower x.tx y.tx first apart.0) ascending.0, rest)
 

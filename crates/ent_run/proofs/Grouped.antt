@@ -6,6 +6,7 @@ use Rattle.std.specs.Prelude.{Contains, filter, Option, Some, None}
 use Rattle.std.specs.List.{AllByRecursion, IsDistinct, remove}
 use Rattle.std.proofs.lemmas.List.{map-append, take_more}
 use Rattle.std.proofs.lemmas.List.Elements.{Contains-append_left, Contains-append_right, Contains-append_cases}
+use Rattle.std.proofs.lemmas.Option.{same_Some}
 use Rattle.ent_group.specs.declared.groups.Membership.{Membership}
 use Rattle.ent_group.specs.Groups.{group_of}
 use Rattle.ent_lists.specs.Elements.{number_itself, same_number, turned}
@@ -17,7 +18,7 @@ use Rattle.ent_members.specs.Order.{tx_of}
 use Rattle.ent_run.proofs.Lists.{contains_none, contains_cases, contains_first, into_filter, out_of_filter, into_map}
 use Rattle.ent_run.proofs.Lists.{out_of_map}
 use Rattle.ent_run.proofs.Locked.{one_member}
-use Rattle.ent_run.proofs.OneMember.{removed_at, some_same}
+use Rattle.ent_run.proofs.OneMember.{removed_at}
 
 -- ---- labels
 
@@ -32,7 +33,7 @@ label_of groups members member grouped there = (grouped.labels member.tx member.
 pub one_label : (groups : List Membership) (members : List Member) (m n : Member) → AreGrouped groups members
     → Contains members m → Contains members n → m.tx ≡ n.tx → m.group ≡ n.group
 one_label groups members m n grouped there also same =
-    some_same m.group n.group
+    same_Some m.group n.group
     (sym (label_of groups members m grouped there) ∙ ap (group_of groups) same ∙ label_of groups members n grouped also)
 
 -- other members of which each number has the label that it had
@@ -92,7 +93,7 @@ module _ (old new : List Membership) (one : Member) (alone : one.group ≡ one.t
     where
       by_test : (b : Bool) → (one.tx == x) ≡ b
           → ((one.tx ≡ x) × (one.tx ≡ group)) ⊎ (group_of old x ≡ Some group)
-      by_test true same = inl (same_number one.tx x same, some_same one.tx group (sym (added_if x true same) ∙ is))
+      by_test true same = inl (same_number one.tx x same, same_Some one.tx group (sym (added_if x true same) ∙ is))
       by_test false same = inr (sym (added_if x false same) ∙ is)
 
   pub grouped_more : (members : List Member) → AreGrouped old members → AreGrouped new (members ++ one ∷ [])
@@ -293,7 +294,7 @@ module _ (gone : ℕ) (old new : List Membership)
       by_test before true had same =
           absurd (none_is_some group (sym (left x ∙ ap (unless_gone gone) had ∙ gone_if gone before true same) ∙ is))
       by_test before false had same =
-          let one : before ≡ group = some_same before group (sym (stays x before had same) ∙ is) in
+          let one : before ≡ group = same_Some before group (sym (stays x before had same) ∙ is) in
           (had ∙ ap Some one, ap (λ g. g == gone) (sym one) ∙ same)
 
       by_label : (o : Option ℕ) → group_of old x ≡ o → (group_of old x ≡ Some group) × ((group == gone) ≡ false)

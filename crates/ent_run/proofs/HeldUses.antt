@@ -1,29 +1,12 @@
 -- The uses that a member holds, with those that are asked for.
-use Rattle.std.proofs.Common.{◌≡◌, ◌⊎◌, inl, inr, ℕ, Bool, true, false, ◌==◌, nat_lt, if◌then◌else◌, List, [], ◌∷◌}
-use Rattle.std.proofs.Common.{refl, sym, subst, ◌∙◌, arith}
+use Rattle.std.proofs.Common.{◌≡◌, ◌⊎◌, inl, inr, ℕ, Bool, true, false, nat_lt, if◌then◌else◌, List, [], ◌∷◌}
+use Rattle.std.proofs.Common.{refl, sym, subst, ◌∙◌}
 use Rattle.std.specs.Prelude.{Contains}
 use Rattle.std.specs.List.{list_any}
-use Rattle.ent_lists.specs.Elements.{and_both, same_number}
-use Rattle.ent_lock.specs.declared.mode.Mode.{Mode}
-use Rattle.ent_lock.specs.declared.mode.Mode.TheVariants.{Shared, Exclusive}
-use Rattle.ent_lock.specs.Mode.{mode_rank}
+use Rattle.ent_members.proofs.UsesOf.{same_is}
 use Rattle.ent_protocol.specs.Begin.{same_use, use_rank, with_uses}
 use Rattle.ent_protocol.specs.State.{Use, inserted, by_number}
-use Rattle.ent_run.specs.Locks.{use_of}
 use Rattle.ent_run.proofs.Lists.{contains_none, contains_cases, contains_first, contains_later, some_of}
-
-same_mode : (a b : Mode) → mode_rank a ≡ mode_rank b → a ≡ b
-same_mode Shared Shared e = refl
-same_mode Shared Exclusive e = absurd (omega arith)
-same_mode Exclusive Shared e = absurd (omega arith)
-same_mode Exclusive Exclusive e = refl
-
-same_is : (a b : Use) → same_use a b ≡ true → a ≡ b
-same_is a b e =
-    let parts = and_both (a.table == b.table) (mode_rank a.mode == mode_rank b.mode) e in
-    let table : a.table ≡ b.table = same_number a.table b.table parts.0 in
-    let mode : a.mode ≡ b.mode = same_mode a.mode b.mode (same_number (mode_rank a.mode) (mode_rank b.mode) parts.1) in
-    λ i. use_of (table i) (mode i)
 
 -- ---- one more in a list by number
 

@@ -10,21 +10,19 @@ use Rattle.std.proofs.lemmas.Bool.Decides.{nat_tests}
 use Rattle.std.proofs.lemmas.Cmp.{nat_cmp_total}
 use Rattle.std.proofs.lemmas.List.{get_or-map, length-map}
 use Rattle.std.proofs.lemmas.List.Sorted.{searchable_from_sorted}
+use Rattle.std.proofs.lemmas.Bool.{eq-eqb}
+use Rattle.ent_lists.proofs.Numbers.{eq_above, eq_below}
 use Rattle.ent_protocol.specs.Member.{is_tx}
 use Rattle.ent_protocol.specs.State.{Member, first_of}
 use Rattle.ent_members.specs.Order.{IsAscending, tx_of}
 use Rattle.ent_run.specs.Places.{IsAt, found}
-use Rattle.ent_run.proofs.Ascending.{eq_below}
-use Rattle.ent_run.proofs.OneMember.{all_at, eq_same}
-
-eq_above : (n m : ℕ) → m < n → (n == m) ≡ false
-eq_above n m above = grind (arith, nat_tests)
+use Rattle.ent_run.proofs.OneMember.{all_at}
 
 pub found_here : (xs : List Member) (i tx : ℕ) (d : Member) → IsAscending (map tx_of xs) → i < length xs
     → (get_or xs i d).tx ≡ tx → found xs tx ≡ Some (get_or xs i d)
 found_here [] i tx d ascending lt is = absurd (omega (arith, lt))
 found_here (x ∷ xs) zero tx d ascending lt is =
-    ap (λ b. first_of (if b then x ∷ filter (is_tx tx) xs else filter (is_tx tx) xs)) (eq_same x.tx tx is)
+    ap (λ b. first_of (if b then x ∷ filter (is_tx tx) xs else filter (is_tx tx) xs)) (eq-eqb x.tx tx is)
 found_here (x ∷ xs) (suc i) tx d ascending lt is =
     let below : x.tx < (get_or xs i d).tx = all_at (λ n. x.tx < n) xs i d (omega (arith, lt)) ascending.0 in
     ap (λ b. first_of (if b then x ∷ filter (is_tx tx) xs else filter (is_tx tx) xs))

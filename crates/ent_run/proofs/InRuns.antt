@@ -1,6 +1,7 @@
 -- What members have themselves, and members as they are in a run: a change of the one is a change of the other.
 use Rattle.std.proofs.Common.{◌≡◌, inl, inr, ℕ, Bool, true, false, ◌==◌, ◌||◌, nat_eq, if◌then◌else◌, List, []}
 use Rattle.std.proofs.Common.{◌∷◌, map, refl, sym, ap, subst, ◌∙◌}
+use Rattle.std.proofs.lemmas.Option.{same_Some}
 use Rattle.std.specs.Prelude.{◌↔◌, Contains, Option, Some, None, Result, Ok, Err, OnOk, filter}
 use Rattle.std.specs.List.{IsDistinct, list_any}
 use Rattle.std.specs.Option.{option_map}
@@ -24,7 +25,6 @@ use Rattle.ent_run.specs.Locks.{Locks}
 use Rattle.ent_run.specs.Places.{Changes, found}
 use Rattle.ent_run.proofs.Lists.{contains_first, contains_later}
 use Rattle.ent_run.proofs.Locked.{one_member}
-use Rattle.ent_run.proofs.OneMember.{some_same}
 
 -- ---- lists
 
@@ -97,7 +97,7 @@ module _ (locks : Uses) (groups : List Membership) where
         by_found (Some m) is some =
             ap (in_runs locks groups) (changes m is) ∙ changed_list m old
             ∙ ap (λ one. map (replaced (change one)) (in_runs locks groups old))
-            (some_same (in_run locks groups m) member some)
+            (same_Some (in_run locks groups m) member some)
 
   -- one member takes its answer, or memory runs out
   pub changes_carried : {T E : Type 0} (r : Result T E) (own : Member → Member)

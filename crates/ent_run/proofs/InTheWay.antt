@@ -8,11 +8,12 @@ use Rattle.ent_lock.specs.declared.mode.Mode.{Mode}
 use Rattle.ent_lock.specs.Holders.{lesser}
 use Rattle.ent_lock.specs.Mode.{in_conflict}
 use Rattle.ent_lock.specs.Use.{IsLeastIfAny, Uses}
+use Rattle.ent_lock.proofs.Requests.{least_same}
 use Rattle.ent_protocol.specs.State.{Use}
 use Rattle.ent_protocol.specs.Uses.{least}
 use Rattle.ent_run.specs.Passing.{Asker, is_in_the_way, passes}
 use Rattle.ent_run.proofs.Blocked.{BlocksOne}
-use Rattle.ent_run.proofs.LeastOf.{least_more, least_of_list, least_same}
+use Rattle.ent_run.proofs.LeastOf.{least_more, least_of_list}
 use Rattle.ent_run.proofs.Lists.{into_filter, into_map, out_of_filter, out_of_map}
 use Rattle.ent_run.proofs.Locked.{is_not}
 use Rattle.ent_run.proofs.MadeToWait.{AreHolders}

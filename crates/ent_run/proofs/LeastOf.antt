@@ -5,35 +5,9 @@ use Rattle.std.specs.Prelude.{Contains, Option, Some, None}
 use Rattle.std.proofs.lemmas.Bool.Decides.{nat_tests}
 use Rattle.ent_lock.specs.Holders.{lesser}
 use Rattle.ent_lock.specs.Use.{IsLeastIfAny}
+pub use Rattle.ent_lock.proofs.Requests.{least_same, least_either}
 use Rattle.ent_protocol.specs.Uses.{least}
 use Rattle.ent_run.proofs.Lists.{contains_none, contains_cases, contains_first, contains_later}
-
-min_left : (x y w : ℕ) → x ≤ w → min x y ≤ w
-min_left x y w h = omega (arith, h)
-
-min_right : (x y w : ℕ) → y ≤ w → min x y ≤ w
-min_right x y w h = omega (arith, h)
-
-min_is : (x y : ℕ) → (min x y ≡ x) ⊎ (min x y ≡ y)
-min_is x y = grind arith
-
--- of two facts
-pub least_either : (P Q : ℕ → Type 0) (a b : Option ℕ) → IsLeastIfAny P a → IsLeastIfAny Q b
-    → IsLeastIfAny (λ v. P v ⊎ Q v) (lesser a b)
-least_either P Q None None p q = λ v either. elim either [ inl h ↦ p v h | inr h ↦ q v h ]
-least_either P Q None (Some y) p q =
-    (inr q.0, λ w either. elim either [ inl h ↦ absurd (p w h) | inr h ↦ q.1 w h ])
-least_either P Q (Some x) None p q =
-    (inl p.0, λ w either. elim either [ inl h ↦ p.1 w h | inr h ↦ absurd (q w h) ])
-least_either P Q (Some x) (Some y) p q = (
-  elim (min_is x y) [ inl e ↦ inl (subst P (sym e) p.0) | inr e ↦ inr (subst Q (sym e) q.0) ],
-  λ w either. elim either [ inl h ↦ min_left x y w (p.1 w h) | inr h ↦ min_right x y w (q.1 w h) ],
-)
-
-pub least_same : (P Q : ℕ → Type 0) (o : Option ℕ) → ((v : ℕ) → P v → Q v) → ((v : ℕ) → Q v → P v)
-    → IsLeastIfAny P o → IsLeastIfAny Q o
-least_same P Q None to from h = λ v q. h v (from v q)
-least_same P Q (Some x) to from h = (to x h.0, λ w q. h.1 w (from w q))
 
 no_lower : (x y : ℕ) → x ≤ y → y ≤ x → x ≡ y
 no_lower x y h k = omega (arith, h, k)

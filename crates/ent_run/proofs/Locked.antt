@@ -4,7 +4,9 @@ use Rattle.std.proofs.Common.{List, [], ◌∷◌, ◌++◌, map, nat_eq, refl, 
 use Rattle.std.specs.Prelude.{Contains, filter, Option, Some, None, IsSome, Result, Ok, Err, OnOk, OnErr}
 use Rattle.std.specs.List.{IsDistinct, AllByRecursion, list_any}
 use Rattle.std.proofs.lemmas.List.Elements.{Contains-append_left, Contains-append_right, Contains-append_cases}
+use Rattle.std.proofs.lemmas.Option.{same_Some}
 use Rattle.ent_lists.specs.Elements.{number_itself, same_number}
+use Rattle.ent_lists.proofs.Options.{some_value}
 use Rattle.ent_lock.specs.declared.mode.Mode.{Mode}
 use Rattle.ent_lock.specs.Use.{Uses, AddsUses, key_of_number, keyed}
 use Rattle.ent_protocol.specs.Begin.{replaced}
@@ -16,11 +18,7 @@ use Rattle.ent_members.specs.InRun.{AreByNumber, number_of_key}
 use Rattle.ent_members.specs.Order.{tx_of}
 use Rattle.ent_run.proofs.Lists.{contains_none, contains_cases, contains_first, contains_later, into_map, out_of_map}
 use Rattle.ent_run.proofs.Lists.{some_of}
-use Rattle.ent_run.proofs.OneMember.{found_tx, run_kept, some_same}
-
-pub not_true : (b : Bool) → not b ≡ true → b ≡ true → ⊥
-not_true true is same = true≢false (sym is)
-not_true false is same = true≢false (sym same)
+use Rattle.ent_run.proofs.OneMember.{found_tx, run_kept}
 
 pub is_not : (b : Bool) → not b ≡ true → b ≡ false
 is_not true is = sym is
@@ -44,7 +42,7 @@ found_there (x ∷ xs) tx member is = by_test (λ first. found_there xs tx membe
     by_test : (found xs tx ≡ Some member → Contains xs member) → (b : Bool) → is_tx tx x ≡ b
         → first_of (if b then x ∷ filter (is_tx tx) xs else filter (is_tx tx) xs) ≡ Some member
         → Contains (x ∷ xs) member
-    by_test rest true here first = subst (Contains (x ∷ xs)) (some_same x member first) (contains_first x xs)
+    by_test rest true here first = subst (Contains (x ∷ xs)) (same_Some x member first) (contains_first x xs)
     by_test rest false here first = contains_later x member xs (rest first)
 
 never_apart : (n : ℕ) (xs : List Member) (m : Member) → AllByRecursion (λ k. nat_eq n k ≡ false) (map tx_of xs)
@@ -221,10 +219,6 @@ adds_nothing change member same uses =
     }
 
 -- ---- one member takes an answer
-
-pub some_value : {A : Type 0} (o : Option A) → IsSome o → (x : A) × (o ≡ Some x)
-some_value (Some x) there = (x, refl)
-some_value None there = absurd (true≢false (sym there))
 
 pub run_stepped : {T E : Type 0} (r : Result T E) (locks : Uses) (prepared old new : List Member)
     (change : Member → Member) → ((m : Member) → (change m).tx ≡ m.tx) → ((m : Member) → (change m).uses ≡ m.uses)

@@ -5,6 +5,7 @@ use Rattle.std.specs.Prelude.{Contains, filter, Result, Ok, Err, OnOk, OnErr}
 use Rattle.std.specs.List.{list_any, IsDistinct, remove}
 use Rattle.std.specs.FinSet as finite
 use Rattle.std.proofs.lemmas.List.Elements.{Contains-append_cases}
+use Rattle.std.proofs.lemmas.Bool.{both_ways, not-true}
 use Rattle.ent_lists.specs.Elements.{number_itself, same_number}
 use Rattle.ent_lock.specs.Use.{Uses, DropsUses, use_cmp, key_of_number}
 use Rattle.ent_protocol.specs.Member.{is_of, is_tx}
@@ -25,7 +26,7 @@ use Rattle.ent_run.proofs.HeldUses.{out_of_by_number}
 use Rattle.ent_run.proofs.JoinedGroups.{run_joined}
 use Rattle.ent_run.proofs.Lists.{contains_none, contains_cases, contains_first, into_among, into_filter, out_of_among}
 use Rattle.ent_run.proofs.Lists.{out_of_filter, into_map, out_of_map}
-use Rattle.ent_run.proofs.Locked.{not_true, held_by_either, held_by_one, one_member}
+use Rattle.ent_run.proofs.Locked.{held_by_either, held_by_one, one_member}
 use Rattle.ent_run.proofs.Moved.{run_filtered, run_committed, run_prepared}
 use Rattle.ent_run.proofs.OneMember.{removed_at, run_kept}
 
@@ -184,7 +185,7 @@ held_filtered : (numbers : List ℕ) (xs : List Member) (tx : ℕ) (own : Use)
 held_filtered numbers xs tx own (m, there, is, holds) =
     let inside = out_of_filter (is_not_of numbers) xs m there in (
       (m, inside.0, is, holds),
-      λ gone. not_true (list_any (λ n. n == m.tx) numbers) inside.1
+      λ gone. both_ways (list_any (λ n. n == m.tx) numbers) (not-true (list_any (λ n. n == m.tx) numbers) inside.1)
           (into_among numbers m.tx (subst (Contains numbers) (sym is) gone)),
     )
 
@@ -280,7 +281,7 @@ run_left_by_group group locks next prepared active drops run = record {
         let inside = out_of_filter (is_of_another group) prepared m there in
         let other = out_of_map tx_of (filter (is_of group) prepared) tx gone in
         let committed = out_of_filter (is_of group) prepared other.0 other.1 in
-        not_true (is_of group m) inside.1
+        both_ways (is_of group m) (not-true (is_of group m) inside.1)
         (ap (λ (k : Member). k.group == group) (one_member prepared run.once m other.0 inside.0 committed.0
         (is ∙ sym other.2)) ∙ committed.1)
 
@@ -337,7 +338,9 @@ run_locked_prepared locks prepared active i member lt at run = record {
     elsewhere tx (inl a) also = run.apart tx a (numbers_filtered (λ other. not (is_tx member.tx other)) active tx also)
     elsewhere tx (inr same) also =
         let m = out_of_map tx_of (filter (λ other. not (is_tx member.tx other)) active) tx also in
-        not_true (is_tx member.tx m.0) (out_of_filter (λ other. not (is_tx member.tx other)) active m.0 m.1).1
+        both_ways (is_tx member.tx m.0)
+        (not-true (is_tx member.tx m.0)
+        (out_of_filter (λ other. not (is_tx member.tx other)) active m.0 m.1).1)
         (ap (λ n. n == member.tx) (m.2 ∙ sym same) ∙ number_itself member.tx)
 
     to_last : (tx : ℕ) (own : Use) (m : Member) (b : Bool) → is_tx member.tx m ≡ b → Contains active m → m.tx ≡ tx

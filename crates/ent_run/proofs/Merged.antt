@@ -7,9 +7,11 @@ use Rattle.std.specs.Option.{option_map}
 use Rattle.std.proofs.lemmas.List.{map-append, take_more}
 use Rattle.std.proofs.lemmas.List.Elements.{filter-append, filter_map-append}
 use Rattle.std.proofs.lemmas.List.Folds.{list_any-append}
+use Rattle.std.proofs.lemmas.Option.{same_Some}
 use Rattle.ent_group.specs.declared.groups.Membership.{Membership}
 use Rattle.ent_group.specs.Groups.{Relabels, group_of, moved_label}
 use Rattle.ent_lists.specs.Elements.{number_itself, same_number}
+use Rattle.ent_lists.proofs.Options.{some_value}
 use Rattle.ent_protocol.specs.PoolEvents.{in_joined_group, joined_label}
 use Rattle.ent_protocol.specs.State.{Member}
 use Rattle.ent_run.specs.Grouped.{AreGrouped, IsLabelled}
@@ -17,8 +19,7 @@ use Rattle.ent_run.specs.Joined.{is_one_of, labels_in}
 use Rattle.ent_members.specs.Order.{tx_of}
 use Rattle.ent_run.proofs.Grouped.{label_of, none_is_some}
 use Rattle.ent_run.proofs.Lists.{contains_first, contains_later, into_map, out_of_map}
-use Rattle.ent_run.proofs.Locked.{some_value}
-use Rattle.ent_run.proofs.OneMember.{eq_turned, some_same}
+use Rattle.ent_run.proofs.OneMember.{eq_turned}
 
 -- ---- labels that are joined
 
@@ -282,7 +283,7 @@ module _ (first : ℕ) (more : List ℕ) (old new : List Membership)
             into_map (in_joined_group (first ∷ more)) members has.0 has.1,
             has.2,
             ap (joined_label (first ∷ more)) has.3
-                ∙ some_same (joined_label (first ∷ more) before) group (sym (joined_of tx before had) ∙ is),
+                ∙ same_Some (joined_label (first ∷ more) before) group (sym (joined_of tx before had) ∙ is),
           )
 
       named_by : (tx group : ℕ) (o : Option ℕ) → group_of old tx ≡ o → group_of new tx ≡ Some group
@@ -292,7 +293,7 @@ module _ (first : ℕ) (more : List ℕ) (old new : List Membership)
       named_by tx group (Some before) had is = by_test (list_any (λ label. label == before) (first ∷ more)) refl
         where
           now : joined_label (first ∷ more) before ≡ group
-          now = some_same (joined_label (first ∷ more) before) group (sym (joined_of tx before had) ∙ is)
+          now = same_Some (joined_label (first ∷ more) before) group (sym (joined_of tx before had) ∙ is)
 
           by_test : (b : Bool) → list_any (λ label. label == before) (first ∷ more) ≡ b
               → group_of new group ≡ Some group

@@ -36,7 +36,7 @@ run_prepared prepared active i d member lt run =
     (subst (λ ms. IsAscending (map tx_of ms)) (sym (removed_at active i d run.distinct lt))
     (ascending_filter (λ other. not (is_tx (get_or active i d).tx other)) active run.ascending))
 
-among_if : (gone : List Member) (tx : ℕ)
+pub among_if : (gone : List Member) (tx : ℕ)
     → list_any (λ n. n == tx) (map tx_of gone) ≡ is_among gone tx
 among_if [] tx = refl
 among_if (x ∷ gone) tx = ap (λ b. (x.tx == tx) || b) (among_if gone tx)

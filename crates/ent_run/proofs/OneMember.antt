@@ -6,6 +6,8 @@ use Rattle.std.specs.List.{IsDistinct, AllByRecursion, remove}
 use Rattle.std.proofs.lemmas.Bool.Decides.{nat_tests}
 use Rattle.std.proofs.lemmas.List.{length-map}
 use Rattle.std.proofs.Math.Seq.{map-set_same}
+use Rattle.std.proofs.lemmas.Option.{same_Some}
+use Rattle.std.proofs.lemmas.Bool.{eq-eqb}
 use Rattle.ent_protocol.specs.Begin.{replaced}
 use Rattle.ent_protocol.specs.Member.{is_tx}
 use Rattle.ent_protocol.specs.State.{Member, first_of}
@@ -14,9 +16,6 @@ use Rattle.ent_members.specs.Order.{IsAscending, tx_of}
 use Rattle.ent_run.specs.Run.{IsRun}
 
 -- ---- the member at an index, and the others
-
-pub eq_same : (a b : ℕ) → a ≡ b → (a == b) ≡ true
-eq_same a b is = grind (arith, nat_tests)
 
 pub eq_turned : (a b : ℕ) → (a == b) ≡ (b == a)
 eq_turned a b = grind (arith, nat_tests)
@@ -41,7 +40,7 @@ replaced_at [] i new d distinct lt is = absurd (omega (arith, lt))
 replaced_at (x ∷ xs) zero new d distinct lt is =
     ap (λ ms. new ∷ ms) (sym (untouched new xs
     (subst (λ n. AllByRecursion (λ m. nat_eq n m ≡ false) (map tx_of xs)) is distinct.0)))
-    ∙ ap (λ b. (if b then new else x) ∷ map (replaced new) xs) (sym (eq_same x.tx new.tx is))
+    ∙ ap (λ b. (if b then new else x) ∷ map (replaced new) xs) (sym (eq-eqb x.tx new.tx is))
 replaced_at (x ∷ xs) (suc i) new d distinct lt is =
     let apart : (x.tx == new.tx) ≡ false =
     subst (λ n. (x.tx == n) ≡ false) is
@@ -63,7 +62,7 @@ unfolding IsDistinct
 removed_at [] i d distinct lt = absurd (omega (arith, lt))
 removed_at (x ∷ xs) zero d distinct lt =
     sym (ap (λ b. if not b then x ∷ filter (λ other. not (is_tx x.tx other)) xs
-    else filter (λ other. not (is_tx x.tx other)) xs) (eq_same x.tx x.tx refl)
+    else filter (λ other. not (is_tx x.tx other)) xs) (eq-eqb x.tx x.tx refl)
     ∙ kept_if x xs x.tx distinct.0)
 removed_at (x ∷ xs) (suc i) d distinct lt =
     let tx = (get_or xs i d).tx in
@@ -84,12 +83,9 @@ pub found_tx : (xs : List Member) (tx : ℕ) (member : Member) → found xs tx �
 found_tx [] tx member is = grind arith
 found_tx (x ∷ xs) tx member is = found_if x xs tx member (x.tx == tx) refl (found_tx xs tx member) is
 
-pub some_same : {A : Type 0} (x y : A) → Some x ≡ Some y → x ≡ y
-some_same x y is = grind arith
-
 pub found_at : (xs : List Member) (tx i : ℕ) (d member : Member) → IsAt xs tx i → found xs tx ≡ Some member
     → get_or xs i d ≡ member
-found_at xs tx i d member at is = some_same (get_or xs i d) member (sym (at.first d) ∙ is)
+found_at xs tx i d member at is = same_Some (get_or xs i d) member (sym (at.first d) ∙ is)
 
 -- ---- a change
 

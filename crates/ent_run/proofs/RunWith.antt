@@ -12,12 +12,14 @@ use Rattle.std.proofs.lemmas.List.Elements.{Contains-append_right, filter-append
 use Rattle.ent_group.specs.declared.groups.Membership.{Membership}
 use Rattle.ent_group.specs.Groups.{group_of}
 use Rattle.ent_lists.specs.Elements.{number_itself, same_number}
+use Rattle.ent_lists.proofs.Options.{some_value}
 use Rattle.ent_lock.specs.Use.{Uses, DropsUses}
 use Rattle.ent_protocol.specs.Begin.{replaced}
 use Rattle.ent_protocol.specs.Member.{is_of}
 use Rattle.ent_protocol.specs.PoolEvents.{in_joined_group, joined_label}
 use Rattle.ent_protocol.specs.Run.{fresh}
 use Rattle.ent_protocol.specs.State.{Member, Dormant, by_number}
+use Rattle.ent_protocol.proofs.Numbers.{replaced_tx}
 use Rattle.ent_members.specs.Answered.{MemberAnswer}
 use Rattle.ent_run.specs.Answered.{answered_from}
 use Rattle.ent_run.specs.Grouped.{AreGrouped, IsRunWith, unless_gone}
@@ -35,7 +37,7 @@ use Rattle.ent_run.proofs.Grouped.{regrouped, same_labels}
 use Rattle.ent_run.proofs.HeldUses.{into_by_number, out_of_by_number}
 use Rattle.ent_run.proofs.Lists.{contains_first, contains_later, into_among, into_filter, into_map, out_of_among}
 use Rattle.ent_run.proofs.Lists.{out_of_filter, out_of_map}
-use Rattle.ent_run.proofs.Locked.{found_there, run_stepped, some_value}
+use Rattle.ent_run.proofs.Locked.{found_there, run_stepped}
 use Rattle.ent_run.proofs.LockedRuns.{nobody_runs, run_answered_or_not, run_left, run_left_by_group, run_locked_joined}
 use Rattle.ent_run.proofs.LockedRuns.{run_starts}
 use Rattle.ent_run.proofs.Merged.{grouped_joined}
@@ -56,13 +58,6 @@ starts_with entrants groups bound distinct grouped = (
 )
 
 -- ---- one member is changed
-
-replaced_tx : (new m : Member) → (replaced new m).tx ≡ m.tx
-replaced_tx new m = by_test (m.tx == new.tx) refl
-  where
-    by_test : (b : Bool) → (m.tx == new.tx) ≡ b → (replaced new m).tx ≡ m.tx
-    by_test true is = ap (λ (b : Bool). (if b then new else m).tx) is ∙ sym (same_number m.tx new.tx is)
-    by_test false is = ap (λ (b : Bool). (if b then new else m).tx) is
 
 replaced_group : (new m : Member) → (m.tx ≡ new.tx → new.group ≡ m.group) → (replaced new m).group ≡ m.group
 replaced_group new m same = by_test (m.tx == new.tx) refl

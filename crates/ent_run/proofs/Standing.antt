@@ -4,9 +4,11 @@ use Rattle.std.proofs.Common.{map, refl, sym, ap, subst, ◌∙◌, arith, true�
 use Rattle.std.specs.Prelude.{All, Contains, Option, None, Some}
 use Rattle.std.specs.List.{AllByRecursion, list_any}
 use Rattle.std.proofs.lemmas.List.Elements.{Contains-append_right}
+use Rattle.std.proofs.lemmas.Option.{same_Some}
 use Rattle.ent_group.specs.declared.groups.Membership.{Membership}
 use Rattle.ent_group.specs.Groups.{IsByNumber, group_of, numbers_of}
 use Rattle.ent_lists.specs.Elements.{and_both, both_and, number_itself, same_number}
+use Rattle.ent_lists.proofs.Numbers.{eq_below}
 use Rattle.ent_lock.specs.Use.{Uses}
 use Rattle.ent_members.specs.InRun.{in_run}
 use Rattle.ent_members.specs.Order.{IsAscending, tx_of}
@@ -14,7 +16,6 @@ use Rattle.ent_protocol.specs.Member.{is_of, is_tx}
 use Rattle.ent_protocol.specs.State.{Member, by_number}
 use Rattle.ent_run.specs.Grouped.{AreGrouped, IsRunWith, is_labelled_among}
 use Rattle.ent_run.specs.InRuns.{in_runs}
-use Rattle.ent_run.proofs.Ascending.{eq_below}
 use Rattle.ent_run.proofs.ByNumber.{ascending-by_number}
 use Rattle.ent_run.proofs.Distinct.{distinct_append, same_ascending}
 use Rattle.ent_run.proofs.Grouped.{label_of}
@@ -23,7 +24,6 @@ use Rattle.ent_run.proofs.InRuns.{any_mapped}
 use Rattle.ent_run.proofs.Lists.{any_of, contains_cases, contains_first, contains_later, contains_none, into_map}
 use Rattle.ent_run.proofs.Lists.{out_of_map, some_of}
 use Rattle.ent_run.proofs.Locked.{true_both}
-use Rattle.ent_run.proofs.OneMember.{some_same}
 
 -- ---- memberships by number
 
@@ -61,7 +61,7 @@ label_there (m ∷ ms) tx group is = by_test (m.member == tx) refl is (label_the
         → Contains (m ∷ ms) (record { member = tx; group = group })
     by_test true same found rest =
         let number : m.member ≡ tx = same_number m.member tx same in
-        let label : m.group ≡ group = some_same m.group group found in
+        let label : m.group ≡ group = same_Some m.group group found in
         subst (Contains (m ∷ ms)) (λ i. record { member = number i; group = label i }) (contains_first m ms)
     by_test false other found rest = contains_later m (record { member = tx; group = group }) ms (rest found)
 
@@ -89,7 +89,7 @@ any_of_group locks groups prepared active group by run =
         (any_mapped (in_run locks groups) (is_tx own.member) (is_tx own.member) (λ m. refl) active ∙ parts.1) in
         let m = other.0 in
         let same : m.tx ≡ own.member = same_number m.tx own.member other.2 in
-        let label : m.group ≡ own.group = some_same m.group own.group
+        let label : m.group ≡ own.group = same_Some m.group own.group
         (sym (label_of groups both m run.1 (Contains-append_right (in_runs locks groups prepared) seen m other.1))
         ∙ ap (group_of groups) same ∙ found_label groups own by one.1) in
         any_of (is_of group) seen m other.1 (ap (λ n. n == group) label ∙ parts.0)

@@ -4,6 +4,7 @@ use Rattle.std.proofs.Common.{if◌then◌else◌, List, [], ◌∷◌, ◌++◌
 use Rattle.std.specs.Prelude.{◌↔◌, Contains, IsTrue, Some, filter}
 use Rattle.std.specs.List.{flat_map, list_any}
 use Rattle.std.proofs.lemmas.List.Elements.{Contains-append_cases}
+use Rattle.std.proofs.lemmas.Bool.{both_ways, not-true}
 use Rattle.ent_lists.specs.Elements.{number_itself, same_number}
 use Rattle.ent_protocol.specs.Member.{is_of}
 use Rattle.ent_protocol.specs.State.{State, Member, Use}
@@ -21,7 +22,7 @@ use Rattle.ent_run.specs.Waits.{IsMadeToWait, is_awaited, is_awaited_over, pairs
 use Rattle.ent_run.proofs.Blocked.{blocks_conflicting, conflicting_blocks, of_run, others}
 use Rattle.ent_run.proofs.Lists.{contains_none, contains_cases, contains_first, into_filter, out_of_filter, any_of}
 use Rattle.ent_run.proofs.Lists.{some_of, into_map, out_of_map, into_flat_map, out_of_flat_map}
-use Rattle.ent_run.proofs.Locked.{not_true, true_both}
+use Rattle.ent_run.proofs.Locked.{true_both}
 
 abbrev pair_with : ℕ → Member → ℕ × ℕ
 pair_with tx other = (tx, other.tx)
@@ -38,8 +39,10 @@ own_is_active s asker holder asked there own =
   where
     by_list : Contains (filter (λ (h : Member). not (h.group == asker.group)) s.prepared) holder
         ⊎ Contains (filter (λ (h : Member). not (h.tx == asker.tx)) s.active) holder → Contains s.active holder
-    by_list (inl first) = absurd (not_true (holder.group == asker.group)
-        (out_of_filter (λ (h : Member). not (h.group == asker.group)) s.prepared holder first).1 own)
+    by_list (inl first) = absurd
+        (both_ways (holder.group == asker.group)
+        (not-true (holder.group == asker.group)
+        (out_of_filter (λ (h : Member). not (h.group == asker.group)) s.prepared holder first).1) own)
     by_list (inr second) = (out_of_filter (λ (h : Member). not (h.tx == asker.tx)) s.active holder second).0
 
 awaited_is : (active : List Member) (holder other : Member) (b : Bool) → (b ≡ true → Contains active holder)

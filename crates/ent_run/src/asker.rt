@@ -6,7 +6,7 @@ ghost use Rattle.ent_run.specs.Passing.{asker_of, passes};
 use crate::member_list::MemberList;
 use crate::search::is_among_from;
 use ent_group::{Groups, Tx};
-use ent_members::{Member, label_in};
+use ent_members::{RunMember, label_in};
 use std::marker::Model;
 
 /// A member that asks for uses, beside the members that are prepared. It passes those of its group among them, and
@@ -34,7 +34,7 @@ impl<'a> Model for Asker<'a> {
 }
 
 /// The label of a member's group, or any number, if nobody is prepared: then it is of no use, and takes no search.
-fn label_beside(prepared: &MemberList, asker: &Member) -> Tx
+fn label_beside(prepared: &MemberList, asker: &RunMember) -> Tx
     ensures { (other : Seen) → Contains prepared.now other → result ≡ asker.now.group }
 {
     if prepared.is_empty() {
@@ -46,7 +46,7 @@ fn label_beside(prepared: &MemberList, asker: &Member) -> Tx
 
 impl<'a> Asker<'a> {
     /// A member that asks.
-    pub(crate) fn new(asker: &Member, prepared: MemberList<'a>, groups: &'a Groups) -> Self
+    pub(crate) fn new(asker: &RunMember, prepared: MemberList<'a>, groups: &'a Groups) -> Self
         ensures { (holder : ℕ) → passes result holder ≡ passes (asker_of asker.now prepared.entry groups.now) holder }
     {
         let group = label_beside(&prepared, asker);

@@ -57,10 +57,11 @@ pub(crate) fn least_in_conflict(
         return None;
     };
     let holders = locks.holders(&first.table());
-    lesser(
-        least_in_the_way(holders, first.mode(), asker),
-        least_in_conflict(locks, rest, asker),
-    )
+    let own = least_in_the_way(holders, first.mode(), asker);
+    if rest.is_empty() {
+        return own;
+    }
+    lesser(own, least_in_conflict(locks, rest, asker))
 }
 
 /// Uses as the lock table takes them.

@@ -45,7 +45,7 @@ use crate::{change, groups};
 use ent_group::{Groups, MOST_MEMBERS, Members, Tx};
 use ent_lock::{Holder, LockTable};
 use ent_members::{
-    Entrant, Member, MemberAnswer, Progress, RunAttempts, Use, exclusive_table, statement_uses,
+    Entrant, MemberAnswer, Progress, RunAttempts, RunMember, Use, exclusive_table, statement_uses,
 };
 use ent_semantics::{Answer, Statement};
 use ent_value::{Name, Value};
@@ -121,6 +121,14 @@ impl Run {
         self.len() == 0
     }
 
+    /// How many members are prepared.
+    pub fn prepared_len(&self) -> usize
+        ensures len { result ≡ length self.now.prepared }
+        ensures bound { length self.now.prepared ≤ MOST_MEMBERS }
+    {
+        self.members.prepared().len()
+    }
+
     /// How many members aren't prepared. No two of them have one number.
     pub fn active_len(&self) -> usize
         ensures len { result ≡ length self.now.active }
@@ -131,11 +139,11 @@ impl Run {
     }
 
     /// The member of a number that isn't prepared.
-    pub fn active_member(&self, tx: Tx) -> Option<Member<'_>>
+    pub fn active_member(&self, tx: Tx) -> Option<RunMember<'_>>
         ensures { (s : State) → result ≡ active_member (with_run self.now s) tx }
     {
         match member_by_number(&self.members.active(), tx) {
-            Some(own) => Some(Member::new(own, &self.locks, &self.groups)),
+            Some(own) => Some(RunMember::new(own, &self.locks, &self.groups)),
             None => None,
         }
     }
@@ -149,19 +157,19 @@ impl Run {
     }
 
     /// The member at a place of those that aren't prepared.
-    pub fn at(&self, place: usize) -> Member<'_>
+    pub fn at(&self, place: usize) -> RunMember<'_>
         requires { place < length self.now.active }
         ensures { (d : Seen) → result ≡ slice_index_or self.now.active place d }
     {
-        Member::new(self.members.active().at(place), &self.locks, &self.groups)
+        RunMember::new(self.members.active().at(place), &self.locks, &self.groups)
     }
 
     /// The member of a number, prepared or not.
-    pub fn member(&self, tx: Tx) -> Option<Member<'_>>
+    pub fn member(&self, tx: Tx) -> Option<RunMember<'_>>
         ensures { (s : State) → result ≡ member_of (with_run self.now s) tx }
     {
         match member_in(&self.members.prepared(), tx) {
-            Some(own) => Some(Member::new(own, &self.locks, &self.groups)),
+            Some(own) => Some(RunMember::new(own, &self.locks, &self.groups)),
             None => self.active_member(tx),
         }
     }
@@ -217,7 +225,7 @@ impl Run {
     }
 
     /// A member that asks for uses: it passes the prepared members of its group, and itself.
-    fn asking(&self, asker: &Member) -> Asker<'_>
+    fn asking(&self, asker: &RunMember) -> Asker<'_>
         ensures { TellsPassed asker.now self.now (passes result) }
     {
         Asker::new(asker, self.members.prepared(), &self.groups)
@@ -225,14 +233,14 @@ impl Run {
 
     /// The least member that holds a use in conflict with one of those that a member asks for, save itself and the
     /// prepared members of its group.
-    pub fn blocker(&self, asker: &Member, asked: &[Use]) -> Option<Tx>
+    pub fn blocker(&self, asker: &RunMember, asked: &[Use]) -> Option<Tx>
         ensures { (s : State) → result ≡ blocker (with_run self.now s) asker.now asked.now }
     {
         least_in_conflict(&self.locks, asked, &self.asking(asker))
     }
 
     /// The same of one that asks for the uses of a statement, which are put together.
-    fn uses_blocker<K>(&self, asker: &Member, statement: &Statement<K>) -> Option<Tx>
+    fn uses_blocker<K>(&self, asker: &RunMember, statement: &Statement<K>) -> Option<Tx>
         ensures { (s : State) → result ≡ blocker (with_run self.now s) asker.now (statement_uses statement.now) }
     {
         self.blocker(asker, statement_uses(statement).as_slice())
@@ -240,7 +248,7 @@ impl Run {
 
     /// The least member in conflict with one that asks for the uses of a statement, as [`Run::blocker`] says. What
     /// changes a table asks for one use, and needs no room for more.
-    pub fn statement_blocker<K>(&self, asker: &Member, statement: &Statement<K>) -> Option<Tx>
+    pub fn statement_blocker<K>(&self, asker: &RunMember, statement: &Statement<K>) -> Option<Tx>
         ensures { (s : State) → result ≡ blocker (with_run self.now s) asker.now (statement_uses statement.now) }
     {
         match exclusive_table(statement) {
@@ -250,7 +258,7 @@ impl Run {
     }
 
     /// Whether a member that asks for uses would wait for another member, which isn't prepared.
-    pub fn awaits(&self, asker: &Member, asked: &[Use], other: &Member) -> bool
+    pub fn awaits(&self, asker: &RunMember, asked: &[Use], other: &RunMember) -> bool
         ensures { (s : State) → result ≡ is_awaited (with_run self.now s) asker.now asked.now other.now }
     {
         awaits(
@@ -373,7 +381,7 @@ impl Run {
     /// there is None, and nothing changes. It takes no memory.
     pub fn commit(&mut self, group: Tx, room: Vec<Progress>) -> Option<Vec<Progress>>
         requires empty { room.items ≡ [] }
-        requires room { MOST_MEMBERS ≤ vec_capacity room }
+        requires room { length self.old.prepared ≤ vec_capacity room }
         ensures ready { IsSome result → (s : State) → is_ready (with_run self.old s) group ≡ true }
         ensures entries { (s : State) → IfSome result (λ committed.
             map entry_of committed.items ≡ map entry_of (committing_members (with_run self.old s) group)) }

@@ -7,11 +7,11 @@ ghost use Rattle.ent_run.specs.Waits.{IsMadeToWait, is_awaited_over, makes_wait}
 use crate::asker::Asker;
 use ent_group::{Groups, Tx};
 use ent_lock::{Holder, LockTable, Mode};
-use ent_members::{Member, Use};
+use ent_members::{RunMember, Use};
 
 /// Whether a member of a group waits for another, with one of a number blocking it: for that one, where it is of the
 /// group, else for each of that one's group.
-fn is_awaited_over(groups: &Groups, group: Tx, other: &Member, holder: Tx) -> bool
+fn is_awaited_over(groups: &Groups, group: Tx, other: &RunMember, holder: Tx) -> bool
     ensures { result ≡ is_awaited_over groups.now group other.now holder }
 {
     match groups.group_of(holder) {
@@ -34,7 +34,7 @@ fn some_make_wait(
     asker: &Asker,
     groups: &Groups,
     group: Tx,
-    other: &Member,
+    other: &RunMember,
 ) -> bool
     ensures { result ≡ list_any (makes_wait mode asker.now groups.now group other.now) holders.now }
 {
@@ -53,7 +53,7 @@ pub(crate) fn awaits(
     asker: &Asker,
     groups: &Groups,
     group: Tx,
-    other: &Member,
+    other: &RunMember,
 ) -> bool
     ensures { IsTrue result ↔ IsMadeToWait locks.now groups.now asked.now (passes asker.now) group other.now }
 {

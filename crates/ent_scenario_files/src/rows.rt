@@ -6,8 +6,8 @@ use std::alloc::Global;
 use std::fs;
 use std::io::Read;
 
-/// Goes over the rows of a folder, of each of which `said` says something, and writes how many there are. Where
-/// something else is said of one than must be, it shows what is said, and is refused at the end.
+/// Has `said` answer each row of a folder, and writes how many rows there are. If an answer differs from the expected
+/// one, it shows the answer, and is refused at the end.
 pub fn run_rows<F: Fn(Global, &[u8]) -> Result<String>>(
     rt: &HostRuntime,
     folder: &str,

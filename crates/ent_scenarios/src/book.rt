@@ -15,15 +15,15 @@ use std::mem;
 
 /// A book that is written, the answers that the next entry takes, and the members that the next joint answer takes.
 #[derive(Drop)]
-pub(crate) struct Draft {
+pub(crate) struct BookDraft {
     book: Book<Sequence<NamedTable>>,
     answers: Sequence<Answer>,
     members: Sequence<Member>,
 }
 
-impl Draft {
+impl BookDraft {
     pub(crate) fn new(alloc: Global) -> Self {
-        Draft {
+        BookDraft {
             book: Book {
                 opening: Opening {
                     tables: Limited::new(alloc),
@@ -41,7 +41,12 @@ impl Draft {
     }
 }
 
-pub(crate) fn reply(alloc: Global, draft: &mut Draft, call: &[&str], out: &mut Out) -> Result<()> {
+pub(crate) fn reply(
+    alloc: Global,
+    draft: &mut BookDraft,
+    call: &[&str],
+    out: &mut Out,
+) -> Result<()> {
     match call {
         ["report", words @ ..] => put_report(alloc, &draft.book, words, out),
         ["report_2", words @ ..] => put_report_2(alloc, &draft.book, words, out),

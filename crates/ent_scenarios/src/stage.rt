@@ -1,6 +1,6 @@
 //! What the calls of a scenario speak of.
 use crate::atoms::Sides;
-use crate::book::Draft;
+use crate::book::BookDraft;
 use crate::groups::{reply_to_cycles, reply_to_groups, reply_to_members};
 use crate::lists::Lists;
 use crate::pool::PoolStage;
@@ -32,7 +32,7 @@ enum Stage {
     Members(Members),
     Cycles,
     Locks(LockTable<Name>),
-    Book(Draft),
+    Book(BookDraft),
     Streams(Streams),
     Pool(PoolStage),
     Atoms(Sides),
@@ -54,7 +54,7 @@ fn set_stage(alloc: Global, name: &str) -> Result<Stage> {
         "members" => Stage::Members(Members::new()),
         "cycles" => Stage::Cycles,
         "locks" => Stage::Locks(LockTable::new(alloc)),
-        "book" => Stage::Book(Draft::new(alloc)),
+        "book" => Stage::Book(BookDraft::new(alloc)),
         "streams" => Stage::Streams(Streams::new(alloc)?),
         "pool" => Stage::Pool(PoolStage::new(alloc)),
         "atoms" => Stage::Atoms(Sides::new(alloc)),

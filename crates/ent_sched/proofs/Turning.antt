@@ -1,12 +1,8 @@
 -- Turns one after the other.
-use Rattle.std.proofs.Common.{◌≡◌, ◌<◌, ◌+◌, ℕ, suc, arith, List, [], ◌∷◌, ◌++◌, length, take, get_or, sym, subst}
+use Rattle.std.proofs.Common.{◌≡◌, ◌<◌, ◌+◌, ℕ, suc, arith, List, length, take, get_or, sym, subst}
 use Rattle.std.specs.List.{AllByRecursion}
 use Rattle.std.proofs.Math.Seq.{take-suc}
-
-all_and_one : {A : Type 0} (P : A → Type 0) (xs : List A) (x : A) → AllByRecursion P xs → P x
-    → AllByRecursion P (xs ++ x ∷ [])
-all_and_one P [] x all one = (one, tt)
-all_and_one P (y ∷ ys) x all one = (all.0, all_and_one P ys x all.1 one)
+use Rattle.ent_lists.proofs.Lists.{all_behind}
 
 -- what holds of the first so many, and of the next one
 pub all_taken : {A : Type 0} (P : A → Type 0) (xs : List A) (i : ℕ) (d : A) → i < length xs
@@ -14,4 +10,4 @@ pub all_taken : {A : Type 0} (P : A → Type 0) (xs : List A) (i : ℕ) (d : A) 
 all_taken P xs i d within all one =
     let more : suc i ≡ i + 1 = omega arith in
     subst (λ n. AllByRecursion P (take n xs)) more
-    (subst (AllByRecursion P) (sym (take-suc xs i d within)) (all_and_one P (take i xs) (get_or xs i d) all one))
+    (subst (AllByRecursion P) (sym (take-suc xs i d within)) (all_behind P (take i xs) (get_or xs i d) all one))

@@ -11,8 +11,8 @@ use Rattle.ent_protocol.specs.Run.{Forms}
 use Rattle.ent_protocol.specs.State.{State}
 use Rattle.ent_protocol.specs.Step.{Step}
 use Rattle.ent_sched.specs.Tally.{Tally}
-use Rattle.ent_sched.specs.declared.watcher.Told.{Told}
-use Rattle.ent_sched.specs.declared.watcher.Told.TheVariants as told
+use Rattle.ent_sched.specs.declared.watcher.MadeEvent.{MadeEvent}
+use Rattle.ent_sched.specs.declared.watcher.MadeEvent.TheVariants as told
 
 -- an event and its reply
 abbrev pub Exchange : Type 0
@@ -31,7 +31,7 @@ abbrev pub exchanged : List Heard → List Exchange
 exchanged all = map (λ heard. heard.one) all
 
 -- What is told is this event. Of a result that was handed in it has a mark.
-abbrev pub TellsOf : {M : Type 0} → (M → Done → Type 0) → Told M → Event → Type 0
+abbrev pub TellsOf : {M : Type 0} → (M → Done → Type 0) → MadeEvent M → Event → Type 0
 TellsOf marks told.StartRun event = event ≡ events.StartRun
 TellsOf marks (told.Begin tx) event = event ≡ events.Begin tx
 TellsOf marks (told.Finish mark) event = (done : Done) × marks mark done × (event ≡ events.Finish done)

@@ -18,7 +18,7 @@ ghost use Rattle.ent_semantics.specs.Book.{IsLegal};
 ghost use Rattle.ent_protocol_laws.specs.Attempts.{AsksForRun};
 ghost use Rattle.ent_value.specs.declared.refusal.Refusal.TheVariants.{Fault};
 
-use crate::watcher::{Silent, Told, Watcher};
+use crate::watcher::{MadeEvent, Silent, Watcher};
 use ent_book::NamedTable;
 use ent_core::{BeginRefusal, Core, FreeMember, NotClosed, NotDone, Reply};
 use ent_eval::Done;
@@ -122,7 +122,7 @@ impl Counted {
     {
         let reply = self.core.recall();
         self.ticks.add();
-        watcher.tell(Told::Recall, &reply, &self.core);
+        watcher.tell(MadeEvent::Recall, &reply, &self.core);
         reply
     }
 
@@ -136,7 +136,7 @@ impl Counted {
     {
         let reply = self.core.start_run()?;
         self.ticks.add();
-        watcher.tell(Told::StartRun, &reply, &self.core);
+        watcher.tell(MadeEvent::StartRun, &reply, &self.core);
         Ok(reply)
     }
 
@@ -167,7 +167,7 @@ impl Counted {
     {
         self.ticks.add();
         if watcher.listens() {
-            watcher.tell(Told::Begin(tx), &refusal.reply(), &self.core);
+            watcher.tell(MadeEvent::Begin(tx), &refusal.reply(), &self.core);
         }
     }
 
@@ -186,7 +186,7 @@ impl Counted {
     {
         let reply = self.core.begin_free(found)?;
         self.ticks.add();
-        watcher.tell(Told::Begin(found.tx()), &reply, &self.core);
+        watcher.tell(MadeEvent::Begin(found.tx()), &reply, &self.core);
         Ok(reply)
     }
 
@@ -206,7 +206,7 @@ impl Counted {
         let mark = watcher.mark(&done);
         let reply = self.core.finish_at_once(done)?;
         self.ticks.add();
-        watcher.tell(Told::Finish(mark), &reply, &self.core);
+        watcher.tell(MadeEvent::Finish(mark), &reply, &self.core);
         Ok(reply)
     }
 
@@ -219,7 +219,7 @@ impl Counted {
     {
         let reply = self.core.pick()?;
         self.ticks.add();
-        watcher.tell(Told::Pick, &reply, &self.core);
+        watcher.tell(MadeEvent::Pick, &reply, &self.core);
         Ok(reply)
     }
 
@@ -240,7 +240,7 @@ impl Counted {
         let mark = watcher.mark(&done);
         let reply = self.core.join_answer_at_once(done)?;
         self.ticks.add();
-        watcher.tell(Told::JoinAnswer(mark), &reply, &self.core);
+        watcher.tell(MadeEvent::JoinAnswer(mark), &reply, &self.core);
         Ok(reply)
     }
 
@@ -251,7 +251,7 @@ impl Counted {
     {
         let reply = self.core.break_cycle();
         self.ticks.add();
-        watcher.tell(Told::BreakCycle, &reply, &self.core);
+        watcher.tell(MadeEvent::BreakCycle, &reply, &self.core);
         reply
     }
 
@@ -264,7 +264,7 @@ impl Counted {
     {
         let reply = self.core.end_run()?;
         self.ticks.add();
-        watcher.tell(Told::EndRun, &reply, &self.core);
+        watcher.tell(MadeEvent::EndRun, &reply, &self.core);
         Ok(reply)
     }
 

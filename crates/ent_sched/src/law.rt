@@ -14,8 +14,8 @@ ghost use Rattle.ent_protocol_laws.specs.Attempts.{AsksForRun};
 use ent_protocol_laws::steps_go_on;
 use ent_termination::{ended_runs_use_up_tries, events_keep_the_input, events_lead_on};
 
-/// Events and their ticks add up: none leaves all as it was, one that adds no script is one, behind some come others,
-/// and at most so many are at most more.
+/// How events and their ticks add up: no event leaves all as it was, an event that adds no script counts one, sequences
+/// add, and a bound may be raised.
 pub fn events_add_up<F>()
     ensures none { (forms : Forms F) (tally : Tally) → tally.ticks < 2 ^ 64 → TicksOn forms 0 tally tally }
     ensures one { (forms : Forms F) (event : Event) (reply : Reply F) (old new : Tally)

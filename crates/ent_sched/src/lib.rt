@@ -30,10 +30,10 @@ mod watcher;
 pub use all_runs::{run_all, run_all_counted, run_all_watched};
 pub use counted::{Counted, CountedBook};
 pub use ent_core::{
-    BeginRefusal, Core, NotClosed, NotDone, Obstacle, Reason, Reply, Standing, answers_copy,
-    resolved_forms_are_faithful, resolved_runs_are_legal,
+    BeginRefusal, Core, NotClosed, NotDone, Obstacle, PackedMembers, Reason, Reply, Standing,
+    answers_copy, resolved_forms_are_faithful, resolved_runs_are_legal,
 };
 pub use law::{events_add_up, events_use_up_tries};
 pub use one_round::round;
 pub use one_run::{run, run_watched};
-pub use watcher::{Silent, Told, Watcher};
+pub use watcher::{MadeEvent, Silent, Watcher};

@@ -12,7 +12,7 @@ use ent_group::Tx;
 /// An event that was made. A result that was handed in is gone then; what is left of it is the mark that the watcher
 /// made of it before.
 #[derive(Drop)]
-pub enum Told<M> {
+pub enum MadeEvent<M> {
     StartRun,
     Begin(Tx),
     Finish(M),
@@ -43,7 +43,7 @@ pub trait Watcher {
 
     /// An event was made, and replied to so, which left the core as it is now. It can't fail; a watcher that may has
     /// its own mark of that.
-    fn tell(&mut self, told: Told<Self::Mark>, reply: &Reply, core: &Core)
+    fn tell(&mut self, told: MadeEvent<Self::Mark>, reply: &Reply, core: &Core)
         ensures { (event : Event)
             → TellsOf marks told event
             → hears self.old (heard_of event (reply_seen reply.now) core.now) self.new };
@@ -66,7 +66,7 @@ impl Watcher for Silent {
 
     fn mark(&self, _done: &Done) {}
 
-    fn tell(&mut self, _told: Told<()>, _reply: &Reply, _core: &Core)
+    fn tell(&mut self, _told: MadeEvent<()>, _reply: &Reply, _core: &Core)
         ensures { self.new ≡ self.old }
     {}
 }

@@ -1,11 +1,12 @@
 -- What a test of equality wants in a column behind a front.
 use Rattle.std.proofs.Common.{◌≡◌, ℕ, zero, suc, ◌+◌, ◌<◌, List, [], ◌∷◌, ◌++◌, length, take, Some, refl, sym, ap}
 use Rattle.std.proofs.Common.{◌∙◌, arith, add-one, Bor, append_assoc}
+use Rattle.std.proofs.lemmas.List.{length-map}
 use Rattle.std.specs.Option.{option_copied}
 use Rattle.std.specs.Prelude.{IsTrue, IfSome, Option, None, slice_get, slice_index_or}
 use Rattle.std.specs.Cmp.{Equal-is}
 use Rattle.std.specs.Ordering.{eq_by_cmp}
-use Rattle.ent_value.specs.Value.{value_cmp, row_cmp, kinds_of}
+use Rattle.ent_value.specs.Value.{value_cmp, row_cmp, kind_of, kinds_of}
 use Rattle.ent_value.specs.Order.{exact_values, rows_equal}
 use Rattle.ent_value.specs.declared.value.Kind.{Kind}
 use Rattle.ent_value.specs.declared.value.Value.{Value}
@@ -58,16 +59,12 @@ one_more (first ∷ row) others zero value lt is = ap (λ v. v ∷ []) is
 one_more (first ∷ row) others (suc n) value lt is =
     ap (λ values. first ∷ values) (one_more row others n value (omega arith) is)
 
-count_of_kinds : (row : List Value) → length (kinds_of row) ≡ length row
-count_of_kinds [] = refl
-count_of_kinds (value ∷ row) = ap suc (count_of_kinds row)
-
 pub first_more : (values next row others : List Value) (kinds : List Kind) (n : ℕ) (value copy : Value)
     → kinds_of row ≡ kinds → n < length kinds → take n row ≡ values
     → slice_index_or (row ++ others) n no_value ≡ value → copy ≡ value → next ≡ values ++ copy ∷ []
     → take (n + 1) row ≡ next
 first_more values next row others kinds n value copy of lt so is same pushed =
-    let count : length row ≡ length kinds = sym (count_of_kinds row) ∙ ap length of in
+    let count : length row ≡ length kinds = sym (length-map row kind_of) ∙ ap length of in
     ap (λ m. take m row) (add-one n) ∙ one_more row others n value (omega arith) is
     ∙ (λ i. so i ++ sym same i ∷ []) ∙ sym pushed
 

@@ -3,6 +3,7 @@ use Rattle.std.proofs.Common.{◌≡◌, Bool, List, [], ◌∷◌, ◌++◌, ma
 use Rattle.std.specs.List.{AllByRecursion, filter, flat_map}
 use Rattle.ent_lists.specs.Sets as set
 use Rattle.ent_lists.specs.Elements.{all_joined, all_filtered}
+use Rattle.ent_lists.proofs.Lists.{all_mapped}
 use Rattle.ent_value.specs.Value.{kinds_of, kind_of}
 use Rattle.ent_value.specs.declared.value.Kind.{Kind}
 use Rattle.ent_value.specs.declared.value.Value.{Value}
@@ -10,11 +11,6 @@ use Rattle.ent_semantics.specs.Database.{Rows}
 use Rattle.ent_semantics.specs.Kinds.{KindedSource, RowsHaveKinds, SourcesHaveKinds, kinds_side_by_side, ShowsKinds}
 use Rattle.ent_semantics.specs.Selection.{combinations, selection}
 use Rattle.ent_semantics.proofs.EachRow.{to_ascending, each_listed}
-
-all_mapped : {A B : Type 0} (Q : A → Type 0) (P : B → Type 0) (f : A → B) (xs : List A)
-    → ((x : A) → Q x → P (f x)) → AllByRecursion Q xs → AllByRecursion P (map f xs)
-all_mapped Q P f [] h k = tt
-all_mapped Q P f (x ∷ xs) h k = (h x k.0, all_mapped Q P f xs h k.1)
 
 -- ---- combinations
 

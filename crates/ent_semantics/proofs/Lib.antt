@@ -5,3 +5,5 @@ pub mod NumberKinds
 pub mod Numbered
 pub mod ItemKinds
 pub mod Over
+pub mod Environments
+pub mod Replied

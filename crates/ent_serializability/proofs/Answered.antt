@@ -1,6 +1,6 @@
 -- What an answer makes of each member, and which statement each place of the joint answer is of.
 use Rattle.std.proofs.Common.{◌≡◌, ◌⊎◌, Bool, true, false, cond, List, [], ◌∷◌, refl, ap, ◌∙◌, inl, inr, Option}
-use Rattle.std.proofs.Common.{Some, None, ℕ, ◌==◌, sym}
+use Rattle.std.proofs.Common.{Some, None}
 use Rattle.ent_tree.specs.declared.script.Statement.{Statement as TreeStatement}
 use Rattle.ent_semantics.specs.declared.answer.Fact.{Fact}
 use Rattle.ent_semantics.specs.declared.book.Member.{Member as JointMember}
@@ -10,10 +10,10 @@ use Rattle.ent_semantics.specs.Form.{Tables, form_heads, form_posts, is_form_gro
 use Rattle.ent_coordination.specs.Choice.{AreGroundings, all_posts, all_heads}
 use Rattle.ent_coordination.specs.Pool.{Posted}
 use Rattle.ent_protocol.specs.Member.{is_tx, Asks, next_of}
-use Rattle.ent_protocol.specs.PoolEvents.{answered_by, answered_among, joint_members, joined_label}
+use Rattle.ent_protocol.specs.PoolEvents.{answered_by, answered_among, joint_members}
 use Rattle.ent_protocol.specs.State.{State, Submitted, Member}
-use Rattle.ent_lists.specs.Elements.{any_in, In, Pairs, of_all, to_all, in_either, in_first, in_second}
-use Rattle.ent_lists.specs.Elements.{number_itself, same_number, differ}
+use Rattle.ent_lists.specs.Elements.{In, Pairs, of_all, to_all, in_either, in_first, in_second}
+use Rattle.ent_lists.specs.Elements.{same_number, differ}
 use Rattle.ent_serializability.proofs.Joints.{OtherTx}
 
 -- ---- what an answer keeps of a member
@@ -176,14 +176,3 @@ pub record IsPresent (s : State) (query : Posted) : Type 0 where
   pub next : next_of s member ≡ Asks query.statement
   pub tx : query.tx ≡ member.tx
   pub place : query.place ≡ member.place
-
--- groups that are joined have one label
-pub label_same : (groups : List ℕ) (one other : ℕ) → In one groups → In other groups
-    → joined_label groups one ≡ joined_label groups other
-label_same [] one other at bt = absurd at
-label_same (first ∷ more) one other at bt = label_first one at ∙ sym (label_first other bt)
-  where
-    label_first : (group : ℕ) → In group (first ∷ more) → joined_label (first ∷ more) group ≡ first
-    label_first group here =
-        ap (λ b. cond b first group)
-        (any_in (λ joined. joined == group) (first ∷ more) group here (number_itself group))

@@ -2,6 +2,7 @@
 use Rattle.std.proofs.Common.{◌≡◌, ◌<◌, ℕ, suc, ◌+◌, Bool, true, false, cond, List, [], ◌∷◌, ◌++◌, map, length, refl}
 use Rattle.std.proofs.Common.{sym, ap, subst, ◌∙◌, inl, inr, arith, Option, Some, None, Result, Ok, Err, nat_le}
 use Rattle.std.proofs.Common.{append_assoc, append-nil}
+use Rattle.std.proofs.lemmas.Option.{same_Some}
 use Rattle.std.specs.Option.{option_map}
 use Rattle.ent_lists.specs.Sets as set
 use Rattle.ent_value.specs.declared.limits.TheConstants.{MOST_ROWS}
@@ -27,7 +28,6 @@ use Rattle.ent_semantics.specs.Term.{known_value, expression_value}
 use Rattle.ent_protocol.specs.Member.{environment_of}
 use Rattle.ent_serializability.specs.History.{History, Replays, AreSerial}
 use Rattle.ent_lists.specs.Elements.{In, in_either, map_joined}
-use Rattle.ent_serializability.proofs.Frame.{some_run}
 
 -- an entangled statement that was answered
 pub record Ask : Type 0 where
@@ -202,7 +202,7 @@ run_environment : (declared : List Create) (operations : List Operation) (databa
     (last : Run) → run declared operations database environment ≡ Some last
     → last.environment ≡ environment_after operations environment
 run_environment declared [] database environment last is =
-    ap (λ (r : Run). r.environment) (sym (some_run _ last is))
+    ap (λ (r : Run). r.environment) (sym (same_Some _ last is))
 run_environment declared (operation ∷ more) database environment last is =
     by (statement_meaning declared operation.statement operation.valuation database environment) refl is
     (λ d e r h. run_environment declared more d e r h)
@@ -214,7 +214,7 @@ run_environment declared (operation ∷ more) database environment last is =
         → last.environment ≡ environment_after more effect.environment
     rest effect None e g further = cc (g)
     rest effect (Some r) e g further =
-        ap (λ (x : Run). x.environment) (sym (some_run (answered_first effect.answer r) last g)) ∙ further r e
+        ap (λ (x : Run). x.environment) (sym (same_Some (answered_first effect.answer r) last g)) ∙ further r e
 
     by : (x : Result (Effect Database) Failure)
         → AreOne (statement_meaning declared operation.statement operation.valuation database environment) x

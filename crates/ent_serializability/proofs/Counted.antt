@@ -20,21 +20,12 @@ use Rattle.ent_protocol.specs.Run.{Forms}
 use Rattle.ent_protocol.specs.State.{State, Member, members}
 use Rattle.ent_protocol.specs.Step.{Step}
 use Rattle.ent_protocol_laws.specs.Standing.{GoesOn}
-use Rattle.ent_lists.specs.Elements.{In, in_second, number_itself}
+use Rattle.ent_lists.specs.Elements.{In, in_second, number_itself, shorter}
 use Rattle.ent_serializability.specs.Commits.{NoneStarts, StartsAtMostFirst, commits_in, is_commit}
 use Rattle.ent_serializability.proofs.Replied.{CommitsOf, Quiet, commits_or_keeps, commits_or_quiet}
 use Rattle.ent_serializability.proofs.Journal.{journal_kept}
 
 -- ---- lengths
-
-fewer : {X : Type 0} (p : X → Bool) (xs : List X) → length (filter p xs) ≤ length xs
-fewer p [] = omega arith
-fewer {X} p (x ∷ xs) = by (p x) (fewer p xs)
-  where
-    by : (b : Bool) → length (filter p xs) ≤ length xs
-        → length (cond b (x ∷ filter p xs) (filter p xs)) ≤ suc (length xs)
-    by true rest = omega (arith, rest)
-    by false rest = omega (arith, rest)
 
 one_fewer : {X : Type 0} (p : X → Bool) (x : X) (xs : List X) → In x xs → p x ≡ false
     → suc (length (filter p xs)) ≤ length xs
@@ -43,7 +34,7 @@ one_fewer p x (y ∷ ys) (inl same) out =
     let e : p y ≡ false = ap p (sym same) ∙ out in
     let short : length (filter p (y ∷ ys)) ≡ length (filter p ys) =
     ap (λ b. length (cond b (y ∷ filter p ys) (filter p ys))) e in
-    omega (arith, short, fewer p ys)
+    omega (arith, short, shorter p ys)
 one_fewer {X} p x (y ∷ ys) (inr at) out = by (p y) (one_fewer p x ys at out)
   where
     by : (b : Bool) → suc (length (filter p ys)) ≤ length ys
@@ -88,7 +79,7 @@ prepares s m at =
 leaves_fewer : (s : State) (gone : List Member) (cause : Cause) → NoMore s (taken_out gone cause s)
 leaves_fewer s gone cause =
     joined_few (taken_out gone cause s).prepared (taken_out gone cause s).active s.prepared s.active
-    (fewer _ s.prepared) (fewer _ s.active)
+    (shorter _ s.prepared) (shorter _ s.active)
 
 no_more : (s : State) → Quiet s (NoMore s)
 no_more s =

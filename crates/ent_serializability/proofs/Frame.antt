@@ -1,6 +1,8 @@
 -- What a member did reads its uses alone, changes its exclusive ones alone, and may change places with what others did.
 use Rattle.std.proofs.Common.{◌≡◌, ◌<◌, ℕ, suc, length, Bool, true, false, cond, not, ◌&&◌, ◌==◌, List, [], ◌∷◌, ◌++◌}
 use Rattle.std.proofs.Common.{refl, sym, ap, subst, ◌∙◌, inl, inr, Option, Some, None, Result, Ok, Err}
+use Rattle.std.proofs.lemmas.Option.{same_Some}
+use Rattle.std.proofs.lemmas.Bool.{and_parts}
 use Rattle.std.specs.List.{AllByRecursion, filter}
 use Rattle.std.specs.Option.{option_map, option_and_then}
 use Rattle.ent_lock.specs.Mode.{mode_rank}
@@ -95,15 +97,11 @@ Apart one other =
 pub apart_turned : (one other : Member) → Apart one other → Apart other one
 apart_turned one other apart table = ((apart table).1, (apart table).0)
 
-and_first : (a b : Bool) → (a && b) ≡ true → a ≡ true
-and_first true b e = refl
-and_first false b e = e
-
 pub owned_used : (uses : List Use) (table : ℕ) → is_owned uses table ≡ true → is_used uses table ≡ true
 owned_used [] table e = e
 owned_used (own ∷ uses) table e =
     elim (or_cases ((own.table == table) && (mode_rank own.mode == 1)) (is_owned uses table) e) [
-      | inl here ↦ or_first (own.table == table) (is_used uses table) (and_first _ _ here)
+      | inl here ↦ or_first (own.table == table) (is_used uses table) (and_parts _ _ here).0
       | inr there ↦ or_second (own.table == table) (is_used uses table) (owned_used uses table there)
     ]
 
@@ -114,9 +112,6 @@ unowned one other table apart used =
     not_so (is_owned other.uses table) (λ is. clash (is_used one.uses table) used ((apart table).1 is))
 
 -- ---- what isn't changed stays
-
-pub some_run : (first second : Run) → Some first ≡ Some second → first ≡ second
-some_run first second e = cc
 
 module _ (declared : List Create) (laws : Laws) where
   -- operations leave a table as it was, from wherever they run
@@ -130,7 +125,7 @@ module _ (declared : List Create) (laws : Laws) where
       → AllByRecursion (λ operation. changes operation.statement name ≡ false) operations
       → last.database name ≡ database name
   run_other [] database environment last name is none =
-      ap (λ (r : Run). r.database name) (sym (some_run _ last is))
+      ap (λ (r : Run). r.database name) (sym (same_Some _ last is))
   run_other (operation ∷ more) database environment last name is none =
       by (statement_meaning declared operation.statement operation.valuation database environment)
       (laws.changes declared operation.statement operation.valuation environment database) is
@@ -142,7 +137,7 @@ module _ (declared : List Create) (laws : Laws) where
           → last.database name ≡ effect.database name
       rest further effect None e g = cc
       rest further effect (Some r) e g =
-          ap (λ (r : Run). r.database name) (sym (some_run (answered_first effect.answer r) last g))
+          ap (λ (r : Run). r.database name) (sym (same_Some (answered_first effect.answer r) last g))
           ∙ further effect r e
 
       by : (x : Result (Effect Database) Failure) → KeepsOthers operation.statement database x

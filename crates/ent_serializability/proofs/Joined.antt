@@ -2,6 +2,7 @@
 use Rattle.std.proofs.Common.{◌≡◌, ◌⊎◌, ◌<◌, ℕ, suc, true, false, List, [], ◌∷◌, ◌++◌, map, length, refl, sym, ap}
 use Rattle.std.proofs.Common.{subst, ◌∙◌, inl, inr, arith, Some, append-nil, slice_get}
 use Rattle.std.specs.List.{AllByRecursion}
+use Rattle.ent_protocol_laws.proofs.JoinedLabels.{label_same}
 use Rattle.ent_tree.specs.declared.entangled.Entangled.{Entangled as TreeEntangled}
 use Rattle.ent_tree.specs.declared.script.Statement.{Statement as TreeStatement}
 use Rattle.ent_tree.specs.declared.script.Statement.TheVariants as tree
@@ -50,7 +51,7 @@ use Rattle.ent_serializability.proofs.Answered.{answered_keeps, operation_at, op
 use Rattle.ent_serializability.proofs.Answered.{joint_member}
 use Rattle.ent_serializability.proofs.Answered.{IsAnswered}
 use Rattle.ent_serializability.proofs.Answered.{IsLeft, answered_or_left, nonempty, from_joint, from_heads, joint_pairs}
-use Rattle.ent_serializability.proofs.Answered.{OtherPostedQuery, IsPresent, label_same}
+use Rattle.ent_serializability.proofs.Answered.{OtherPostedQuery, IsPresent}
 use Rattle.ent_serializability.proofs.Joints.{JointsRight, JointsStand, AsksOf, OtherTx, right_one, stand_joined}
 use Rattle.ent_serializability.proofs.Joints.{of_own}
 use Rattle.ent_serializability.proofs.Kept.{Kept, member_of, kept_mapped, history_of, active_at, one_member}

@@ -14,7 +14,8 @@ use Rattle.ent_protocol.specs.Play.{Plays}
 use Rattle.ent_protocol.specs.Run.{Forms}
 use Rattle.ent_protocol.specs.State.{State, Member}
 use Rattle.ent_protocol.specs.Step.{Step}
-use Rattle.ent_lists.specs.Elements.{In, clash, in_second, number_itself, to_filter}
+use Rattle.ent_lists.specs.Elements.{clash, in_second, number_itself, to_filter}
+use Rattle.ent_lists.proofs.Lists.{some_in}
 use Rattle.ent_serializability.specs.Commits.{GoesOnBy, committed_by, entries_in, is_commit, numbered_from}
 use Rattle.ent_serializability.proofs.Replied.{Quiet, commits_or_keeps}
 
@@ -65,10 +66,6 @@ none_by (Committed entries) is = cc
 none_by other is = refl
 
 -- ---- one event
-
-some_in : {X : Type 0} (x : X) (xs : List X) → In x xs → 1 ≤ length xs
-some_in x [] at = absurd at
-some_in x (y ∷ ys) at = omega arith
 
 numbers_length : (number : ℕ) (ms : List Member) → length (commit_numbers number ms) ≡ length ms
 numbers_length number [] = refl

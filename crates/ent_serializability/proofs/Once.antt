@@ -1,6 +1,7 @@
 -- Each entangled statement that was passed stands in exactly one joint answer, and nothing else does.
 use Rattle.std.proofs.Common.{◌≡◌, ◌<◌, ◌+◌, ℕ, zero, suc, ◌==◌, true, ◌&&◌, List, [], ◌∷◌, ◌++◌}
 use Rattle.std.proofs.Common.{map, length, take, refl, sym, ap, subst, ◌∙◌, inl, inr, arith, Some, slice_get}
+use Rattle.std.proofs.lemmas.Option.{same_Some}
 use Rattle.ent_tree.specs.declared.entangled.Entangled.{Entangled}
 use Rattle.ent_tree.specs.declared.script.Statement.{Statement}
 use Rattle.ent_tree.specs.declared.script.Statement.TheVariants as statements
@@ -25,6 +26,7 @@ use Rattle.ent_serializability.proofs.Kept.{Kept, entry_from, member_of, history
 use Rattle.ent_lists.specs.Elements.{In, Pairs, of_all, to_all, in_first, in_second, in_either, of_map, to_map, any_in}
 use Rattle.ent_lists.specs.Elements.{any_some, pairs_second, pairs_across}
 use Rattle.ent_lists.specs.Elements.{NotBoth, and_both, both_and, only_one, to_flat}
+use Rattle.ent_lists.proofs.Numbers.{plus_zero, plus_suc}
 use Rattle.ent_serializability.proofs.Reached.{reached_kept}
 
 -- ---- the joint answers of a statement
@@ -83,24 +85,15 @@ asks_now tx place statement entangled valuation environment more is =
       here = refl;
     })
 
-one_statement : (x y : Statement) → Some x ≡ Some y → x ≡ y
-one_statement x y e = cc
-
-later_place : (first k : ℕ) → suc first + k ≡ first + suc k
-later_place first k = omega arith
-
-this_place : (first : ℕ) → first ≡ first + 0
-this_place first = omega arith
-
 asks_there : (tx first : ℕ) (operations : List Operation) (environment : Environment) (k : ℕ) (entangled : Entangled)
     → slice_get (map (λ operation. operation.statement) operations) k ≡ Some (statements.Entangled entangled)
     → AsksAt tx (first + k) (asks_of tx first operations environment)
 asks_there tx first [] environment k entangled is = cc (is)
 asks_there tx first (operation ∷ more) environment zero entangled is =
-    subst (λ place. AsksAt tx place (asks_of tx first (operation ∷ more) environment)) (this_place first)
+    subst (λ place. AsksAt tx place (asks_of tx first (operation ∷ more) environment)) (plus_zero first)
     (asks_now tx first operation.statement entangled operation.valuation environment
     (asks_of tx (suc first) more (next_environment operation.statement operation.valuation environment))
-    (one_statement operation.statement (statements.Entangled entangled) is))
+    (same_Some operation.statement (statements.Entangled entangled) is))
 asks_there tx first (operation ∷ more) environment (suc k) entangled is =
     let next = next_environment operation.statement operation.valuation environment in
     let rest = asks_there tx (suc first) more next k entangled is in
@@ -110,7 +103,7 @@ asks_there tx first (operation ∷ more) environment (suc k) entangled is =
           (asks_of tx (suc first) more next)
           rest.ask rest.at;
       own = rest.own;
-      here = rest.here ∙ later_place first k;
+      here = rest.here ∙ plus_suc first k;
     }
 
 -- what is asked stands where it is asked
@@ -144,13 +137,13 @@ asked_at tx first (operation ∷ more) environment ask at =
     elim (in_either now (asks_of tx (suc first) more next) ask at) [
       | inl here ↦
           let two = asked_now tx first operation.statement operation.valuation environment ask here in
-          record { before = 0; place = two.0 ∙ this_place first; low = omega arith; there = ap Some two.1 }
+          record { before = 0; place = two.0 ∙ plus_zero first; low = omega arith; there = ap Some two.1 }
       | inr later ↦
           let rest = asked_at tx (suc first) more next ask later in
           let low = rest.low in
           record {
             before = suc rest.before;
-            place = rest.place ∙ later_place first rest.before;
+            place = rest.place ∙ plus_suc first rest.before;
             low = omega (arith, low);
             there = rest.there;
           }

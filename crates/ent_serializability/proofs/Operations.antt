@@ -1,7 +1,9 @@
 -- A member does one statement more: an ordinary one, or an entangled one that is answered.
-use Rattle.std.proofs.Common.{◌≡◌, ◌<◌, ℕ, suc, ◌==◌, Bool, true, false, ◌||◌, ◌&&◌, List, [], ◌∷◌, ◌++◌, map, length}
+use Rattle.std.proofs.Common.{◌≡◌, ◌<◌, ℕ, suc, ◌==◌, true, false, ◌||◌, ◌&&◌, List, [], ◌∷◌, ◌++◌, map, length, arith}
 use Rattle.std.proofs.Common.{take, refl, sym, ap, subst, ◌∙◌, Some, Result, Ok, slice_get}
+use Rattle.std.proofs.lemmas.Bool.{and_parts}
 use Rattle.std.specs.List.{AllByRecursion}
+use Rattle.std.proofs.lemmas.List.{length_push}
 use Rattle.ent_value.specs.declared.value.Value.{Value}
 use Rattle.ent_tree.specs.declared.declaration.Create.{Create}
 use Rattle.ent_tree.specs.declared.entangled.Entangled.{Entangled as TreeEntangled}
@@ -10,7 +12,7 @@ use Rattle.ent_tree.specs.declared.script.Statement.TheVariants as tree
 use Rattle.ent_semantics.specs.declared.answer.Answer.{Answer}
 use Rattle.ent_semantics.specs.declared.answer.Answer.TheVariants as answers
 use Rattle.ent_semantics.specs.declared.answer.Failure.{Failure}
-use Rattle.ent_semantics.specs.Database.{Name, Database, Environment, nothing_bound, with_value, with_values}
+use Rattle.ent_semantics.specs.Database.{Name, Database, Environment, nothing_bound, with_values}
 use Rattle.ent_semantics.specs.Effect.{Effect}
 use Rattle.ent_semantics.specs.Entangled.{Valuation, written_variables, heads, bound_values, is_grounding}
 use Rattle.ent_semantics.specs.Joint.{IsGrounded}
@@ -25,6 +27,7 @@ use Rattle.ent_semantics.specs.declared.entangled.Entangled.{Entangled}
 use Rattle.ent_semantics.specs.declared.operand.Known.{Known}
 use Rattle.ent_semantics.specs.declared.statement.Statement.{Statement}
 use Rattle.ent_semantics.specs.declared.statement.Statement.TheVariants as statements
+use Rattle.ent_semantics.proofs.Environments.{values_joined}
 use Rattle.ent_form_laws.specs.Tables.{database_of, AreWide, effect_of, Answers}
 use Rattle.ent_protocol.specs.Finish.{with_change, with_bound}
 use Rattle.ent_protocol.specs.Member.{Ordinary, statement_next, environment_of}
@@ -38,7 +41,7 @@ use Rattle.ent_lists.specs.Elements.{all_joined, same_number, number_itself}
 use Rattle.ent_serializability.proofs.Asks.{asks_at}
 use Rattle.ent_serializability.proofs.Frame.{Laws, held, WritesWithin, IsCovered}
 use Rattle.ent_serializability.proofs.Acts.{OwnsFirst, Makes}
-use Rattle.ent_serializability.proofs.Scripts.{replays_pushed, take_one, length_one}
+use Rattle.ent_serializability.proofs.Scripts.{replays_pushed, take_one}
 
 -- a member holds the uses that are asked for
 abbrev pub HoldsUses : Member → List Use → Type 0
@@ -58,11 +61,6 @@ owns_table (statements.Insert table values) member holds = (holds table).1 (owns
 owns_table (statements.Delete table tests) member holds = (holds table).1 (owns_one table)
 owns_table (statements.Update table image tests) member holds = (holds table).1 (owns_one table)
 owns_table (statements.Set variable expression) member holds = tt
-
-pub values_joined : (environment : Environment) (xs ys : List (Name × Value))
-    → with_values environment (xs ++ ys) ≡ with_values (with_values environment xs) ys
-values_joined environment [] ys = refl
-values_joined environment (x ∷ xs) ys = values_joined (with_value environment x.0 x.1) xs ys
 
 pub values_bound : (variables : List Name) (value : Value) (bound : List (Name × Value))
     → with_values nothing_bound (with_bound variables value bound)
@@ -172,8 +170,8 @@ follows_pushed all x member operation follows tx place oracled at =
       submitted = ap (numbered all) tx ∙ follows.submitted;
       beginning = map_pushed x.operations ∙ ap (λ more. more ++ operation.statement ∷ []) follows.beginning
           ∙ sym (take_one follows.own.script.statements (length x.operations) operation.statement at)
-          ∙ ap (λ n. take n follows.own.script.statements) (sym (length_one x.operations operation));
-      place = place ∙ ap suc (follows.place ∙ sym (length_one x.operations operation));
+          ∙ ap (λ n. take n follows.own.script.statements) (sym longer);
+      place = place ∙ ap suc (follows.place ∙ sym longer);
       oracled = all_joined IsOracled x.operations (operation ∷ []) follows.oracled (oracled, tt);
     }
   where
@@ -182,6 +180,9 @@ follows_pushed all x member operation follows tx place oracled at =
         ≡ map (λ (d : Operation). d.statement) operations ++ operation.statement ∷ []
     map_pushed [] = refl
     map_pushed (d ∷ ds) = ap (λ more. d.statement ∷ more) (map_pushed ds)
+
+    longer : length (x.operations ++ operation ∷ []) ≡ suc (length x.operations)
+    longer = omega (arith, length_push x.operations operation)
 
 -- ---- an ordinary statement
 
@@ -271,10 +272,6 @@ pair_of creates st (statements.Delete table tests) environment asked alike close
 pair_of creates st (statements.Update table image tests) environment asked alike closes = cc (closes)
 pair_of creates st (statements.Set variable expression) environment asked alike closes = cc (closes)
 
-both_true : (a b : Bool) → (a && b) ≡ true → a ≡ true
-both_true true b e = refl
-both_true false b e = e
-
 abbrev AreOne : {D : Type 0} → Result (Effect D) Failure → Result (Effect D) Failure → Type 0
 AreOne one other = one ≡ other
 
@@ -294,8 +291,8 @@ module _ (creates : List Create) (laws : Laws) (x : History) (asked : Entangled 
 
   pub asked_length : length values ≡ length (written_variables entangled)
   asked_length =
-      same_number (length values) (length form.variables) (both_true (length values == length form.variables) _
-      form_grounds) ∙ pair.variables
+      same_number (length values) (length form.variables)
+      (and_parts (length values == length form.variables) _ form_grounds).0 ∙ pair.variables
 
   pub asked_grounds : is_grounding creates (database_of creates tables) (environment_of x.member) entangled values
       ≡ true

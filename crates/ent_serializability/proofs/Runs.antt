@@ -1,6 +1,6 @@
 -- Scripts come, and runs start and end.
 use Rattle.std.proofs.Common.{Bool, ◌≡◌, ◌≤◌, ℕ, suc, ◌==◌, true, false, not, List, [], ◌∷◌, ◌++◌, map, length, take}
-use Rattle.std.proofs.Common.{drop, refl, sym, ap, subst, ◌∙◌, inl, inr, arith, Some, Ok, slice_get, take-append-drop}
+use Rattle.std.proofs.Common.{drop, refl, sym, ap, subst, ◌∙◌, inl, inr, arith, Some, Ok, take-append-drop}
 use Rattle.std.specs.List.{AllByRecursion, filter}
 use Rattle.std.proofs.lemmas.Simd.{map-map}
 use Rattle.ent_tree.specs.declared.declaration.Create.{Create}
@@ -29,6 +29,7 @@ use Rattle.ent_lists.specs.Elements.{In, Pairs, of_all, to_all, all_by, all_join
 use Rattle.ent_lists.specs.Elements.{in_second, in_either, of_map, nobody, pairs_joined, pairs_first, pairs_second}
 use Rattle.ent_lists.specs.Elements.{pairs_across, pairs_map, pairs_by, pairs_of, pairs_filtered, of_filter, to_filter}
 use Rattle.ent_lists.specs.Elements.{filter_empty, clash, same_number, number_itself}
+use Rattle.ent_lists.proofs.Lists.{got_last}
 use Rattle.ent_semantics.proofs.Numbered.{numbered_low}
 use Rattle.ent_serializability.proofs.Frame.{Laws, IsCovered}
 use Rattle.ent_serializability.proofs.Sound.{Fit, AreApart, Sound, IsOwner}
@@ -41,10 +42,6 @@ use Rattle.ent_serializability.proofs.Asks.{history_asks}
 use Rattle.ent_serializability.proofs.Joints.{JointsStand, stand_started}
 
 -- ---- a script comes
-
-numbered_last : {X : Type 0} (xs : List X) (x : X) → slice_get (xs ++ x ∷ []) (length xs) ≡ Some x
-numbered_last [] x = refl
-numbered_last (y ∷ ys) x = numbered_last ys x
 
 too_low : (n m : ℕ) → n ≤ m → n ≡ suc m → ⊥
 too_low n m low e = omega (arith, low, e)
@@ -167,7 +164,7 @@ module _ {F : Type 0} (forms : Forms F) (s : State) (kept : Kept forms s) (scrip
             (all_by (λ (d : Dormant). (o : Submitted) × (numbered s.submitted d.tx ≡ Some o))
             (λ (d : Dormant). (o : Submitted) × (numbered more d.tx ≡ Some o)) s.dormant
             (λ d r. (r.0, numbered_on s.submitted (own ∷ []) d.tx r.0 r.1)) kept.scripts)
-            ((own, numbered_last s.submitted own), tt);
+            ((own, got_last s.submitted own), tt);
         joined = kept.joined;
         committed_fated = kept.committed_fated;
         fated = kept.fated;

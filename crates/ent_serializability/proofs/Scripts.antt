@@ -1,6 +1,7 @@
 -- What stands next in a script, and a member that did one statement more.
-use Rattle.std.proofs.Common.{◌≡◌, ℕ, zero, suc, List, [], ◌∷◌, ◌++◌, length, take, refl, sym, ap}
-use Rattle.std.proofs.Common.{subst, ◌∙◌, arith, Option, Some, None, Result, Ok, Err, slice_get, length-append}
+use Rattle.std.proofs.Common.{◌≡◌, ℕ, zero, suc, List, [], ◌∷◌, ◌++◌, take, refl, sym, ap}
+use Rattle.std.proofs.Common.{subst, ◌∙◌, Option, Some, None, Result, Ok, Err, slice_get}
+use Rattle.std.proofs.lemmas.Option.{same_Some}
 use Rattle.std.specs.List.{AllByRecursion}
 use Rattle.std.specs.Option.{option_map, option_and_then}
 use Rattle.ent_value.specs.declared.value.Value.{Value}
@@ -27,7 +28,7 @@ use Rattle.ent_protocol.specs.State.{Submitted, Member}
 use Rattle.ent_serializability.specs.Faithful.{InTurn}
 use Rattle.ent_serializability.specs.History.{History, Replays}
 use Rattle.ent_lists.specs.Elements.{all_first, all_second, all_joined}
-use Rattle.ent_serializability.proofs.Frame.{Laws, some_run}
+use Rattle.ent_serializability.proofs.Frame.{Laws}
 
 -- ---- what stands next
 
@@ -149,9 +150,6 @@ take_whole [] (suc n) e = refl
 take_whole (x ∷ xs) zero e = cc
 take_whole (x ∷ xs) (suc n) e = ap (λ more. x ∷ more) (take_whole xs n e)
 
-pub length_one : {X : Type 0} (xs : List X) (x : X) → length (xs ++ x ∷ []) ≡ suc (length xs)
-length_one xs x = omega (arith, length-append xs (x ∷ []))
-
 -- ---- one operation more
 
 -- a run that ends at this database and environment
@@ -163,7 +161,7 @@ without_first : (answer : Answer) (x : Option Run) (database : Database) (enviro
     → Reaches (option_map (answered_first answer) x) database environment → Reaches x database environment
 without_first answer None database environment r = cc (r.1)
 without_first answer (Some run) database environment r =
-    let same = some_run (answered_first answer run) r.0 r.1 in (
+    let same = same_Some (answered_first answer run) r.0 r.1 in (
       run,
       refl,
       ap (λ (x : Run). x.database) same ∙ r.2,
@@ -186,7 +184,7 @@ module _ (declared : List Create) (tx : ℕ) (operation : Operation) (last : Dat
       → AreGrounded place operations database environment
       → AreGrounded place (operations ++ operation ∷ []) database environment
   read_views_pushed [] place database environment is h =
-      let same = some_run (record { database = database; environment = environment; answers = [] }) is.0 is.1 in
+      let same = same_Some (record { database = database; environment = environment; answers = [] }) is.0 is.1 in
       let at : database ≡ last = ap (λ (x : Run). x.database) same ∙ is.2 in
       let with : environment ≡ bound = ap (λ (x : Run). x.environment) same ∙ is.3 in
       all_joined (IsGrounded declared) (seen tx place operation database environment) _

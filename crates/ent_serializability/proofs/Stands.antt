@@ -1,7 +1,8 @@
 -- What stands next for a member, as a statement and its form; and how a member begins it.
-use Rattle.std.proofs.Common.{◌≡◌, ◌<◌, ℕ, zero, suc, Bool, true, false, not, List, [], ◌∷◌, ◌++◌, map, length, refl}
+use Rattle.std.proofs.Common.{◌≡◌, ◌<◌, ℕ, Bool, true, false, not, List, [], ◌∷◌, ◌++◌, map, length, refl}
 use Rattle.std.proofs.Common.{sym, ap, subst, ◌∙◌, inl, inr, Some, None, Ok, slice_get, append_assoc}
 use Rattle.std.specs.List.{AllByRecursion, filter}
+use Rattle.ent_protocol_laws.proofs.Asked.{same_asks}
 use Rattle.ent_value.specs.declared.value.Value.{Value}
 use Rattle.ent_tree.specs.declared.script.Statement.{Statement as TreeStatement}
 use Rattle.ent_semantics.specs.Serial.{numbered}
@@ -10,6 +11,7 @@ use Rattle.ent_semantics.specs.declared.entangled.Entangled.{Entangled}
 use Rattle.ent_semantics.specs.declared.operand.Known.{Known}
 use Rattle.ent_semantics.specs.declared.statement.Statement.{Statement}
 use Rattle.ent_semantics.specs.declared.statement.Statement.TheVariants as statements
+use Rattle.ent_semantics.proofs.Numbered.{numbered_in}
 use Rattle.ent_protocol.specs.Begin.{replaced, single_job, lending, posting}
 use Rattle.ent_protocol.specs.Commit.{preparing}
 use Rattle.ent_protocol.specs.Job.{Job, Work, One, Joint}
@@ -24,7 +26,7 @@ use Rattle.ent_serializability.specs.History.{History}
 use Rattle.ent_serializability.specs.SerialState.{Follows, IsWhole}
 use Rattle.ent_lists.specs.Elements.{In, of_all, all_joined, all_filtered, of_filter, to_filter, in_either}
 use Rattle.ent_lists.specs.Elements.{pairs_joined, any_none, clash, map_joined, map_filtered, same_filtered, Same}
-use Rattle.ent_lists.specs.Elements.{pairs_filtered, in_first, in_second, other_number, differ, same_number, got_in}
+use Rattle.ent_lists.specs.Elements.{pairs_filtered, in_first, in_second, other_number, differ, same_number}
 use Rattle.ent_serializability.proofs.Frame.{Laws}
 use Rattle.ent_serializability.proofs.Sound.{has_tx, first}
 use Rattle.ent_serializability.proofs.Outcomes.{seen_same, seen_room}
@@ -37,10 +39,6 @@ use Rattle.ent_serializability.proofs.Joints.{stand_moved, unchanged}
 use Rattle.ent_serializability.proofs.Kept.{Kept, one_history, in_all, OtherMember, PostedHolds, member_of, history_of}
 use Rattle.ent_serializability.proofs.Kept.{active_at}
 use Rattle.ent_serializability.proofs.Begun.{taking, jobs_begun, new_at, kept_begun}
-
-pub numbered_in : {X : Type 0} (xs : List X) (n : ℕ) (x : X) → numbered xs n ≡ Some x → In x xs
-numbered_in xs zero x e = cc (e)
-numbered_in xs (suc n) x e = got_in xs n x e
 
 -- a statement stands next: as it is written, as its form, and closed
 pub record IsNext {F : Type 0} (forms : Forms F) (s : State) (x : History) (follows : Follows s.submitted x)
@@ -96,9 +94,6 @@ module _ {F : Type 0} (forms : Forms F) (s : State) (kept : Kept forms s) (faith
         commits = r.1;
         oracled = follows.oracled;
       }
-
-same_asked : (one other : Entangled Value) → Asks one ≡ Asks other → one ≡ other
-same_asked one other e = cc
 
 module _ {F : Type 0} (forms : Forms F) (laws : Laws) (s : State) (kept : Kept forms s)
     (faithful : AreFaithful forms s.opening) where
@@ -158,7 +153,7 @@ module _ {F : Type 0} (forms : Forms F) (laws : Laws) (s : State) (kept : Kept f
         let new = taking x.member (entangled_uses asked) true in
         kept_begun forms laws s kept x at (entangled_uses asked) true free low unposted idle
         (λ is other e.
-        let same = same_asked asked other
+        let same = same_asks asked other
         (sym next ∙ sym (next_same (numbered s.submitted x.member.tx) new x.member refl refl) ∙ e) in
         subst (λ a. HoldsUses new (entangled_uses a)) same (holds_asked x.member (entangled_uses asked))) s.lent
         (jobs_begun forms laws s kept x at (entangled_uses asked) true free low unposted idle) kept.jobs_apart

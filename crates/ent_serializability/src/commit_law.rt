@@ -14,9 +14,9 @@ ghost use Rattle.ent_serializability.specs.Commits.{entries_in, is_commit};
 use ent_protocol_laws::{steps_go_on, transactions_stand_once};
 use ent_semantics::{closing_keeps_the_meaning, runs_go_on, statements_keep_to_their_uses};
 
-/// Each commit takes a member at least out of the run. So behind events none of which starts a run, the commits and the
-/// members that are left are together no more than the members before; and from a reached state events of which the
-/// first alone may start a run have no more commits than a run may have members.
+/// Each commit takes at least one member out of the run. Over events that start no run, the commits and the members
+/// that are left are together at most the members before. From a reached state, if only the first event may start a
+/// run, there are at most as many commits as a run may have members.
 pub fn commits_take_members<F>()
     ensures within { (forms : Forms F) (s last : State) (told : List (Event × Reply F))
         → Plays forms s told last

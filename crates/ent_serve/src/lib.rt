@@ -3,8 +3,9 @@
 //! A [`Manager`] keeps an [`ent_desk::Desk`] behind one lock, and gives out sessions, one for each client.
 //! [`Manager::submit`] takes a script, [`Manager::work`] makes the next step, whoever submitted the script,
 //! [`Manager::wait_for`] waits for the fate of a transaction, [`Manager::look`] shows the core, and [`Manager::close`]
-//! gives the book. A service that starts and ends its runs itself calls [`Manager::work_in_run`],
-//! [`Manager::start_run`] and [`Manager::end_run`]. [`serve`] does all of this for one input and a number of workers.
+//! gives the book; [`Manager::renew`] goes on where that book ends. A service that starts and ends its runs itself
+//! calls [`Manager::work_in_run`], [`Manager::start_run`] and [`Manager::end_run`]. [`serve`] does all of this for one
+//! input and a number of workers.
 //!
 //! Contracts promise that the core behind the lock is reached, and its book legal, each time a thread takes the lock;
 //! that sessions hold exactly what the manager was given and has committed; and that the book of [`serve`] is a
@@ -15,15 +16,17 @@ mod bell;
 mod fault;
 mod gate;
 mod manager;
+mod renewal;
 mod runs;
 mod waiting;
 mod workers;
 
 pub use ent_desk::{
-    Blanks, Both, CloseFault, Core, First, Naming, NotSubmitted, PlayFault, Receipt, Seats,
-    Session, SubmitFault, Ticket, core_over,
+    Blanks, Both, CloseFault, Core, First, Naming, NotSubmitted, PlayFault, Receipt, RenewFault,
+    Seats, Session, SubmitFault, Ticket, core_over,
 };
 pub use fault::ServeFault;
 pub use gate::{Gate, Open};
-pub use manager::{MOST_SESSIONS, Manager, NoBook, NotClosed, Turn};
+pub use manager::{Headway, MOST_SESSIONS, Manager, NoBook, UnclosedManager};
+pub use renewal::{NotRenewed, Renewed};
 pub use workers::{serve, serve_input};

@@ -37,7 +37,7 @@ pub const MOST_SESSIONS: usize = 64;
 
 /// How far a call of [`Manager::work`] came.
 #[derive(Clone, Copy, Debug, PartialEq, Eq)]
-pub enum Turn {
+pub enum Headway {
     /// Something moved.
     Moved,
     /// Another session's job must come first.
@@ -52,7 +52,7 @@ pub struct Manager<L: Naming, G: Gate> {
     pub(crate) alloc: Global,
     pub(crate) desk: Mutex<Desk<L>>,
     pub(crate) bell: Bell,
-    gate: G,
+    pub(crate) gate: G,
     pub sessions: usize,
     ghost some: { 0 < sessions },
     ghost scripts: { sessions ≡ L.Scripts.seats },
@@ -61,7 +61,7 @@ pub struct Manager<L: Naming, G: Gate> {
 
 /// A manager that isn't closed, with its sessions, as they were, and why.
 #[derive(Drop)]
-pub struct NotClosed<L: Naming, G: Gate> {
+pub struct UnclosedManager<L: Naming, G: Gate> {
     pub manager: Manager<L, G>,
     pub sessions: Vec<Session<L>>,
     pub refusal: Refusal<CloseFault>,
@@ -75,9 +75,9 @@ pub struct NoBook<L: Naming, G: Gate> {
 }
 
 impl<L: Naming, G: Gate> Manager<L, G> {
-    /// A manager over an input, whose scripts are submitted, in order, and so many sessions, at least one and at most
-    /// [`MOST_SESSIONS`], the first of which has their tickets; else the input's first fault of form. Each ledger of
-    /// `blank` has a part for each session. It waits for nobody.
+    /// Opens a manager over an input: its scripts are submitted in order, and the first of so many sessions, 1 to
+    /// [`MOST_SESSIONS`], has their tickets. Else the input's first fault of form. Each ledger of `blank` has a part
+    /// for each session. It waits for nobody.
     pub fn open(
         alloc: Global,
         blank: Blanks,
@@ -141,7 +141,7 @@ impl<L: Naming, G: Gate> Manager<L, G> {
     /// moves. A job that is lent is done with no lock held, behind the gate. The session keeps the receipts of all
     /// members of a group that its step committed. Where memory runs out, what was stopped is kept, and the next call
     /// goes on with it.
-    pub fn work<R: Wait>(&self, rt: &R, session: &mut Session<L>) -> Result<Turn, AllocError>
+    pub fn work<R: Wait>(&self, rt: &R, session: &mut Session<L>) -> Result<Headway, AllocError>
         ensures { GetsReceipts session.old session.new }
     {
         match session.take_stopped() {
@@ -156,7 +156,7 @@ impl<L: Naming, G: Gate> Manager<L, G> {
         rt: &R,
         session: &mut Session<L>,
         stopped: Stopped,
-    ) -> Result<Turn, AllocError>
+    ) -> Result<Headway, AllocError>
         ensures { session.new ≡ session.old }
     {
         match stopped {
@@ -166,7 +166,7 @@ impl<L: Naming, G: Gate> Manager<L, G> {
     }
 
     /// The first event that moves, and where it lends a job, that job.
-    fn advance<R: Wait>(&self, rt: &R, session: &mut Session<L>) -> Result<Turn, AllocError>
+    fn advance<R: Wait>(&self, rt: &R, session: &mut Session<L>) -> Result<Headway, AllocError>
         ensures { GetsReceipts session.old session.new }
     {
         let mut desk = self.desk.lock(rt);
@@ -192,7 +192,7 @@ impl<L: Naming, G: Gate> Manager<L, G> {
         session: &mut Session<L>,
         advance: Advance,
         left: bool,
-    ) -> Result<Turn, AllocError>
+    ) -> Result<Headway, AllocError>
         ensures { session.new ≡ session.old }
     {
         match advance {
@@ -202,10 +202,10 @@ impl<L: Naming, G: Gate> Manager<L, G> {
             }
             Advance::Moved => {
                 self.tell(rt, left);
-                Ok(Turn::Moved)
+                Ok(Headway::Moved)
             }
-            Advance::Idle => Ok(Turn::Idle),
-            Advance::Done => Ok(Turn::Done),
+            Advance::Idle => Ok(Headway::Idle),
+            Advance::Done => Ok(Headway::Done),
         }
     }
 
@@ -215,7 +215,7 @@ impl<L: Naming, G: Gate> Manager<L, G> {
         rt: &R,
         session: &mut Session<L>,
         job: Job,
-    ) -> Result<Turn, AllocError>
+    ) -> Result<Headway, AllocError>
         ensures { session.new ≡ session.old }
     {
         self.gate.before(&job);
@@ -234,7 +234,7 @@ impl<L: Naming, G: Gate> Manager<L, G> {
         rt: &R,
         session: &mut Session<L>,
         done: Done,
-    ) -> Result<Turn, AllocError>
+    ) -> Result<Headway, AllocError>
         ensures { session.new ≡ session.old }
     {
         let mut desk = self.desk.lock(rt);
@@ -244,7 +244,7 @@ impl<L: Naming, G: Gate> Manager<L, G> {
         match handed {
             Ok(()) => {
                 self.tell(rt, left);
-                Ok(Turn::Moved)
+                Ok(Headway::Moved)
             }
             Err(refused) => {
                 session.keep_stopped(Stopped::Done(refused.value));
@@ -293,7 +293,7 @@ impl<L: Naming, G: Gate> Manager<L, G> {
     pub fn close(
         self,
         mut sessions: Vec<Session<L>>,
-    ) -> Result<(Book<Sequence<NamedTable>>, Vec<Session<L>>), NotClosed<L, G>>
+    ) -> Result<(Book<Sequence<NamedTable>>, Vec<Session<L>>), UnclosedManager<L, G>>
         requires { (L.Scripts.seats ≡ L.Scripts.parts) × (L.Entries.seats ≡ L.Entries.parts) }
         ensures book { IfOk result (λ closed. IsClosedBook (book_seen closed.0) sessions.items) }
         ensures same { IfOk result (λ closed. closed.1.items ≡ sessions.items) }
@@ -311,7 +311,7 @@ impl<L: Naming, G: Gate> Manager<L, G> {
             sessions: count,
         } = self;
         if sessions.len() != count {
-            return Err(NotClosed {
+            return Err(UnclosedManager {
                 manager: Manager {
                     alloc,
                     desk,
@@ -325,7 +325,7 @@ impl<L: Naming, G: Gate> Manager<L, G> {
         }
         match desk.into_inner().close(sessions.as_mut_slice()) {
             Ok(book) => Ok((book, sessions)),
-            Err(refused) => Err(NotClosed {
+            Err(refused) => Err(UnclosedManager {
                 manager: Manager {
                     alloc,
                     desk: Mutex::new(refused.desk),

@@ -2,24 +2,28 @@
 ghost use Rattle.ent_desk.specs.Seen.{GetsReceipts};
 
 use crate::gate::Gate;
-use crate::manager::{Manager, Turn};
+use crate::manager::{Headway, Manager};
 use ent_desk::{Advance, Naming, Session};
 use std::alloc::AllocError;
 use std::sync::Wait;
 
 /// What an advance that lends no job tells.
-fn turn_of(advance: &Advance) -> Turn {
+fn headway_of(advance: &Advance) -> Headway {
     match advance {
-        Advance::Lent(_) | Advance::Moved => Turn::Moved,
-        Advance::Idle => Turn::Idle,
-        Advance::Done => Turn::Done,
+        Advance::Lent(_) | Advance::Moved => Headway::Moved,
+        Advance::Idle => Headway::Idle,
+        Advance::Done => Headway::Done,
     }
 }
 
 impl<L: Naming, G: Gate> Manager<L, G> {
     /// As [`Manager::work`], but it starts no run, and ends none. Idle: nothing in the run moves, or no run is on; and
     /// not every transaction has its fate.
-    pub fn work_in_run<R: Wait>(&self, rt: &R, session: &mut Session<L>) -> Result<Turn, AllocError>
+    pub fn work_in_run<R: Wait>(
+        &self,
+        rt: &R,
+        session: &mut Session<L>,
+    ) -> Result<Headway, AllocError>
         ensures { GetsReceipts session.old session.new }
     {
         match session.take_stopped() {
@@ -29,7 +33,11 @@ impl<L: Naming, G: Gate> Manager<L, G> {
     }
 
     /// The first event of the run that moves, and where it lends a job, that job.
-    fn advance_in_run<R: Wait>(&self, rt: &R, session: &mut Session<L>) -> Result<Turn, AllocError>
+    fn advance_in_run<R: Wait>(
+        &self,
+        rt: &R,
+        session: &mut Session<L>,
+    ) -> Result<Headway, AllocError>
         ensures { GetsReceipts session.old session.new }
     {
         let mut desk = self.desk.lock(rt);
@@ -41,7 +49,7 @@ impl<L: Naming, G: Gate> Manager<L, G> {
 
     /// Starts a run of those who wait for one: Moved. Idle: a run is on. Done: nobody waits for one, and every
     /// transaction has its fate. At both, and where memory runs out, nothing changes.
-    pub fn start_run<R: Wait>(&self, rt: &R) -> Result<Turn, AllocError> {
+    pub fn start_run<R: Wait>(&self, rt: &R) -> Result<Headway, AllocError> {
         let mut desk = self.desk.lock(rt);
         let started = desk.start_run()?;
         let left = desk.take_left();
@@ -52,7 +60,7 @@ impl<L: Naming, G: Gate> Manager<L, G> {
     /// Ends the run; each member that is left waits for another one, or gives up: Moved. Idle: something in the run
     /// must come first, or no run is on, and somebody waits for one. Done: every transaction has its fate. At both, and
     /// where memory runs out, nothing changes.
-    pub fn end_run<R: Wait>(&self, rt: &R) -> Result<Turn, AllocError> {
+    pub fn end_run<R: Wait>(&self, rt: &R) -> Result<Headway, AllocError> {
         let mut desk = self.desk.lock(rt);
         let ended = desk.end_run()?;
         let left = desk.take_left();
@@ -68,11 +76,11 @@ impl<L: Naming, G: Gate> Manager<L, G> {
     }
 
     /// Rings where something moved, and tells it.
-    fn told<R: Wait>(&self, rt: &R, advance: &Advance, left: bool) -> Turn {
-        let turn = turn_of(advance);
-        if turn == Turn::Moved {
+    fn told<R: Wait>(&self, rt: &R, advance: &Advance, left: bool) -> Headway {
+        let headway = headway_of(advance);
+        if headway == Headway::Moved {
             self.tell(rt, left);
         }
-        turn
+        headway
     }
 }

@@ -4,7 +4,7 @@ ghost use Rattle.ent_desk.specs.Seen.{GetsReceipts};
 ghost use Rattle.ent_serve.specs.Fates.{AgreesWith};
 
 use crate::gate::Gate;
-use crate::manager::{Manager, Turn};
+use crate::manager::{Headway, Manager};
 use ent_desk::{Naming, Session};
 use ent_group::Tx;
 use ent_semantics::Fate;
@@ -26,14 +26,14 @@ impl<L: Naming, G: Gate> Manager<L, G> {
         rt: &R,
         session: &mut Session<L>,
         tx: Tx,
-    ) -> Result<Result<Fate, Turn>, AllocError>
+    ) -> Result<Result<Fate, Headway>, AllocError>
         ensures session { GetsReceipts session.old session.new }
         ensures fate { IfOk result (λ told. IfOk told (AgreesWith session.new.receipts tx)) }
     {
-        let turn = self.work_in_run(rt, session)?;
+        let headway = self.work_in_run(rt, session)?;
         match self.fate(rt, session, tx) {
             Some(fate) => Ok(Ok(fate)),
-            None => Ok(Err(turn)),
+            None => Ok(Err(headway)),
         }
     }
 
@@ -50,8 +50,8 @@ impl<L: Naming, G: Gate> Manager<L, G> {
             let seen = self.bell.count(rt);
             match self.work_towards(rt, session, tx) {
                 Ok(Ok(fate)) => return fate,
-                Ok(Err(Turn::Moved)) => {}
-                Ok(Err(Turn::Idle | Turn::Done)) => self.bell.wait_as_client(rt, seen),
+                Ok(Err(Headway::Moved)) => {}
+                Ok(Err(Headway::Idle | Headway::Done)) => self.bell.wait_as_client(rt, seen),
                 Err(AllocError) => thread::yield_now(),
             }
         }
@@ -76,9 +76,9 @@ impl<L: Naming, G: Gate> Manager<L, G> {
             let seen = self.bell.count(rt);
             match self.work_towards(rt, session, tx) {
                 Ok(Ok(fate)) => return Some(fate),
-                Ok(Err(turn)) => {
+                Ok(Err(headway)) => {
                     let left = left_of(rt, start, most)?;
-                    if turn != Turn::Moved {
+                    if headway != Headway::Moved {
                         self.bell.wait_as_client_at_most(rt, seen, left);
                     }
                 }

@@ -13,7 +13,7 @@ ghost use Rattle.ent_value.specs.declared.refusal.Refusal.TheVariants.{Fault};
 
 use crate::fault::ServeFault;
 use crate::gate::Gate;
-use crate::manager::{Manager, NotClosed, Turn};
+use crate::manager::{Headway, Manager, UnclosedManager};
 use ent_book::NamedTable;
 use ent_desk::{Blanks, Both, CloseFault, Naming, Seats, Session};
 use ent_form::FormFault;
@@ -43,12 +43,12 @@ fn work_on<L: Naming, G: Gate, R: Wait>(
             break;
         }
         match manager.work(rt, &mut session) {
-            Ok(Turn::Moved) => {}
-            Ok(Turn::Done) => {
+            Ok(Headway::Moved) => {}
+            Ok(Headway::Done) => {
                 manager.bell.ring_out(rt);
                 break;
             }
-            Ok(Turn::Idle) => manager.bell.wait_past(rt, seen),
+            Ok(Headway::Idle) => manager.bell.wait_past(rt, seen),
             Err(AllocError) => {
                 stopped.store(true, Ordering::SeqCst);
                 manager.bell.ring_out(rt);
@@ -82,7 +82,7 @@ fn work_first<L: Naming, G: Gate, R: Wait>(
     rt: &R,
     manager: &Manager<L, G>,
     sessions: &mut Vec<Session<L>>,
-) -> Result<Turn, AllocError>
+) -> Result<Headway, AllocError>
     requires { 0 < vec_len sessions.old }
     ensures seats { SameSeats sessions.old.items sessions.new.items }
     ensures len { vec_len sessions.new ≡ vec_len sessions.old }
@@ -106,7 +106,7 @@ fn close_or_work<L: Naming, G: Gate, R: Wait>(
     rt: &R,
     manager: Manager<L, G>,
     sessions: Vec<Session<L>>,
-) -> Result<Result<Book<Sequence<NamedTable>>, NotClosed<L, G>>, Refusal<ServeFault>>
+) -> Result<Result<Book<Sequence<NamedTable>>, UnclosedManager<L, G>>, Refusal<ServeFault>>
     requires ledgers { (L.Scripts.seats ≡ L.Scripts.parts) × (L.Entries.seats ≡ L.Entries.parts) }
     requires nonempty { 0 < vec_len sessions }
     ensures book { IfOk result (λ tried. IfOk tried (λ book. IsClosedBook (book_seen book) sessions.items)) }
@@ -143,7 +143,7 @@ fn close_all<L: Naming, G: Gate, R: Wait>(
         match close_or_work(rt, manager, sessions)? {
             Ok(book) => return Ok(book),
             Err(left) => {
-                NotClosed {
+                UnclosedManager {
                     manager,
                     sessions,
                     ..

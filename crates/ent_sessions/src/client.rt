@@ -1,5 +1,5 @@
 //! One client of the service.
-use ent_serve::{Manager, Naming, NotSubmitted, Open, Session, Turn};
+use ent_serve::{Headway, Manager, Naming, NotSubmitted, Open, Session};
 use ent_tree::Script;
 use ent_value::Refusal;
 use std::alloc::AllocError;
@@ -85,9 +85,9 @@ fn work_out<L: Naming, R: Wait>(
 ) {
     for _ in rt.forever() {
         match manager.work(rt, session) {
-            Ok(Turn::Done) => break,
-            Ok(Turn::Idle) => thread::yield_now(),
-            Ok(Turn::Moved) => {}
+            Ok(Headway::Done) => break,
+            Ok(Headway::Idle) => thread::yield_now(),
+            Ok(Headway::Moved) => {}
             Err(AllocError) => tally.count(),
         }
     }

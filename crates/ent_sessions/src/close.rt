@@ -2,7 +2,7 @@
 ghost use Rattle.std.specs.Prelude.{◌≡◌};
 
 use anyhow::{Context, Result, bail, ensure};
-use ent_serve::{Blanks, Both, CloseFault, Manager, Naming, NotClosed, Open, Seats, Turn};
+use ent_serve::{Blanks, Both, CloseFault, Headway, Manager, Naming, Open, Seats, UnclosedManager};
 use ent_sql::parse_input;
 use ent_value::Refusal;
 use std::alloc::Global;
@@ -15,9 +15,9 @@ BEGIN TRANSACTION; INSERT INTO T VALUES (7); SELECT * FROM T; COMMIT;";
 
 /// The refusal of a close that must be refused, with what came back.
 fn refused<L: Naming>(
-    closed: Result<(), NotClosed<L, Open>>,
+    closed: Result<(), UnclosedManager<L, Open>>,
     fault: CloseFault,
-) -> Result<NotClosed<L, Open>> {
+) -> Result<UnclosedManager<L, Open>> {
     match closed {
         Ok(()) => bail!("it was closed"),
         Err(not_closed) => {
@@ -43,7 +43,7 @@ fn check_of<L: Naming, R: Wait>(rt: &R, alloc: Global, blank: Blanks) -> Result<
     let (manager, mut sessions) = opened.context("the manager can't be opened")?;
     let second = sessions.pop().context("there is no second session")?;
     let not_closed = refused(manager.close(sessions).map(|_| ()), CloseFault::SessionsOut)?;
-    let NotClosed {
+    let UnclosedManager {
         manager,
         mut sessions,
         ..
@@ -54,7 +54,7 @@ fn check_of<L: Naming, R: Wait>(rt: &R, alloc: Global, blank: Blanks) -> Result<
         ensure!(manager.fate(rt, session, 1).is_none(), "there is a fate");
     }
     let not_closed = refused(manager.close(sessions).map(|_| ()), CloseFault::NotDone)?;
-    let NotClosed {
+    let UnclosedManager {
         manager,
         mut sessions,
         ..
@@ -63,7 +63,7 @@ fn check_of<L: Naming, R: Wait>(rt: &R, alloc: Global, blank: Blanks) -> Result<
         .first_mut()
         .context("the sessions didn't come back")?;
     for _ in 0..100 {
-        if manager.work(rt, first)? == Turn::Done {
+        if manager.work(rt, first)? == Headway::Done {
             break;
         }
     }

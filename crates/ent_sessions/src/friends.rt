@@ -3,7 +3,7 @@ ghost use Rattle.std.specs.Prelude.{◌≡◌};
 
 use anyhow::{Context, Result, ensure};
 use ent_semantics::Fate;
-use ent_serve::{Blanks, Both, Core, Manager, Naming, Open, Seats, Session, Turn};
+use ent_serve::{Blanks, Both, Core, Headway, Manager, Naming, Open, Seats, Session};
 use ent_sql::parse_input;
 use ent_tree::Script;
 use std::alloc::Global;
@@ -50,7 +50,7 @@ enum Part<L: Naming> {
 
 /// A session, and what its client was told.
 #[derive(Drop)]
-struct Told<L: Naming> {
+struct ToldClient<L: Naming> {
     session: Session<L>,
     fate: Option<Fate>,
 }
@@ -73,7 +73,7 @@ fn come<L: Naming, R: Wait + Clock>(
     number: usize,
     script: Script,
     mut session: Session<L>,
-) -> Told<L> {
+) -> ToldClient<L> {
     await_others(rt, manager, number);
     thread::sleep(rt, Duration::from_millis(20));
     let fate = match manager.submit(rt, &mut session, script) {
@@ -81,7 +81,7 @@ fn come<L: Naming, R: Wait + Clock>(
         Ok(tx) => manager.wait_for_at_most(rt, &mut session, tx, Duration::from_secs(LONG)),
         Err(_) => None,
     };
-    Told { session, fate }
+    ToldClient { session, fate }
 }
 
 /// Ends a run and starts the next one, each millisecond, until three scripts came and every transaction has its fate.
@@ -89,17 +89,17 @@ fn pace<L: Naming, R: Wait + Clock>(
     rt: &R,
     manager: &Manager<L, Open>,
     session: Session<L>,
-) -> Told<L> {
+) -> ToldClient<L> {
     for _ in rt.forever() {
         let came = |core: &Core| -> bool { core.submitted() >= 3 };
         let ended = manager.end_run(rt);
         let started = manager.start_run(rt);
-        if ended.is_ok() && started == Ok(Turn::Done) && manager.look(rt, came) {
+        if ended.is_ok() && started == Ok(Headway::Done) && manager.look(rt, came) {
             break;
         }
         thread::sleep(rt, Duration::from_millis(1));
     }
-    Told {
+    ToldClient {
         session,
         fate: None,
     }
@@ -132,7 +132,7 @@ fn has_committed(fate: Option<Fate>) -> bool {
 }
 
 /// The friends have committed, and the third one has given up.
-fn are_told<L: Naming>(told: &[Told<L>]) -> Result<()> {
+fn are_told<L: Naming>(told: &[ToldClient<L>]) -> Result<()> {
     ensure!(told.len() == 4, "not all came back");
     ensure!(
         has_committed(told[0].fate),
@@ -166,7 +166,7 @@ fn check_of<L: Naming + Send + Sync, R: Threads + Wait + Clock + Sync>(
     let (manager, sessions) = opened.context("the manager can't be opened")?;
     let parts = seated(alloc, sessions)?;
     let shared = &manager;
-    let act = |part: Part<L>| -> Told<L> {
+    let act = |part: Part<L>| -> ToldClient<L> {
         match part {
             Part::Client(number, script, session) => come(rt, shared, number, script, session),
             Part::Pace(session) => pace(rt, shared, session),

@@ -4,7 +4,7 @@ ghost use Rattle.std.specs.Prelude.{◌≡◌};
 use crate::gates::{Flags, Hold};
 use anyhow::{Context, Result, ensure};
 use ent_semantics::Fate;
-use ent_serve::{Blanks, Both, Core, Manager, Naming, Seats, Session, Turn};
+use ent_serve::{Blanks, Both, Core, Headway, Manager, Naming, Seats, Session};
 use ent_sql::parse_input;
 use std::alloc::{AllocError, Global};
 use std::marker::Brand;
@@ -27,9 +27,9 @@ fn work_on<'a, L: Naming, R: Wait>(
 ) -> Session<L> {
     for _ in rt.forever() {
         match manager.work(rt, &mut session) {
-            Ok(Turn::Done) => break,
-            Ok(Turn::Idle) | Err(AllocError) => thread::yield_now(),
-            Ok(Turn::Moved) => {}
+            Ok(Headway::Done) => break,
+            Ok(Headway::Idle) | Err(AllocError) => thread::yield_now(),
+            Ok(Headway::Moved) => {}
         }
         if session.fate(2).is_some() {
             flags.release();

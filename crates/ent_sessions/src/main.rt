@@ -31,6 +31,7 @@ mod meet;
 mod paced;
 mod recall;
 mod refused;
+mod renewal;
 
 use crate::again::Again;
 use crate::load::SESSIONS;
@@ -64,15 +65,16 @@ impl Wanted {
     }
 }
 
-/// Sessions that gates hold, managers that are closed too early, a job that is called back, and runs that a service
-/// starts and ends.
+/// Sessions that gates hold, managers that are closed too early, a job that is called back, runs that a service starts
+/// and ends, and a manager that goes on where its book ends.
 fn held<R: Threads + Wait + Clock + Sync>(rt: &R, alloc: Global) -> Result<()> {
     hold::check(rt, alloc).context("one is held until the other has committed")?;
     meet::check(rt, alloc).context("two workers meet at the gate")?;
     close::check(rt, alloc).context("closed too early")?;
     recall::check(rt, alloc).context("a job is called back")?;
     paced::check(rt, alloc).context("runs that are started and ended")?;
-    friends::check(rt, alloc).context("friends who come at different times")
+    friends::check(rt, alloc).context("friends who come at different times")?;
+    renewal::check(rt, alloc).context("a second epoch")
 }
 
 /// Two friends through one session: both reports, which are the same.
@@ -100,6 +102,7 @@ fn main(rt: HostRuntime) -> Result<()> {
         println!(rt; "a job is called back: ok")?;
         println!(rt; "runs that are started and ended: ok")?;
         println!(rt; "friends who come at different times: ok")?;
+        println!(rt; "a second epoch: ok")?;
     }
     if part != Wanted::Load {
         let mut again = Again::default();

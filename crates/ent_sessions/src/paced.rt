@@ -3,7 +3,7 @@ ghost use Rattle.std.specs.Prelude.{◌≡◌};
 
 use anyhow::{Context, Result, bail, ensure};
 use ent_semantics::Fate;
-use ent_serve::{Blanks, Both, CloseFault, Manager, Naming, NoBook, Open, Seats, Session, Turn};
+use ent_serve::{Blanks, Both, CloseFault, Headway, Manager, Naming, NoBook, Open, Seats, Session};
 use ent_sql::parse_input;
 use ent_value::Refusal;
 use std::alloc::Global;
@@ -26,9 +26,9 @@ fn work_until_still<L: Naming, R: Wait>(
 ) -> Result<()> {
     for _ in 0..MOST_TURNS {
         match manager.work_in_run(rt, session)? {
-            Turn::Moved => {}
-            Turn::Idle => return Ok(()),
-            Turn::Done => bail!("the run ended by itself"),
+            Headway::Moved => {}
+            Headway::Idle => return Ok(()),
+            Headway::Done => bail!("the run ended by itself"),
         }
     }
     bail!("there are too many turns")
@@ -59,19 +59,19 @@ fn run_one<L: Naming, R: Wait>(
     manager: &Manager<L, Open>,
     session: &mut Session<L>,
 ) -> Result<()> {
-    let turn = manager.work_in_run(rt, session)?;
-    ensure!(turn == Turn::Idle, "a run started by itself");
+    let headway = manager.work_in_run(rt, session)?;
+    ensure!(headway == Headway::Idle, "a run started by itself");
     ensure!(
-        manager.end_run(rt)? == Turn::Idle,
+        manager.end_run(rt)? == Headway::Idle,
         "a run ended before any was on"
     );
-    ensure!(manager.start_run(rt)? == Turn::Moved, "no run started");
+    ensure!(manager.start_run(rt)? == Headway::Moved, "no run started");
     ensure!(
-        manager.start_run(rt)? == Turn::Idle,
+        manager.start_run(rt)? == Headway::Idle,
         "a run started while one is on"
     );
     ensure!(
-        manager.end_run(rt)? == Turn::Idle,
+        manager.end_run(rt)? == Headway::Idle,
         "the run ended before its members"
     );
     let fate = manager.fate(rt, session, 1);
@@ -80,9 +80,9 @@ fn run_one<L: Naming, R: Wait>(
     let committed = Fate::Committed { number: 1, runs: 1 };
     let fate = manager.fate(rt, session, 1);
     ensure!(fate == Some(committed), "another fate");
-    ensure!(manager.end_run(rt)? == Turn::Moved, "the run didn't end");
+    ensure!(manager.end_run(rt)? == Headway::Moved, "the run didn't end");
     ensure!(
-        manager.end_run(rt)? == Turn::Done,
+        manager.end_run(rt)? == Headway::Done,
         "something is left to end"
     );
     Ok(())
@@ -123,12 +123,12 @@ fn check_of<L: Naming, R: Wait>(rt: &R, alloc: Global, blank: Blanks) -> Result<
     let (manager, mut sessions) = opened.context("the manager can't be opened")?;
     let mut second = sessions.pop().context("there is no second session")?;
     let first = sessions.first_mut().context("there is no first session")?;
-    let turn = manager.work_in_run(rt, first)?;
-    ensure!(turn == Turn::Done, "something is left");
+    let headway = manager.work_in_run(rt, first)?;
+    ensure!(headway == Headway::Done, "something is left");
     submit(rt, alloc, &manager, first)?;
     run_one(rt, &manager, first)?;
     ensure!(
-        manager.start_run(rt)? == Turn::Done,
+        manager.start_run(rt)? == Headway::Done,
         "somebody waits for a run"
     );
     ask_for_receipts(rt, &manager)?;
@@ -139,7 +139,7 @@ fn check_of<L: Naming, R: Wait>(rt: &R, alloc: Global, blank: Blanks) -> Result<
         Err(refused) => left_over(refused)?,
     };
     for _ in 0..MOST_TURNS {
-        if manager.work(rt, &mut second)? == Turn::Done {
+        if manager.work(rt, &mut second)? == Headway::Done {
             break;
         }
     }

@@ -4,7 +4,7 @@ ghost use Rattle.std.specs.Prelude.{◌≡◌};
 use crate::gates::{Flags, HoldFirst};
 use anyhow::{Context, Result, ensure};
 use ent_semantics::Fate;
-use ent_serve::{Blanks, Both, Manager, Naming, Seats, Session, Turn};
+use ent_serve::{Blanks, Both, Headway, Manager, Naming, Seats, Session};
 use ent_sql::parse_input;
 use std::alloc::{AllocError, Global};
 use std::marker::Brand;
@@ -26,15 +26,15 @@ fn work_on<'a, L: Naming, R: Wait>(
 ) -> Session<L> {
     for _ in rt.forever() {
         match manager.work(rt, &mut session) {
-            Ok(Turn::Done) => break,
-            Ok(Turn::Idle) => {
+            Ok(Headway::Done) => break,
+            Ok(Headway::Idle) => {
                 if flags.came() {
                     manager.recall(rt);
                 }
                 thread::yield_now();
             }
             Err(AllocError) => thread::yield_now(),
-            Ok(Turn::Moved) => {}
+            Ok(Headway::Moved) => {}
         }
     }
     flags.release();

@@ -5,7 +5,7 @@ use crate::again::{Again, Call};
 use anyhow::{Context, Result, bail, ensure};
 use ent_book::{NamedTable, write_report};
 use ent_semantics::Book;
-use ent_serve::{Blanks, Both, Manager, Naming, NotClosed, Open, Seats, Session, Turn};
+use ent_serve::{Blanks, Both, Headway, Manager, Naming, Open, Seats, Session, UnclosedManager};
 use ent_sql::parse_input;
 use ent_tree::{Input, Script};
 use ent_value::{Limited, Refusal, Sequence, Watched};
@@ -89,9 +89,9 @@ fn work_out<L: Naming, R: Wait>(
 ) -> Result<()> {
     for _ in 0..MOST_TURNS {
         match manager.work(rt, session) {
-            Ok(Turn::Done) => return Ok(()),
-            Ok(Turn::Moved) => {}
-            Ok(Turn::Idle) => bail!("nobody else has a job"),
+            Ok(Headway::Done) => return Ok(()),
+            Ok(Headway::Moved) => {}
+            Ok(Headway::Idle) => bail!("nobody else has a job"),
             Err(AllocError) => again.note(Call::Work)?,
         }
     }
@@ -109,7 +109,7 @@ fn close<L: Naming>(
         Ok((book, _)) => return Ok(book),
         Err(refused) => refused,
     };
-    let NotClosed {
+    let UnclosedManager {
         manager,
         sessions,
         refusal,

@@ -23,21 +23,20 @@ use ent_value::{Limited, Refusal};
 use std::alloc::Global;
 
 /// The number 1, and where it stands.
-pub(crate) fn one_at(
-    end: usize,
-    tokens: Tokens<'_>,
-) -> Result<(usize, Tokens<'_>), Refusal<GrammarFault>>
-    ensures { Gives (λ x. x) result (reads (token one) end tokens.entry) }
+pub(crate) fn one_at(end: usize, tokens: &mut Tokens<'_>) -> Result<usize, Refusal<GrammarFault>>
+    ensures { Gives (λ x. (x, tokens.new)) result (reads (token one) end tokens.old) }
 {
     match tokens.front() {
         Some(TokenView::Number(number)) => {
             if number.value() == 1 {
-                Ok((tokens.start(end), tokens.tail()))
+                let place = tokens.start(end);
+                tokens.advance();
+                Ok(place)
             } else {
-                Err(unexpected(end, &tokens))
+                Err(unexpected(end, tokens))
             }
         }
-        _ => Err(unexpected(end, &tokens)),
+        _ => Err(unexpected(end, tokens)),
     }
 }
 
@@ -46,12 +45,12 @@ pub(crate) fn one_at(
 fn relation_at(
     alloc: Global,
     end: usize,
-    tokens: Tokens<'_>,
-) -> Result<(Identifier, Tokens<'_>), Refusal<GrammarFault>>
-    ensures { Gives (λ x. x) result (reads relation end tokens.entry) }
+    tokens: &mut Tokens<'_>,
+) -> Result<Identifier, Refusal<GrammarFault>>
+    ensures { Gives (λ x. (x, tokens.new)) result (reads relation end tokens.old) }
 {
-    let (_, rest) = word_at(Keyword::Answer, end, tokens)?;
-    name_at(alloc, end, rest)
+    word_at(Keyword::Answer, end, tokens)?;
+    name_at(alloc, end, tokens)
 }
 
 impl Item for Identifier {
@@ -67,8 +66,8 @@ impl Item for Identifier {
     fn read(
         alloc: Global,
         end: usize,
-        tokens: Tokens<'_>,
-    ) -> Result<(Self, Tokens<'_>), Refusal<GrammarFault>> {
+        tokens: &mut Tokens<'_>,
+    ) -> Result<Self, Refusal<GrammarFault>> {
         relation_at(alloc, end, tokens)
     }
 }
@@ -79,19 +78,19 @@ fn membership_at(
     alloc: Global,
     tuple: Tuple,
     end: usize,
-    tokens: Tokens<'_>,
-) -> Result<(Condition, Tokens<'_>), Refusal<GrammarFault>>
-    ensures { Gives (λ x. x) result (reads (membership tuple) end tokens.entry) }
+    tokens: &mut Tokens<'_>,
+) -> Result<Condition, Refusal<GrammarFault>>
+    ensures { Gives (λ x. (x, tokens.new)) result (reads (membership tuple) end tokens.old) }
 {
-    let (_, rest) = word_at(Keyword::In, end, tokens)?;
-    if begins_with_sign(Symbol::Open, &rest) {
-        let (_, rest) = sign_at(Symbol::Open, end, rest)?;
-        let (select, rest) = select_at(alloc, end, rest)?;
-        let (_, rest) = sign_at(Symbol::Close, end, rest)?;
-        Ok((Condition::InSelect(tuple, select), rest))
+    word_at(Keyword::In, end, tokens)?;
+    if begins_with_sign(Symbol::Open, tokens) {
+        sign_at(Symbol::Open, end, tokens)?;
+        let select = select_at(alloc, end, tokens)?;
+        sign_at(Symbol::Close, end, tokens)?;
+        Ok(Condition::InSelect(tuple, select))
     } else {
-        let (relation, rest) = relation_at(alloc, end, rest)?;
-        Ok((Condition::InAnswer(tuple, relation), rest))
+        let relation = relation_at(alloc, end, tokens)?;
+        Ok(Condition::InAnswer(tuple, relation))
     }
 }
 
@@ -99,14 +98,14 @@ fn membership_at(
 fn bracketed_at(
     alloc: Global,
     end: usize,
-    tokens: Tokens<'_>,
-) -> Result<(Condition, Tokens<'_>), Refusal<GrammarFault>>
-    ensures { Gives (λ x. x) result (reads bracketed end tokens.entry) }
+    tokens: &mut Tokens<'_>,
+) -> Result<Condition, Refusal<GrammarFault>>
+    ensures { Gives (λ x. (x, tokens.new)) result (reads bracketed end tokens.old) }
 {
-    let (place, rest) = sign_at(Symbol::Open, end, tokens)?;
-    let (terms, rest) = listed(alloc, Divider::Comma, end, rest)?;
-    let (_, rest) = sign_at(Symbol::Close, end, rest)?;
-    membership_at(alloc, Tuple { place, terms }, end, rest)
+    let place = sign_at(Symbol::Open, end, tokens)?;
+    let terms = listed(alloc, Divider::Comma, end, tokens)?;
+    sign_at(Symbol::Close, end, tokens)?;
+    membership_at(alloc, Tuple { place, terms }, end, tokens)
 }
 
 /// A test that begins with this term.
@@ -115,21 +114,18 @@ fn comparison_behind(
     alloc: Global,
     first: Term,
     end: usize,
-    tokens: Tokens<'_>,
-) -> Result<(Condition, Tokens<'_>), Refusal<GrammarFault>>
-    ensures { Gives (λ x. x) result (reads (comparison_behind first) end tokens.entry) }
+    tokens: &mut Tokens<'_>,
+) -> Result<Condition, Refusal<GrammarFault>>
+    ensures { Gives (λ x. (x, tokens.new)) result (reads (comparison_behind first) end tokens.old) }
 {
-    let (comparison, rest) = comparison_at(end, tokens)?;
-    let (right, rest) = Term::read(alloc, end, rest)?;
+    let comparison = comparison_at(end, tokens)?;
+    let right = Term::read(alloc, end, tokens)?;
     let left = first;
-    Ok((
-        Condition::Test(Test {
-            left,
-            comparison,
-            right,
-        }),
-        rest,
-    ))
+    Ok(Condition::Test(Test {
+        left,
+        comparison,
+        right,
+    }))
 }
 
 /// A tuple without parentheses that begins with this term, and what it is to be a row of.
@@ -138,15 +134,15 @@ fn tuple_behind(
     alloc: Global,
     first: Term,
     end: usize,
-    tokens: Tokens<'_>,
-) -> Result<(Condition, Tokens<'_>), Refusal<GrammarFault>>
-    ensures { Gives (λ x. x) result (reads (tuple_behind first) end tokens.entry) }
+    tokens: &mut Tokens<'_>,
+) -> Result<Condition, Refusal<GrammarFault>>
+    ensures { Gives (λ x. (x, tokens.new)) result (reads (tuple_behind first) end tokens.old) }
 {
     let place = first.place();
     let mut before = Limited::new(alloc);
     before.push(first)?;
-    let (terms, rest) = appended(alloc, Divider::Comma, before, end, tokens)?;
-    membership_at(alloc, Tuple { place, terms }, end, rest)
+    let terms = appended(alloc, Divider::Comma, before, end, tokens)?;
+    membership_at(alloc, Tuple { place, terms }, end, tokens)
 }
 
 /// A condition that begins with this term.
@@ -155,11 +151,11 @@ fn condition_behind(
     alloc: Global,
     first: Term,
     end: usize,
-    tokens: Tokens<'_>,
-) -> Result<(Condition, Tokens<'_>), Refusal<GrammarFault>>
-    ensures { Gives (λ x. x) result (reads (condition_behind first) end tokens.entry) }
+    tokens: &mut Tokens<'_>,
+) -> Result<Condition, Refusal<GrammarFault>>
+    ensures { Gives (λ x. (x, tokens.new)) result (reads (condition_behind first) end tokens.old) }
 {
-    if begins_with_comparison(&tokens) {
+    if begins_with_comparison(tokens) {
         comparison_behind(alloc, first, end, tokens)
     } else {
         tuple_behind(alloc, first, end, tokens)
@@ -170,15 +166,15 @@ fn condition_behind(
 fn condition_at(
     alloc: Global,
     end: usize,
-    tokens: Tokens<'_>,
-) -> Result<(Condition, Tokens<'_>), Refusal<GrammarFault>>
-    ensures { Gives (λ x. x) result (reads condition end tokens.entry) }
+    tokens: &mut Tokens<'_>,
+) -> Result<Condition, Refusal<GrammarFault>>
+    ensures { Gives (λ x. (x, tokens.new)) result (reads condition end tokens.old) }
 {
-    if begins_with_sign(Symbol::Open, &tokens) {
+    if begins_with_sign(Symbol::Open, tokens) {
         bracketed_at(alloc, end, tokens)
     } else {
-        let (first, rest) = Term::read(alloc, end, tokens)?;
-        condition_behind(alloc, first, end, rest)
+        let first = Term::read(alloc, end, tokens)?;
+        condition_behind(alloc, first, end, tokens)
     }
 }
 
@@ -195,8 +191,8 @@ impl Item for Condition {
     fn read(
         alloc: Global,
         end: usize,
-        tokens: Tokens<'_>,
-    ) -> Result<(Self, Tokens<'_>), Refusal<GrammarFault>> {
+        tokens: &mut Tokens<'_>,
+    ) -> Result<Self, Refusal<GrammarFault>> {
         condition_at(alloc, end, tokens)
     }
 }
@@ -205,15 +201,15 @@ impl Item for Condition {
 pub(crate) fn conditions_at(
     alloc: Global,
     end: usize,
-    tokens: Tokens<'_>,
-) -> Result<(Limited<Condition, MOST_PARTS>, Tokens<'_>), Refusal<GrammarFault>>
-    ensures { Gives (λ x. x) result (reads entangled_conditions end tokens.entry) }
+    tokens: &mut Tokens<'_>,
+) -> Result<Limited<Condition, MOST_PARTS>, Refusal<GrammarFault>>
+    ensures { Gives (λ x. (x, tokens.new)) result (reads entangled_conditions end tokens.old) }
 {
-    if begins_with_word(Keyword::Where, &tokens) {
-        let (_, rest) = word_at(Keyword::Where, end, tokens)?;
-        listed(alloc, Divider::And, end, rest)
+    if begins_with_word(Keyword::Where, tokens) {
+        word_at(Keyword::Where, end, tokens)?;
+        listed(alloc, Divider::And, end, tokens)
     } else {
-        Ok((Limited::new(alloc), tokens))
+        Ok(Limited::new(alloc))
     }
 }
 

@@ -58,7 +58,7 @@ fn term_of(operand: Operand) -> Term
     }
 }
 
-/// The operands read as items that bind nothing.
+/// The operands read as items that bind nothing, with room for one more.
 fn unbound_items(
     alloc: Global,
     operands: Vec<Operand>,
@@ -67,7 +67,7 @@ fn unbound_items(
     ensures value { IfOk result (λ items. items ≡ map unbound operands.items) }
     ensures memory { IfErr result (λ refusal. refusal ≡ Memory) }
 {
-    let mut items = Limited::new(alloc);
+    let mut items = Limited::with_capacity(alloc, operands.len() + 1)?;
     for operand in operands {
         let term = term_of(operand);
         let binds = None;
@@ -100,16 +100,16 @@ fn items_of(
 fn binding_at(
     alloc: Global,
     end: usize,
-    tokens: Tokens<'_>,
-) -> Result<(Option<Identifier>, Tokens<'_>), Refusal<GrammarFault>>
-    ensures { Gives (λ x. x) result (reads binding end tokens.entry) }
+    tokens: &mut Tokens<'_>,
+) -> Result<Option<Identifier>, Refusal<GrammarFault>>
+    ensures { Gives (λ x. (x, tokens.new)) result (reads binding end tokens.old) }
 {
-    if begins_with_word(Keyword::As, &tokens) {
-        let (_, rest) = word_at(Keyword::As, end, tokens)?;
-        let (variable, rest) = variable_at(alloc, end, rest)?;
-        Ok((Some(variable), rest))
+    if begins_with_word(Keyword::As, tokens) {
+        word_at(Keyword::As, end, tokens)?;
+        let variable = variable_at(alloc, end, tokens)?;
+        Ok(Some(variable))
     } else {
-        Ok((None, tokens))
+        Ok(None)
     }
 }
 
@@ -117,13 +117,13 @@ fn binding_at(
 fn entangled_item_at(
     alloc: Global,
     end: usize,
-    tokens: Tokens<'_>,
-) -> Result<(EntangledItem, Tokens<'_>), Refusal<GrammarFault>>
-    ensures { Gives (λ x. x) result (reads entangled_item end tokens.entry) }
+    tokens: &mut Tokens<'_>,
+) -> Result<EntangledItem, Refusal<GrammarFault>>
+    ensures { Gives (λ x. (x, tokens.new)) result (reads entangled_item end tokens.old) }
 {
-    let (term, rest) = Term::read(alloc, end, tokens)?;
-    let (binds, rest) = binding_at(alloc, end, rest)?;
-    Ok((EntangledItem { term, binds }, rest))
+    let term = Term::read(alloc, end, tokens)?;
+    let binds = binding_at(alloc, end, tokens)?;
+    Ok(EntangledItem { term, binds })
 }
 
 impl Item for EntangledItem {
@@ -139,8 +139,8 @@ impl Item for EntangledItem {
     fn read(
         alloc: Global,
         end: usize,
-        tokens: Tokens<'_>,
-    ) -> Result<(Self, Tokens<'_>), Refusal<GrammarFault>> {
+        tokens: &mut Tokens<'_>,
+    ) -> Result<Self, Refusal<GrammarFault>> {
         entangled_item_at(alloc, end, tokens)
     }
 }
@@ -151,18 +151,18 @@ fn entangled_items_at(
     alloc: Global,
     operands: Limited<Operand, MOST_PARTS>,
     end: usize,
-    tokens: Tokens<'_>,
-) -> Result<(Limited<EntangledItem, MOST_PARTS>, Tokens<'_>), Refusal<GrammarFault>>
-    ensures { Gives (λ x. x) result (reads (entangled_items operands) end tokens.entry) }
+    tokens: &mut Tokens<'_>,
+) -> Result<Limited<EntangledItem, MOST_PARTS>, Refusal<GrammarFault>>
+    ensures { Gives (λ x. (x, tokens.new)) result (reads (entangled_items operands) end tokens.old) }
 {
-    if begins_with_word(Keyword::As, &tokens) {
-        let (_, rest) = word_at(Keyword::As, end, tokens)?;
-        let (variable, rest) = variable_at(alloc, end, rest)?;
+    if begins_with_word(Keyword::As, tokens) {
+        word_at(Keyword::As, end, tokens)?;
+        let variable = variable_at(alloc, end, tokens)?;
         let items = items_of(alloc, operands, Some(variable))?;
-        appended(alloc, Divider::Comma, items, end, rest)
+        appended(alloc, Divider::Comma, items, end, tokens)
     } else {
         let items = items_of(alloc, operands, None)?;
-        Ok((items, tokens))
+        Ok(items)
     }
 }
 
@@ -172,24 +172,21 @@ fn entangled_behind(
     alloc: Global,
     items: Limited<EntangledItem, MOST_PARTS>,
     end: usize,
-    tokens: Tokens<'_>,
-) -> Result<(Entangled, Tokens<'_>), Refusal<GrammarFault>>
-    ensures { Gives (λ x. x) result (reads (entangled_behind items) end tokens.entry) }
+    tokens: &mut Tokens<'_>,
+) -> Result<Entangled, Refusal<GrammarFault>>
+    ensures { Gives (λ x. (x, tokens.new)) result (reads (entangled_behind items) end tokens.old) }
 {
-    let (place, rest) = word_at(Keyword::Into, end, tokens)?;
-    let (relations, rest) = listed(alloc, Divider::Comma, end, rest)?;
-    let (conditions, rest) = conditions_at(alloc, end, rest)?;
-    let (_, rest) = word_at(Keyword::Choose, end, rest)?;
-    let (_, rest) = one_at(end, rest)?;
-    Ok((
-        Entangled {
-            items,
-            place,
-            relations,
-            conditions,
-        },
-        rest,
-    ))
+    let place = word_at(Keyword::Into, end, tokens)?;
+    let relations = listed(alloc, Divider::Comma, end, tokens)?;
+    let conditions = conditions_at(alloc, end, tokens)?;
+    word_at(Keyword::Choose, end, tokens)?;
+    one_at(end, tokens)?;
+    Ok(Entangled {
+        items,
+        place,
+        relations,
+        conditions,
+    })
 }
 
 #[tactic(auto, unfolding(crate::specs::Entangling::ordinary))]
@@ -197,12 +194,12 @@ fn ordinary_at(
     alloc: Global,
     operands: Limited<Operand, MOST_PARTS>,
     end: usize,
-    tokens: Tokens<'_>,
-) -> Result<(Statement, Tokens<'_>), Refusal<GrammarFault>>
-    ensures { Gives (λ x. x) result (reads (ordinary operands) end tokens.entry) }
+    tokens: &mut Tokens<'_>,
+) -> Result<Statement, Refusal<GrammarFault>>
+    ensures { Gives (λ x. (x, tokens.new)) result (reads (ordinary operands) end tokens.old) }
 {
-    let (select, rest) = select_behind(alloc, Items::Listed(operands), end, tokens)?;
-    Ok((Statement::Select(select), rest))
+    let select = select_behind(alloc, Items::Listed(operands), end, tokens)?;
+    Ok(Statement::Select(select))
 }
 
 #[tactic(auto, unfolding(crate::specs::Entangling::entangled))]
@@ -210,13 +207,13 @@ fn entangled_at(
     alloc: Global,
     operands: Limited<Operand, MOST_PARTS>,
     end: usize,
-    tokens: Tokens<'_>,
-) -> Result<(Statement, Tokens<'_>), Refusal<GrammarFault>>
-    ensures { Gives (λ x. x) result (reads (entangled operands) end tokens.entry) }
+    tokens: &mut Tokens<'_>,
+) -> Result<Statement, Refusal<GrammarFault>>
+    ensures { Gives (λ x. (x, tokens.new)) result (reads (entangled operands) end tokens.old) }
 {
-    let (items, rest) = entangled_items_at(alloc, operands, end, tokens)?;
-    let (entangled, rest) = entangled_behind(alloc, items, end, rest)?;
-    Ok((Statement::Entangled(entangled), rest))
+    let items = entangled_items_at(alloc, operands, end, tokens)?;
+    let entangled = entangled_behind(alloc, items, end, tokens)?;
+    Ok(Statement::Entangled(entangled))
 }
 
 /// A SELECT of either kind: what stands behind its list decides.
@@ -224,26 +221,26 @@ fn entangled_at(
 pub(crate) fn query_at(
     alloc: Global,
     end: usize,
-    tokens: Tokens<'_>,
-) -> Result<(Statement, Tokens<'_>), Refusal<GrammarFault>>
-    ensures { Gives (λ x. x) result (reads query end tokens.entry) }
+    tokens: &mut Tokens<'_>,
+) -> Result<Statement, Refusal<GrammarFault>>
+    ensures { Gives (λ x. (x, tokens.new)) result (reads query end tokens.old) }
 {
-    let (_, rest) = word_at(Keyword::Select, end, tokens)?;
-    if begins_with_sign(Symbol::Star, &rest) {
-        let (_, rest) = sign_at(Symbol::Star, end, rest)?;
-        let (select, rest) = select_behind(alloc, Items::All, end, rest)?;
-        Ok((Statement::Select(select), rest))
+    word_at(Keyword::Select, end, tokens)?;
+    if begins_with_sign(Symbol::Star, tokens) {
+        sign_at(Symbol::Star, end, tokens)?;
+        let select = select_behind(alloc, Items::All, end, tokens)?;
+        Ok(Statement::Select(select))
     } else {
-        let (operands, rest) = listed(alloc, Divider::Comma, end, rest)?;
+        let operands = listed(alloc, Divider::Comma, end, tokens)?;
         let may_be_entangled = are_terms(operands.as_slice());
         if may_be_entangled {
-            if begins_with_word(Keyword::From, &rest) {
-                ordinary_at(alloc, operands, end, rest)
+            if begins_with_word(Keyword::From, tokens) {
+                ordinary_at(alloc, operands, end, tokens)
             } else {
-                entangled_at(alloc, operands, end, rest)
+                entangled_at(alloc, operands, end, tokens)
             }
         } else {
-            ordinary_at(alloc, operands, end, rest)
+            ordinary_at(alloc, operands, end, tokens)
         }
     }
 }

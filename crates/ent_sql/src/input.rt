@@ -25,7 +25,7 @@ use std::alloc::Global;
 pub fn parse_input(alloc: Global, text: &str) -> Result<Input, Refusal<SqlFault>>
     ensures { Gives (λ input. input) result (reading text.now) }
 {
-    match input_of(alloc, text.len(), Tokens::of(text)) {
+    match input_of(alloc, text.len(), &mut Tokens::of(text)) {
         Ok(input) => Ok(input),
         Err(Refusal::Memory) => Err(Refusal::Memory),
         Err(Refusal::Fault(fault)) => {
@@ -53,14 +53,18 @@ pub fn reading_is_exact()
 
 /// What the tokens of a text of this length say.
 #[tactic(auto, unfolding(crate::specs::Scripts::input))]
-fn input_of(alloc: Global, end: usize, tokens: Tokens<'_>) -> Result<Input, Refusal<GrammarFault>>
-    ensures { Gives (λ input. input) result (reads_all input end tokens.entry) }
+fn input_of(
+    alloc: Global,
+    end: usize,
+    tokens: &mut Tokens<'_>,
+) -> Result<Input, Refusal<GrammarFault>>
+    ensures { Gives (λ input. input) result (reads_all input end tokens.old) }
 {
-    let (tables, rest) = many(alloc, end, tokens)?;
-    let (rows, rest) = many(alloc, end, rest)?;
-    let (scripts, rest) = many(alloc, end, rest)?;
-    if rest.front().is_some() {
-        return Err(unexpected(end, &rest));
+    let tables = many(alloc, end, tokens)?;
+    let rows = many(alloc, end, tokens)?;
+    let scripts = many(alloc, end, tokens)?;
+    if tokens.front().is_some() {
+        return Err(unexpected(end, tokens));
     }
     Ok(Input {
         opening: Opening { tables, rows },

@@ -17,12 +17,13 @@ pub trait Item: Drop {
     fn is_start(tokens: &Tokens<'_>) -> bool
         ensures { result ≡ begins (among (firsts grammar)) tokens.now };
 
+    /// Reads one, and passes over its tokens. After an error reading has ended: some tokens may have been passed over.
     fn read(
         alloc: Global,
         end: usize,
-        tokens: Tokens<'_>,
-    ) -> Result<(Self, Tokens<'_>), Refusal<GrammarFault>>
-        ensures { Gives (λ x. x) result (reads grammar end tokens.entry) };
+        tokens: &mut Tokens<'_>,
+    ) -> Result<Self, Refusal<GrammarFault>>
+        ensures { Gives (λ x. (x, tokens.new)) result (reads grammar end tokens.old) };
 }
 
 /// Things that were read, and those behind them, each behind a divider: `LIMIT` at most in all.
@@ -31,28 +32,26 @@ pub fn appended<T: Item, const LIMIT: usize>(
     divider: Divider,
     before: Limited<T, LIMIT>,
     end: usize,
-    tokens: Tokens<'_>,
-) -> Result<(Limited<T, LIMIT>, Tokens<'_>), Refusal<GrammarFault>>
-    ensures { Gives (λ x. x) result
-        (reads (chain (more (LIMIT - length before) divider T.grammar) (λ xs. give (before ++ xs))) end tokens.entry) }
+    tokens: &mut Tokens<'_>,
+) -> Result<Limited<T, LIMIT>, Refusal<GrammarFault>>
+    ensures { Gives (λ x. (x, tokens.new)) result
+        (reads (chain (more (LIMIT - length before) divider T.grammar) (λ xs. give (before ++ xs))) end tokens.old) }
 {
     let mut items = before;
-    let mut rest = tokens;
     let mut left = LIMIT - items.len();
-    'things: while begins_with_divider(divider, &rest) {
-        let next = rest.tail();
+    'things: while begins_with_divider(divider, tokens) {
+        tokens.advance();
         if left == 0 {
-            if T::is_start(&next) {
-                return Err(too_many(end, &next));
+            if T::is_start(tokens) {
+                return Err(too_many(end, tokens));
             }
-            return Err(unexpected(end, &next));
+            return Err(unexpected(end, tokens));
         }
-        let (item, after) = T::read(alloc, end, next)?;
+        let item = T::read(alloc, end, tokens)?;
         items.push(item)?;
-        rest = after;
         left -= 1;
     }
-    Ok((items, rest))
+    Ok(items)
 }
 
 /// Things with dividers between them: one at least, `LIMIT` at most. They keep room for one more at most.
@@ -60,43 +59,41 @@ pub fn listed<T: Item, const LIMIT: usize>(
     alloc: Global,
     divider: Divider,
     end: usize,
-    tokens: Tokens<'_>,
-) -> Result<(Limited<T, LIMIT>, Tokens<'_>), Refusal<GrammarFault>>
+    tokens: &mut Tokens<'_>,
+) -> Result<Limited<T, LIMIT>, Refusal<GrammarFault>>
     requires { 0 < LIMIT }
-    ensures { Gives (λ x. x) result (reads (listed LIMIT divider T.grammar) end tokens.entry) }
+    ensures { Gives (λ x. (x, tokens.new)) result (reads (listed LIMIT divider T.grammar) end tokens.old) }
 {
-    let (first, rest) = T::read(alloc, end, tokens)?;
+    let first = T::read(alloc, end, tokens)?;
     // Where a second thing follows there is room for it at once.
-    let room = if begins_with_divider(divider, &rest) {
+    let room = if begins_with_divider(divider, tokens) {
         2
     } else {
         1
     };
     let mut items = Limited::with_capacity(alloc, room)?;
     items.push(first)?;
-    let (items, rest) = appended(alloc, divider, items, end, rest)?;
-    Ok((items.shrunk(), rest))
+    let items = appended(alloc, divider, items, end, tokens)?;
+    Ok(items.shrunk())
 }
 
 /// Things one behind the other, `LIMIT` at most.
 pub fn many<T: Item, const LIMIT: usize>(
     alloc: Global,
     end: usize,
-    tokens: Tokens<'_>,
-) -> Result<(Limited<T, LIMIT>, Tokens<'_>), Refusal<GrammarFault>>
-    ensures { Gives (λ x. x) result (reads (many LIMIT T.grammar) end tokens.entry) }
+    tokens: &mut Tokens<'_>,
+) -> Result<Limited<T, LIMIT>, Refusal<GrammarFault>>
+    ensures { Gives (λ x. (x, tokens.new)) result (reads (many LIMIT T.grammar) end tokens.old) }
 {
     let mut items = Limited::new(alloc);
-    let mut rest = tokens;
     let mut left = LIMIT;
-    'things: while T::is_start(&rest) {
+    'things: while T::is_start(tokens) {
         if left == 0 {
-            return Err(too_many(end, &rest));
+            return Err(too_many(end, tokens));
         }
-        let (item, after) = T::read(alloc, end, rest)?;
+        let item = T::read(alloc, end, tokens)?;
         items.push(item)?;
-        rest = after;
         left -= 1;
     }
-    Ok((items, rest))
+    Ok(items)
 }

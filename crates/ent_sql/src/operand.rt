@@ -21,17 +21,18 @@ use std::alloc::Global;
 pub(crate) fn name_at(
     alloc: Global,
     end: usize,
-    tokens: Tokens<'_>,
-) -> Result<(Identifier, Tokens<'_>), Refusal<GrammarFault>>
-    ensures { Gives (λ x. x) result (reads identifier end tokens.entry) }
+    tokens: &mut Tokens<'_>,
+) -> Result<Identifier, Refusal<GrammarFault>>
+    ensures { Gives (λ x. (x, tokens.new)) result (reads identifier end tokens.old) }
 {
     match tokens.front() {
         Some(TokenView::Name(word)) => {
             let name = Name::new(alloc, word)?;
             let place = tokens.start(end);
-            Ok((Identifier { name, place }, tokens.tail()))
+            tokens.advance();
+            Ok(Identifier { name, place })
         }
-        _ => Err(unexpected(end, &tokens)),
+        _ => Err(unexpected(end, tokens)),
     }
 }
 
@@ -40,35 +41,34 @@ pub(crate) fn name_at(
 pub(crate) fn variable_at(
     alloc: Global,
     end: usize,
-    tokens: Tokens<'_>,
-) -> Result<(Identifier, Tokens<'_>), Refusal<GrammarFault>>
-    ensures { Gives (λ x. x) result (reads host_variable end tokens.entry) }
+    tokens: &mut Tokens<'_>,
+) -> Result<Identifier, Refusal<GrammarFault>>
+    ensures { Gives (λ x. (x, tokens.new)) result (reads host_variable end tokens.old) }
 {
     match tokens.front() {
         Some(TokenView::HostVariable(word)) => {
             let name = Name::new(alloc, word)?;
             let place = tokens.start(end);
-            Ok((Identifier { name, place }, tokens.tail()))
+            tokens.advance();
+            Ok(Identifier { name, place })
         }
-        _ => Err(unexpected(end, &tokens)),
+        _ => Err(unexpected(end, tokens)),
     }
 }
 
 /// A minus sign and the number behind it.
 #[tactic(auto, unfolding(crate::specs::Operands::negative))]
-fn negative_at(
-    end: usize,
-    tokens: Tokens<'_>,
-) -> Result<(Literal, Tokens<'_>), Refusal<GrammarFault>>
-    ensures { Gives (λ x. x) result (reads negative end tokens.entry) }
+fn negative_at(end: usize, tokens: &mut Tokens<'_>) -> Result<Literal, Refusal<GrammarFault>>
+    ensures { Gives (λ x. (x, tokens.new)) result (reads negative end tokens.old) }
 {
-    let (place, rest) = sign_at(Symbol::Minus, end, tokens)?;
-    match rest.front() {
+    let place = sign_at(Symbol::Minus, end, tokens)?;
+    match tokens.front() {
         Some(TokenView::Number(number)) => {
             let value = Value::Int(number.negative());
-            Ok((Literal { value, place }, rest.tail()))
+            tokens.advance();
+            Ok(Literal { value, place })
         }
-        _ => Err(unexpected(end, &rest)),
+        _ => Err(unexpected(end, tokens)),
     }
 }
 
@@ -76,18 +76,19 @@ fn negative_at(
 fn unsigned_at(
     alloc: Global,
     end: usize,
-    tokens: Tokens<'_>,
-) -> Result<(Literal, Tokens<'_>), Refusal<GrammarFault>>
-    ensures { Gives (λ x. x) result (reads unsigned end tokens.entry) }
+    tokens: &mut Tokens<'_>,
+) -> Result<Literal, Refusal<GrammarFault>>
+    ensures { Gives (λ x. (x, tokens.new)) result (reads unsigned end tokens.old) }
 {
     let value = match tokens.front() {
         Some(TokenView::Number(number)) => Value::Int(number.positive()),
         Some(TokenView::Literal(content)) => Value::Text(Text::from_bytes(alloc, content)?),
         Some(TokenView::Doubled(behind)) => Value::Text(text_of(alloc, behind)?),
-        _ => return Err(unexpected(end, &tokens)),
+        _ => return Err(unexpected(end, tokens)),
     };
     let place = tokens.start(end);
-    Ok((Literal { value, place }, tokens.tail()))
+    tokens.advance();
+    Ok(Literal { value, place })
 }
 
 /// A name, with another behind it where a dot follows.
@@ -95,20 +96,20 @@ fn unsigned_at(
 fn reference_at(
     alloc: Global,
     end: usize,
-    tokens: Tokens<'_>,
-) -> Result<(ColumnReference, Tokens<'_>), Refusal<GrammarFault>>
-    ensures { Gives (λ x. x) result (reads column_reference end tokens.entry) }
+    tokens: &mut Tokens<'_>,
+) -> Result<ColumnReference, Refusal<GrammarFault>>
+    ensures { Gives (λ x. (x, tokens.new)) result (reads column_reference end tokens.old) }
 {
-    let (first, rest) = name_at(alloc, end, tokens)?;
-    if begins_with_sign(Symbol::Dot, &rest) {
-        let (_, rest) = sign_at(Symbol::Dot, end, rest)?;
-        let (column, rest) = name_at(alloc, end, rest)?;
+    let first = name_at(alloc, end, tokens)?;
+    if begins_with_sign(Symbol::Dot, tokens) {
+        sign_at(Symbol::Dot, end, tokens)?;
+        let column = name_at(alloc, end, tokens)?;
         let qualifier = Some(Boxed::new(alloc, first)?);
-        Ok((ColumnReference { qualifier, column }, rest))
+        Ok(ColumnReference { qualifier, column })
     } else {
         let qualifier = None;
         let column = first;
-        Ok((ColumnReference { qualifier, column }, rest))
+        Ok(ColumnReference { qualifier, column })
     }
 }
 
@@ -125,9 +126,9 @@ impl Item for Literal {
     fn read(
         alloc: Global,
         end: usize,
-        tokens: Tokens<'_>,
-    ) -> Result<(Self, Tokens<'_>), Refusal<GrammarFault>> {
-        if begins_with_sign(Symbol::Minus, &tokens) {
+        tokens: &mut Tokens<'_>,
+    ) -> Result<Self, Refusal<GrammarFault>> {
+        if begins_with_sign(Symbol::Minus, tokens) {
             negative_at(end, tokens)
         } else {
             unsigned_at(alloc, end, tokens)
@@ -148,14 +149,14 @@ impl Item for ValueSpecification {
     fn read(
         alloc: Global,
         end: usize,
-        tokens: Tokens<'_>,
-    ) -> Result<(Self, Tokens<'_>), Refusal<GrammarFault>> {
-        if begins_with_variable(&tokens) {
-            let (variable, rest) = variable_at(alloc, end, tokens)?;
-            Ok((ValueSpecification::HostVariable(variable), rest))
+        tokens: &mut Tokens<'_>,
+    ) -> Result<Self, Refusal<GrammarFault>> {
+        if begins_with_variable(tokens) {
+            let variable = variable_at(alloc, end, tokens)?;
+            Ok(ValueSpecification::HostVariable(variable))
         } else {
-            let (literal, rest) = Literal::read(alloc, end, tokens)?;
-            Ok((ValueSpecification::Literal(literal), rest))
+            let literal = Literal::read(alloc, end, tokens)?;
+            Ok(ValueSpecification::Literal(literal))
         }
     }
 }
@@ -173,14 +174,14 @@ impl Item for Operand {
     fn read(
         alloc: Global,
         end: usize,
-        tokens: Tokens<'_>,
-    ) -> Result<(Self, Tokens<'_>), Refusal<GrammarFault>> {
-        if begins_with_name(&tokens) {
-            let (column, rest) = reference_at(alloc, end, tokens)?;
-            Ok((Operand::Column(column), rest))
+        tokens: &mut Tokens<'_>,
+    ) -> Result<Self, Refusal<GrammarFault>> {
+        if begins_with_name(tokens) {
+            let column = reference_at(alloc, end, tokens)?;
+            Ok(Operand::Column(column))
         } else {
-            let (value, rest) = ValueSpecification::read(alloc, end, tokens)?;
-            Ok((Operand::Value(value), rest))
+            let value = ValueSpecification::read(alloc, end, tokens)?;
+            Ok(Operand::Value(value))
         }
     }
 }
@@ -199,14 +200,14 @@ impl Item for Term {
     fn read(
         alloc: Global,
         end: usize,
-        tokens: Tokens<'_>,
-    ) -> Result<(Self, Tokens<'_>), Refusal<GrammarFault>> {
-        if begins_with_name(&tokens) {
-            let (variable, rest) = name_at(alloc, end, tokens)?;
-            Ok((Term::Variable(variable), rest))
+        tokens: &mut Tokens<'_>,
+    ) -> Result<Self, Refusal<GrammarFault>> {
+        if begins_with_name(tokens) {
+            let variable = name_at(alloc, end, tokens)?;
+            Ok(Term::Variable(variable))
         } else {
-            let (value, rest) = ValueSpecification::read(alloc, end, tokens)?;
-            Ok((Term::Value(value), rest))
+            let value = ValueSpecification::read(alloc, end, tokens)?;
+            Ok(Term::Value(value))
         }
     }
 }

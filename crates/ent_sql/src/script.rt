@@ -15,54 +15,53 @@ use ent_value::Refusal;
 use std::alloc::Global;
 
 /// A number from 1 on, which is too much where more runs are asked for than there may be.
-fn runs_at(
-    end: usize,
-    tokens: Tokens<'_>,
-) -> Result<((Runs, usize), Tokens<'_>), Refusal<GrammarFault>>
-    ensures { Gives (λ x. x) result (reads (up_to MOST_RUNS) end tokens.entry) }
+fn runs_at(end: usize, tokens: &mut Tokens<'_>) -> Result<(Runs, usize), Refusal<GrammarFault>>
+    ensures { Gives (λ x. (x, tokens.new)) result (reads (up_to MOST_RUNS) end tokens.old) }
 {
     match tokens.front() {
         Some(TokenView::Number(number)) => {
             let runs = number.value();
             if runs < 1 {
-                Err(unexpected(end, &tokens))
+                Err(unexpected(end, tokens))
             } else if runs <= MOST_RUNS {
-                Ok(((Runs::new(runs), tokens.start(end)), tokens.tail()))
+                let place = tokens.start(end);
+                tokens.advance();
+                Ok((Runs::new(runs), place))
             } else {
-                Err(too_many(end, &tokens))
+                Err(too_many(end, tokens))
             }
         }
-        _ => Err(unexpected(end, &tokens)),
+        _ => Err(unexpected(end, tokens)),
     }
 }
 
 #[tactic(auto, unfolding(crate::specs::Scripts::within))]
-fn within_at(end: usize, tokens: Tokens<'_>) -> Result<(Runs, Tokens<'_>), Refusal<GrammarFault>>
-    ensures { Gives (λ x. x) result (reads within end tokens.entry) }
+fn within_at(end: usize, tokens: &mut Tokens<'_>) -> Result<Runs, Refusal<GrammarFault>>
+    ensures { Gives (λ x. (x, tokens.new)) result (reads within end tokens.old) }
 {
-    if begins_with_word(Keyword::Within, &tokens) {
-        let (_, rest) = word_at(Keyword::Within, end, tokens)?;
-        let ((runs, _), rest) = match runs_at(end, rest) {
+    if begins_with_word(Keyword::Within, tokens) {
+        word_at(Keyword::Within, end, tokens)?;
+        let (runs, _) = match runs_at(end, tokens) {
             Ok(read) => read,
             Err(refusal) => return Err(refusal),
         };
-        let (_, rest) = word_at(Keyword::Runs, end, rest)?;
-        Ok((runs, rest))
+        word_at(Keyword::Runs, end, tokens)?;
+        Ok(runs)
     } else {
-        Ok((Runs::new(DEFAULT_RUNS), tokens))
+        Ok(Runs::new(DEFAULT_RUNS))
     }
 }
 
 #[tactic(auto, unfolding(crate::specs::Scripts::ending))]
-fn ending_at(end: usize, tokens: Tokens<'_>) -> Result<(End, Tokens<'_>), Refusal<GrammarFault>>
-    ensures { Gives (λ x. x) result (reads ending end tokens.entry) }
+fn ending_at(end: usize, tokens: &mut Tokens<'_>) -> Result<End, Refusal<GrammarFault>>
+    ensures { Gives (λ x. (x, tokens.new)) result (reads ending end tokens.old) }
 {
-    if begins_with_word(Keyword::Commit, &tokens) {
-        let (_, rest) = word_at(Keyword::Commit, end, tokens)?;
-        Ok((End::Commit, rest))
+    if begins_with_word(Keyword::Commit, tokens) {
+        word_at(Keyword::Commit, end, tokens)?;
+        Ok(End::Commit)
     } else {
-        let (_, rest) = word_at(Keyword::Rollback, end, tokens)?;
-        Ok((End::Rollback, rest))
+        word_at(Keyword::Rollback, end, tokens)?;
+        Ok(End::Rollback)
     }
 }
 
@@ -70,28 +69,25 @@ fn ending_at(end: usize, tokens: Tokens<'_>) -> Result<(End, Tokens<'_>), Refusa
 pub(crate) fn script_at(
     alloc: Global,
     end: usize,
-    tokens: Tokens<'_>,
-) -> Result<(Script, Tokens<'_>), Refusal<GrammarFault>>
-    ensures { Gives (λ x. x) result (reads script end tokens.entry) }
+    tokens: &mut Tokens<'_>,
+) -> Result<Script, Refusal<GrammarFault>>
+    ensures { Gives (λ x. (x, tokens.new)) result (reads script end tokens.old) }
 {
-    let (_, rest) = word_at(Keyword::Begin, end, tokens)?;
-    let (_, rest) = word_at(Keyword::Transaction, end, rest)?;
-    let (within, rest) = match within_at(end, rest) {
+    word_at(Keyword::Begin, end, tokens)?;
+    word_at(Keyword::Transaction, end, tokens)?;
+    let within = match within_at(end, tokens) {
         Ok(read) => read,
         Err(refusal) => return Err(refusal),
     };
-    let (_, rest) = sign_at(Symbol::Semicolon, end, rest)?;
-    let (statements, rest) = many(alloc, end, rest)?;
-    let (ended, rest) = ending_at(end, rest)?;
-    let (_, rest) = sign_at(Symbol::Semicolon, end, rest)?;
-    Ok((
-        Script {
-            within,
-            statements: statements.shrunk(),
-            end: ended,
-        },
-        rest,
-    ))
+    sign_at(Symbol::Semicolon, end, tokens)?;
+    let statements = many(alloc, end, tokens)?;
+    let ended = ending_at(end, tokens)?;
+    sign_at(Symbol::Semicolon, end, tokens)?;
+    Ok(Script {
+        within,
+        statements: statements.shrunk(),
+        end: ended,
+    })
 }
 
 impl Item for Script {
@@ -107,8 +103,8 @@ impl Item for Script {
     fn read(
         alloc: Global,
         end: usize,
-        tokens: Tokens<'_>,
-    ) -> Result<(Self, Tokens<'_>), Refusal<GrammarFault>> {
+        tokens: &mut Tokens<'_>,
+    ) -> Result<Self, Refusal<GrammarFault>> {
         script_at(alloc, end, tokens)
     }
 }

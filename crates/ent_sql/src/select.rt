@@ -19,23 +19,23 @@ use std::alloc::Global;
 fn source_at(
     alloc: Global,
     end: usize,
-    tokens: Tokens<'_>,
-) -> Result<(Source, Tokens<'_>), Refusal<GrammarFault>>
-    ensures { Gives (λ x. x) result (reads source end tokens.entry) }
+    tokens: &mut Tokens<'_>,
+) -> Result<Source, Refusal<GrammarFault>>
+    ensures { Gives (λ x. (x, tokens.new)) result (reads source end tokens.old) }
 {
-    let (table, rest) = name_at(alloc, end, tokens)?;
-    if begins_with_word(Keyword::As, &rest) {
-        let (_, rest) = word_at(Keyword::As, end, rest)?;
-        let (name, rest) = name_at(alloc, end, rest)?;
+    let table = name_at(alloc, end, tokens)?;
+    if begins_with_word(Keyword::As, tokens) {
+        word_at(Keyword::As, end, tokens)?;
+        let name = name_at(alloc, end, tokens)?;
         let alias = Some(Boxed::new(alloc, name)?);
-        Ok((Source { table, alias }, rest))
-    } else if begins_with_name(&rest) {
-        let (name, rest) = name_at(alloc, end, rest)?;
+        Ok(Source { table, alias })
+    } else if begins_with_name(tokens) {
+        let name = name_at(alloc, end, tokens)?;
         let alias = Some(Boxed::new(alloc, name)?);
-        Ok((Source { table, alias }, rest))
+        Ok(Source { table, alias })
     } else {
         let alias = None;
-        Ok((Source { table, alias }, rest))
+        Ok(Source { table, alias })
     }
 }
 
@@ -52,8 +52,8 @@ impl Item for Source {
     fn read(
         alloc: Global,
         end: usize,
-        tokens: Tokens<'_>,
-    ) -> Result<(Self, Tokens<'_>), Refusal<GrammarFault>> {
+        tokens: &mut Tokens<'_>,
+    ) -> Result<Self, Refusal<GrammarFault>> {
         source_at(alloc, end, tokens)
     }
 }
@@ -62,15 +62,15 @@ impl Item for Source {
 pub(crate) fn tests_at(
     alloc: Global,
     end: usize,
-    tokens: Tokens<'_>,
-) -> Result<(Limited<Test<Operand>, MOST_PARTS>, Tokens<'_>), Refusal<GrammarFault>>
-    ensures { Gives (λ x. x) result (reads tests end tokens.entry) }
+    tokens: &mut Tokens<'_>,
+) -> Result<Limited<Test<Operand>, MOST_PARTS>, Refusal<GrammarFault>>
+    ensures { Gives (λ x. (x, tokens.new)) result (reads tests end tokens.old) }
 {
-    if begins_with_word(Keyword::Where, &tokens) {
-        let (_, rest) = word_at(Keyword::Where, end, tokens)?;
-        listed(alloc, Divider::And, end, rest)
+    if begins_with_word(Keyword::Where, tokens) {
+        word_at(Keyword::Where, end, tokens)?;
+        listed(alloc, Divider::And, end, tokens)
     } else {
-        Ok((Limited::new(alloc), tokens))
+        Ok(Limited::new(alloc))
     }
 }
 
@@ -80,37 +80,34 @@ pub(crate) fn select_behind(
     alloc: Global,
     items: Items,
     end: usize,
-    tokens: Tokens<'_>,
-) -> Result<(Select, Tokens<'_>), Refusal<GrammarFault>>
-    ensures { Gives (λ x. x) result (reads (select_behind items) end tokens.entry) }
+    tokens: &mut Tokens<'_>,
+) -> Result<Select, Refusal<GrammarFault>>
+    ensures { Gives (λ x. (x, tokens.new)) result (reads (select_behind items) end tokens.old) }
 {
-    let (_, rest) = word_at(Keyword::From, end, tokens)?;
-    let (sources, rest) = listed(alloc, Divider::Comma, end, rest)?;
-    let (tests, rest) = tests_at(alloc, end, rest)?;
-    Ok((
-        Select {
-            items,
-            sources,
-            tests,
-        },
-        rest,
-    ))
+    word_at(Keyword::From, end, tokens)?;
+    let sources = listed(alloc, Divider::Comma, end, tokens)?;
+    let tests = tests_at(alloc, end, tokens)?;
+    Ok(Select {
+        items,
+        sources,
+        tests,
+    })
 }
 
 #[tactic(auto, unfolding(crate::specs::Selects::items))]
 fn items_at(
     alloc: Global,
     end: usize,
-    tokens: Tokens<'_>,
-) -> Result<(Items, Tokens<'_>), Refusal<GrammarFault>>
-    ensures { Gives (λ x. x) result (reads items end tokens.entry) }
+    tokens: &mut Tokens<'_>,
+) -> Result<Items, Refusal<GrammarFault>>
+    ensures { Gives (λ x. (x, tokens.new)) result (reads items end tokens.old) }
 {
-    if begins_with_sign(Symbol::Star, &tokens) {
-        let (_, rest) = sign_at(Symbol::Star, end, tokens)?;
-        Ok((Items::All, rest))
+    if begins_with_sign(Symbol::Star, tokens) {
+        sign_at(Symbol::Star, end, tokens)?;
+        Ok(Items::All)
     } else {
-        let (items, rest) = listed(alloc, Divider::Comma, end, tokens)?;
-        Ok((Items::Listed(items), rest))
+        let items = listed(alloc, Divider::Comma, end, tokens)?;
+        Ok(Items::Listed(items))
     }
 }
 
@@ -118,11 +115,11 @@ fn items_at(
 pub(crate) fn select_at(
     alloc: Global,
     end: usize,
-    tokens: Tokens<'_>,
-) -> Result<(Select, Tokens<'_>), Refusal<GrammarFault>>
-    ensures { Gives (λ x. x) result (reads select end tokens.entry) }
+    tokens: &mut Tokens<'_>,
+) -> Result<Select, Refusal<GrammarFault>>
+    ensures { Gives (λ x. (x, tokens.new)) result (reads select end tokens.old) }
 {
-    let (_, rest) = word_at(Keyword::Select, end, tokens)?;
-    let (items, rest) = items_at(alloc, end, rest)?;
-    select_behind(alloc, items, end, rest)
+    word_at(Keyword::Select, end, tokens)?;
+    let items = items_at(alloc, end, tokens)?;
+    select_behind(alloc, items, end, tokens)
 }

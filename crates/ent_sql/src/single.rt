@@ -18,7 +18,7 @@ use std::alloc::Global;
 pub fn parse_script(alloc: Global, text: &str) -> Result<Script, Refusal<SqlFault>>
     ensures { Gives (λ script. script) result (script_reading text.now) }
 {
-    match script_of(alloc, text.len(), Tokens::of(text)) {
+    match script_of(alloc, text.len(), &mut Tokens::of(text)) {
         Ok(script) => Ok(script),
         Err(Refusal::Memory) => Err(Refusal::Memory),
         Err(Refusal::Fault(fault)) => {
@@ -32,12 +32,16 @@ pub fn parse_script(alloc: Global, text: &str) -> Result<Script, Refusal<SqlFaul
 }
 
 /// The script that the tokens of a text of this length say.
-fn script_of(alloc: Global, end: usize, tokens: Tokens<'_>) -> Result<Script, Refusal<GrammarFault>>
-    ensures { Gives (λ script. script) result (reads_all script end tokens.entry) }
+fn script_of(
+    alloc: Global,
+    end: usize,
+    tokens: &mut Tokens<'_>,
+) -> Result<Script, Refusal<GrammarFault>>
+    ensures { Gives (λ script. script) result (reads_all script end tokens.old) }
 {
-    let (script, rest) = script_at(alloc, end, tokens)?;
-    if rest.front().is_some() {
-        return Err(unexpected(end, &rest));
+    let script = script_at(alloc, end, tokens)?;
+    if tokens.front().is_some() {
+        return Err(unexpected(end, tokens));
     }
     Ok(script)
 }

@@ -22,29 +22,29 @@ use std::alloc::Global;
 fn delete_at(
     alloc: Global,
     end: usize,
-    tokens: Tokens<'_>,
-) -> Result<(Delete, Tokens<'_>), Refusal<GrammarFault>>
-    ensures { Gives (λ x. x) result (reads delete end tokens.entry) }
+    tokens: &mut Tokens<'_>,
+) -> Result<Delete, Refusal<GrammarFault>>
+    ensures { Gives (λ x. (x, tokens.new)) result (reads delete end tokens.old) }
 {
-    let (_, rest) = word_at(Keyword::Delete, end, tokens)?;
-    let (_, rest) = word_at(Keyword::From, end, rest)?;
-    let (table, rest) = name_at(alloc, end, rest)?;
-    let (tests, rest) = tests_at(alloc, end, rest)?;
-    Ok((Delete { table, tests }, rest))
+    word_at(Keyword::Delete, end, tokens)?;
+    word_at(Keyword::From, end, tokens)?;
+    let table = name_at(alloc, end, tokens)?;
+    let tests = tests_at(alloc, end, tokens)?;
+    Ok(Delete { table, tests })
 }
 
 #[tactic(auto, unfolding(crate::specs::Statements::assignment))]
 fn assignment_at(
     alloc: Global,
     end: usize,
-    tokens: Tokens<'_>,
-) -> Result<(Assignment, Tokens<'_>), Refusal<GrammarFault>>
-    ensures { Gives (λ x. x) result (reads assignment end tokens.entry) }
+    tokens: &mut Tokens<'_>,
+) -> Result<Assignment, Refusal<GrammarFault>>
+    ensures { Gives (λ x. (x, tokens.new)) result (reads assignment end tokens.old) }
 {
-    let (column, rest) = name_at(alloc, end, tokens)?;
-    let (_, rest) = sign_at(Symbol::Equal, end, rest)?;
-    let (expression, rest) = expression_at::<Operand>(alloc, end, rest)?;
-    Ok((Assignment { column, expression }, rest))
+    let column = name_at(alloc, end, tokens)?;
+    sign_at(Symbol::Equal, end, tokens)?;
+    let expression = expression_at::<Operand>(alloc, end, tokens)?;
+    Ok(Assignment { column, expression })
 }
 
 impl Item for Assignment {
@@ -60,8 +60,8 @@ impl Item for Assignment {
     fn read(
         alloc: Global,
         end: usize,
-        tokens: Tokens<'_>,
-    ) -> Result<(Self, Tokens<'_>), Refusal<GrammarFault>> {
+        tokens: &mut Tokens<'_>,
+    ) -> Result<Self, Refusal<GrammarFault>> {
         assignment_at(alloc, end, tokens)
     }
 }
@@ -70,66 +70,56 @@ impl Item for Assignment {
 fn update_at(
     alloc: Global,
     end: usize,
-    tokens: Tokens<'_>,
-) -> Result<(Update, Tokens<'_>), Refusal<GrammarFault>>
-    ensures { Gives (λ x. x) result (reads update end tokens.entry) }
+    tokens: &mut Tokens<'_>,
+) -> Result<Update, Refusal<GrammarFault>>
+    ensures { Gives (λ x. (x, tokens.new)) result (reads update end tokens.old) }
 {
-    let (_, rest) = word_at(Keyword::Update, end, tokens)?;
-    let (table, rest) = name_at(alloc, end, rest)?;
-    let (_, rest) = word_at(Keyword::Set, end, rest)?;
-    let (assignments, rest) = listed(alloc, Divider::Comma, end, rest)?;
-    let (tests, rest) = tests_at(alloc, end, rest)?;
-    Ok((
-        Update {
-            table,
-            assignments,
-            tests,
-        },
-        rest,
-    ))
+    word_at(Keyword::Update, end, tokens)?;
+    let table = name_at(alloc, end, tokens)?;
+    word_at(Keyword::Set, end, tokens)?;
+    let assignments = listed(alloc, Divider::Comma, end, tokens)?;
+    let tests = tests_at(alloc, end, tokens)?;
+    Ok(Update {
+        table,
+        assignments,
+        tests,
+    })
 }
 
 #[tactic(auto, unfolding(crate::specs::Statements::set))]
-fn set_at(
-    alloc: Global,
-    end: usize,
-    tokens: Tokens<'_>,
-) -> Result<(Set, Tokens<'_>), Refusal<GrammarFault>>
-    ensures { Gives (λ x. x) result (reads set end tokens.entry) }
+fn set_at(alloc: Global, end: usize, tokens: &mut Tokens<'_>) -> Result<Set, Refusal<GrammarFault>>
+    ensures { Gives (λ x. (x, tokens.new)) result (reads set end tokens.old) }
 {
-    let (_, rest) = word_at(Keyword::Set, end, tokens)?;
-    let (variable, rest) = variable_at(alloc, end, rest)?;
-    let (_, rest) = sign_at(Symbol::Equal, end, rest)?;
-    let (expression, rest) = expression_at::<ValueSpecification>(alloc, end, rest)?;
-    Ok((
-        Set {
-            variable,
-            expression,
-        },
-        rest,
-    ))
+    word_at(Keyword::Set, end, tokens)?;
+    let variable = variable_at(alloc, end, tokens)?;
+    sign_at(Symbol::Equal, end, tokens)?;
+    let expression = expression_at::<ValueSpecification>(alloc, end, tokens)?;
+    Ok(Set {
+        variable,
+        expression,
+    })
 }
 
 #[tactic(auto, unfolding(crate::specs::Statements::statement, crate::specs::Statements::delete, crate::specs::Statements::update, crate::specs::Statements::set, crate::specs::Tables::insert, crate::specs::Tables::row))]
 fn statement_at(
     alloc: Global,
     end: usize,
-    tokens: Tokens<'_>,
-) -> Result<(Statement, Tokens<'_>), Refusal<GrammarFault>>
-    ensures { Gives (λ x. x) result (reads statement end tokens.entry) }
+    tokens: &mut Tokens<'_>,
+) -> Result<Statement, Refusal<GrammarFault>>
+    ensures { Gives (λ x. (x, tokens.new)) result (reads statement end tokens.old) }
 {
-    if begins_with_word(Keyword::Insert, &tokens) {
-        let (insert, rest) = insert_at(alloc, end, tokens)?;
-        Ok((Statement::Insert(insert), rest))
-    } else if begins_with_word(Keyword::Delete, &tokens) {
-        let (delete, rest) = delete_at(alloc, end, tokens)?;
-        Ok((Statement::Delete(delete), rest))
-    } else if begins_with_word(Keyword::Update, &tokens) {
-        let (update, rest) = update_at(alloc, end, tokens)?;
-        Ok((Statement::Update(update), rest))
-    } else if begins_with_word(Keyword::Set, &tokens) {
-        let (set, rest) = set_at(alloc, end, tokens)?;
-        Ok((Statement::Set(set), rest))
+    if begins_with_word(Keyword::Insert, tokens) {
+        let insert = insert_at(alloc, end, tokens)?;
+        Ok(Statement::Insert(insert))
+    } else if begins_with_word(Keyword::Delete, tokens) {
+        let delete = delete_at(alloc, end, tokens)?;
+        Ok(Statement::Delete(delete))
+    } else if begins_with_word(Keyword::Update, tokens) {
+        let update = update_at(alloc, end, tokens)?;
+        Ok(Statement::Update(update))
+    } else if begins_with_word(Keyword::Set, tokens) {
+        let set = set_at(alloc, end, tokens)?;
+        Ok(Statement::Set(set))
     } else {
         query_at(alloc, end, tokens)
     }
@@ -139,13 +129,13 @@ fn statement_at(
 fn ended_statement_at(
     alloc: Global,
     end: usize,
-    tokens: Tokens<'_>,
-) -> Result<(Statement, Tokens<'_>), Refusal<GrammarFault>>
-    ensures { Gives (λ x. x) result (reads ended_statement end tokens.entry) }
+    tokens: &mut Tokens<'_>,
+) -> Result<Statement, Refusal<GrammarFault>>
+    ensures { Gives (λ x. (x, tokens.new)) result (reads ended_statement end tokens.old) }
 {
-    let (statement, rest) = statement_at(alloc, end, tokens)?;
-    match sign_at(Symbol::Semicolon, end, rest) {
-        Ok((_, rest)) => Ok((statement, rest)),
+    let statement = statement_at(alloc, end, tokens)?;
+    match sign_at(Symbol::Semicolon, end, tokens) {
+        Ok(_) => Ok(statement),
         Err(fault) => {
             drop(statement);
             Err(Refusal::from(fault))
@@ -170,8 +160,8 @@ impl Item for Statement {
     fn read(
         alloc: Global,
         end: usize,
-        tokens: Tokens<'_>,
-    ) -> Result<(Self, Tokens<'_>), Refusal<GrammarFault>> {
+        tokens: &mut Tokens<'_>,
+    ) -> Result<Self, Refusal<GrammarFault>> {
         ended_statement_at(alloc, end, tokens)
     }
 }

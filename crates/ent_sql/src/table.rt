@@ -17,15 +17,15 @@ use ent_value::{Kind, Limited, Refusal};
 use std::alloc::Global;
 
 #[tactic(auto, unfolding(crate::specs::Tables::kind))]
-fn kind_at(end: usize, tokens: Tokens<'_>) -> Result<(Kind, Tokens<'_>), Refusal<GrammarFault>>
-    ensures { Gives (λ x. x) result (reads kind end tokens.entry) }
+fn kind_at(end: usize, tokens: &mut Tokens<'_>) -> Result<Kind, Refusal<GrammarFault>>
+    ensures { Gives (λ x. (x, tokens.new)) result (reads kind end tokens.old) }
 {
-    if begins_with_word(Keyword::Int, &tokens) {
-        let (_, rest) = word_at(Keyword::Int, end, tokens)?;
-        Ok((Kind::Int, rest))
+    if begins_with_word(Keyword::Int, tokens) {
+        word_at(Keyword::Int, end, tokens)?;
+        Ok(Kind::Int)
     } else {
-        let (_, rest) = word_at(Keyword::Text, end, tokens)?;
-        Ok((Kind::Text, rest))
+        word_at(Keyword::Text, end, tokens)?;
+        Ok(Kind::Text)
     }
 }
 
@@ -33,13 +33,13 @@ fn kind_at(end: usize, tokens: Tokens<'_>) -> Result<(Kind, Tokens<'_>), Refusal
 fn column_at(
     alloc: Global,
     end: usize,
-    tokens: Tokens<'_>,
-) -> Result<(Column, Tokens<'_>), Refusal<GrammarFault>>
-    ensures { Gives (λ x. x) result (reads column end tokens.entry) }
+    tokens: &mut Tokens<'_>,
+) -> Result<Column, Refusal<GrammarFault>>
+    ensures { Gives (λ x. (x, tokens.new)) result (reads column end tokens.old) }
 {
-    let (name, rest) = name_at(alloc, end, tokens)?;
-    let (kind, rest) = kind_at(end, rest)?;
-    Ok((Column { name, kind }, rest))
+    let name = name_at(alloc, end, tokens)?;
+    let kind = kind_at(end, tokens)?;
+    Ok(Column { name, kind })
 }
 
 impl Item for Column {
@@ -55,8 +55,8 @@ impl Item for Column {
     fn read(
         alloc: Global,
         end: usize,
-        tokens: Tokens<'_>,
-    ) -> Result<(Self, Tokens<'_>), Refusal<GrammarFault>> {
+        tokens: &mut Tokens<'_>,
+    ) -> Result<Self, Refusal<GrammarFault>> {
         column_at(alloc, end, tokens)
     }
 }
@@ -65,18 +65,18 @@ impl Item for Column {
 fn create_at(
     alloc: Global,
     end: usize,
-    tokens: Tokens<'_>,
-) -> Result<(Create, Tokens<'_>), Refusal<GrammarFault>>
-    ensures { Gives (λ x. x) result (reads create end tokens.entry) }
+    tokens: &mut Tokens<'_>,
+) -> Result<Create, Refusal<GrammarFault>>
+    ensures { Gives (λ x. (x, tokens.new)) result (reads create end tokens.old) }
 {
-    let (_, rest) = word_at(Keyword::Create, end, tokens)?;
-    let (_, rest) = word_at(Keyword::Table, end, rest)?;
-    let (name, rest) = name_at(alloc, end, rest)?;
-    let (_, rest) = sign_at(Symbol::Open, end, rest)?;
-    let (columns, rest) = listed(alloc, Divider::Comma, end, rest)?;
-    let (_, rest) = sign_at(Symbol::Close, end, rest)?;
-    let (_, rest) = sign_at(Symbol::Semicolon, end, rest)?;
-    Ok((Create { name, columns }, rest))
+    word_at(Keyword::Create, end, tokens)?;
+    word_at(Keyword::Table, end, tokens)?;
+    let name = name_at(alloc, end, tokens)?;
+    sign_at(Symbol::Open, end, tokens)?;
+    let columns = listed(alloc, Divider::Comma, end, tokens)?;
+    sign_at(Symbol::Close, end, tokens)?;
+    sign_at(Symbol::Semicolon, end, tokens)?;
+    Ok(Create { name, columns })
 }
 
 impl Item for Create {
@@ -92,8 +92,8 @@ impl Item for Create {
     fn read(
         alloc: Global,
         end: usize,
-        tokens: Tokens<'_>,
-    ) -> Result<(Self, Tokens<'_>), Refusal<GrammarFault>> {
+        tokens: &mut Tokens<'_>,
+    ) -> Result<Self, Refusal<GrammarFault>> {
         create_at(alloc, end, tokens)
     }
 }
@@ -103,39 +103,36 @@ impl Item for Create {
 fn row_at<T: Item>(
     alloc: Global,
     end: usize,
-    tokens: Tokens<'_>,
-) -> Result<((Identifier, usize, Limited<T, MOST_PARTS>), Tokens<'_>), Refusal<GrammarFault>>
-    ensures { Gives (λ x. x) result (reads (row T.grammar) end tokens.entry) }
+    tokens: &mut Tokens<'_>,
+) -> Result<(Identifier, usize, Limited<T, MOST_PARTS>), Refusal<GrammarFault>>
+    ensures { Gives (λ x. (x, tokens.new)) result (reads (row T.grammar) end tokens.old) }
 {
-    let (_, rest) = word_at(Keyword::Insert, end, tokens)?;
-    let (_, rest) = word_at(Keyword::Into, end, rest)?;
-    let (table, rest) = name_at(alloc, end, rest)?;
-    let (_, rest) = word_at(Keyword::Values, end, rest)?;
-    let (place, rest) = sign_at(Symbol::Open, end, rest)?;
-    let (values, rest) = listed(alloc, Divider::Comma, end, rest)?;
-    let (_, rest) = sign_at(Symbol::Close, end, rest)?;
-    Ok(((table, place, values), rest))
+    word_at(Keyword::Insert, end, tokens)?;
+    word_at(Keyword::Into, end, tokens)?;
+    let table = name_at(alloc, end, tokens)?;
+    word_at(Keyword::Values, end, tokens)?;
+    let place = sign_at(Symbol::Open, end, tokens)?;
+    let values = listed(alloc, Divider::Comma, end, tokens)?;
+    sign_at(Symbol::Close, end, tokens)?;
+    Ok((table, place, values))
 }
 
 #[tactic(auto, unfolding(crate::specs::Tables::opening_row))]
 fn opening_row_at(
     alloc: Global,
     end: usize,
-    tokens: Tokens<'_>,
-) -> Result<(OpeningRow, Tokens<'_>), Refusal<GrammarFault>>
-    ensures { Gives (λ x. x) result (reads opening_row end tokens.entry) }
+    tokens: &mut Tokens<'_>,
+) -> Result<OpeningRow, Refusal<GrammarFault>>
+    ensures { Gives (λ x. (x, tokens.new)) result (reads opening_row end tokens.old) }
 {
-    let (row, rest) = row_at::<Literal>(alloc, end, tokens)?;
-    let (_, rest) = sign_at(Symbol::Semicolon, end, rest)?;
+    let row = row_at::<Literal>(alloc, end, tokens)?;
+    sign_at(Symbol::Semicolon, end, tokens)?;
     let (table, place, values) = row;
-    Ok((
-        OpeningRow {
-            table,
-            place,
-            values,
-        },
-        rest,
-    ))
+    Ok(OpeningRow {
+        table,
+        place,
+        values,
+    })
 }
 
 impl Item for OpeningRow {
@@ -151,8 +148,8 @@ impl Item for OpeningRow {
     fn read(
         alloc: Global,
         end: usize,
-        tokens: Tokens<'_>,
-    ) -> Result<(Self, Tokens<'_>), Refusal<GrammarFault>> {
+        tokens: &mut Tokens<'_>,
+    ) -> Result<Self, Refusal<GrammarFault>> {
         opening_row_at(alloc, end, tokens)
     }
 }
@@ -161,18 +158,15 @@ impl Item for OpeningRow {
 pub(crate) fn insert_at(
     alloc: Global,
     end: usize,
-    tokens: Tokens<'_>,
-) -> Result<(Insert, Tokens<'_>), Refusal<GrammarFault>>
-    ensures { Gives (λ x. x) result (reads insert end tokens.entry) }
+    tokens: &mut Tokens<'_>,
+) -> Result<Insert, Refusal<GrammarFault>>
+    ensures { Gives (λ x. (x, tokens.new)) result (reads insert end tokens.old) }
 {
-    let (row, rest) = row_at::<ValueSpecification>(alloc, end, tokens)?;
+    let row = row_at::<ValueSpecification>(alloc, end, tokens)?;
     let (table, place, values) = row;
-    Ok((
-        Insert {
-            table,
-            place,
-            values,
-        },
-        rest,
-    ))
+    Ok(Insert {
+        table,
+        place,
+        values,
+    })
 }

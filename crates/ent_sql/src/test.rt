@@ -14,28 +14,28 @@ use std::alloc::Global;
 #[tactic(auto, unfolding(crate::specs::Operands::comparison))]
 pub(crate) fn comparison_at(
     end: usize,
-    tokens: Tokens<'_>,
-) -> Result<(Comparison, Tokens<'_>), Refusal<GrammarFault>>
-    ensures { Gives (λ x. x) result (reads comparison end tokens.entry) }
+    tokens: &mut Tokens<'_>,
+) -> Result<Comparison, Refusal<GrammarFault>>
+    ensures { Gives (λ x. (x, tokens.new)) result (reads comparison end tokens.old) }
 {
-    if begins_with_sign(Symbol::Equal, &tokens) {
-        let (_, rest) = sign_at(Symbol::Equal, end, tokens)?;
-        Ok((Comparison::Equal, rest))
-    } else if begins_with_sign(Symbol::NotEqual, &tokens) {
-        let (_, rest) = sign_at(Symbol::NotEqual, end, tokens)?;
-        Ok((Comparison::NotEqual, rest))
-    } else if begins_with_sign(Symbol::Less, &tokens) {
-        let (_, rest) = sign_at(Symbol::Less, end, tokens)?;
-        Ok((Comparison::Less, rest))
-    } else if begins_with_sign(Symbol::LessOrEqual, &tokens) {
-        let (_, rest) = sign_at(Symbol::LessOrEqual, end, tokens)?;
-        Ok((Comparison::LessOrEqual, rest))
-    } else if begins_with_sign(Symbol::Greater, &tokens) {
-        let (_, rest) = sign_at(Symbol::Greater, end, tokens)?;
-        Ok((Comparison::Greater, rest))
+    if begins_with_sign(Symbol::Equal, tokens) {
+        sign_at(Symbol::Equal, end, tokens)?;
+        Ok(Comparison::Equal)
+    } else if begins_with_sign(Symbol::NotEqual, tokens) {
+        sign_at(Symbol::NotEqual, end, tokens)?;
+        Ok(Comparison::NotEqual)
+    } else if begins_with_sign(Symbol::Less, tokens) {
+        sign_at(Symbol::Less, end, tokens)?;
+        Ok(Comparison::Less)
+    } else if begins_with_sign(Symbol::LessOrEqual, tokens) {
+        sign_at(Symbol::LessOrEqual, end, tokens)?;
+        Ok(Comparison::LessOrEqual)
+    } else if begins_with_sign(Symbol::Greater, tokens) {
+        sign_at(Symbol::Greater, end, tokens)?;
+        Ok(Comparison::Greater)
     } else {
-        let (_, rest) = sign_at(Symbol::GreaterOrEqual, end, tokens)?;
-        Ok((Comparison::GreaterOrEqual, rest))
+        sign_at(Symbol::GreaterOrEqual, end, tokens)?;
+        Ok(Comparison::GreaterOrEqual)
     }
 }
 
@@ -43,21 +43,18 @@ pub(crate) fn comparison_at(
 fn test_at<T: Item>(
     alloc: Global,
     end: usize,
-    tokens: Tokens<'_>,
-) -> Result<(Test<T>, Tokens<'_>), Refusal<GrammarFault>>
-    ensures { Gives (λ x. x) result (reads (compared T.grammar) end tokens.entry) }
+    tokens: &mut Tokens<'_>,
+) -> Result<Test<T>, Refusal<GrammarFault>>
+    ensures { Gives (λ x. (x, tokens.new)) result (reads (compared T.grammar) end tokens.old) }
 {
-    let (left, rest) = T::read(alloc, end, tokens)?;
-    let (comparison, rest) = comparison_at(end, rest)?;
-    let (right, rest) = T::read(alloc, end, rest)?;
-    Ok((
-        Test {
-            left,
-            comparison,
-            right,
-        },
-        rest,
-    ))
+    let left = T::read(alloc, end, tokens)?;
+    let comparison = comparison_at(end, tokens)?;
+    let right = T::read(alloc, end, tokens)?;
+    Ok(Test {
+        left,
+        comparison,
+        right,
+    })
 }
 
 impl Item for Test<Operand> {
@@ -73,8 +70,8 @@ impl Item for Test<Operand> {
     fn read(
         alloc: Global,
         end: usize,
-        tokens: Tokens<'_>,
-    ) -> Result<(Self, Tokens<'_>), Refusal<GrammarFault>> {
+        tokens: &mut Tokens<'_>,
+    ) -> Result<Self, Refusal<GrammarFault>> {
         test_at(alloc, end, tokens)
     }
 }
@@ -85,23 +82,20 @@ fn expression_behind<T: Item>(
     alloc: Global,
     first: T,
     end: usize,
-    tokens: Tokens<'_>,
-) -> Result<(Expression<T>, Tokens<'_>), Refusal<GrammarFault>>
-    ensures { Gives (λ x. x) result (reads (expression_behind T.grammar first) end tokens.entry) }
+    tokens: &mut Tokens<'_>,
+) -> Result<Expression<T>, Refusal<GrammarFault>>
+    ensures { Gives (λ x. (x, tokens.new)) result (reads (expression_behind T.grammar first) end tokens.old) }
 {
-    if begins_with_sign(Symbol::Plus, &tokens) {
-        let (_, rest) = sign_at(Symbol::Plus, end, tokens)?;
-        let (second, rest) = T::read(alloc, end, rest)?;
-        Ok((Expression::Sum(first, Boxed::new(alloc, second)?), rest))
-    } else if begins_with_sign(Symbol::Minus, &tokens) {
-        let (_, rest) = sign_at(Symbol::Minus, end, tokens)?;
-        let (second, rest) = T::read(alloc, end, rest)?;
-        Ok((
-            Expression::Difference(first, Boxed::new(alloc, second)?),
-            rest,
-        ))
+    if begins_with_sign(Symbol::Plus, tokens) {
+        sign_at(Symbol::Plus, end, tokens)?;
+        let second = T::read(alloc, end, tokens)?;
+        Ok(Expression::Sum(first, Boxed::new(alloc, second)?))
+    } else if begins_with_sign(Symbol::Minus, tokens) {
+        sign_at(Symbol::Minus, end, tokens)?;
+        let second = T::read(alloc, end, tokens)?;
+        Ok(Expression::Difference(first, Boxed::new(alloc, second)?))
     } else {
-        Ok((Expression::Single(first), tokens))
+        Ok(Expression::Single(first))
     }
 }
 
@@ -109,10 +103,10 @@ fn expression_behind<T: Item>(
 pub(crate) fn expression_at<T: Item>(
     alloc: Global,
     end: usize,
-    tokens: Tokens<'_>,
-) -> Result<(Expression<T>, Tokens<'_>), Refusal<GrammarFault>>
-    ensures { Gives (λ x. x) result (reads (expression T.grammar) end tokens.entry) }
+    tokens: &mut Tokens<'_>,
+) -> Result<Expression<T>, Refusal<GrammarFault>>
+    ensures { Gives (λ x. (x, tokens.new)) result (reads (expression T.grammar) end tokens.old) }
 {
-    let (first, rest) = T::read(alloc, end, tokens)?;
-    expression_behind(alloc, first, end, rest)
+    let first = T::read(alloc, end, tokens)?;
+    expression_behind(alloc, first, end, tokens)
 }

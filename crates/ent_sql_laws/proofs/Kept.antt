@@ -3,6 +3,7 @@ use Rattle.std.proofs.Common.{◌≡◌, Bool, true, false, ◌||◌, List, [], 
 use Rattle.std.proofs.Common.{refl, ap, sym, ◌∙◌}
 use Rattle.std.proofs.lemmas.List.{map-append}
 use Rattle.std.specs.List.{flat_map, list_any}
+use Rattle.ent_lists.specs.Laws.{any_map}
 use Rattle.ent_value.specs.declared.value.Value.{Value}
 use Rattle.ent_tree.specs.declared.operand.ValueSpecification.{ValueSpecification}
 use Rattle.ent_tree.specs.declared.operand.ValueSpecification.TheVariants as specifications
@@ -111,16 +112,12 @@ script f x = each f (statement_over f) statement_values (statement f) x.statemen
 
 -- ---- what is used
 
-any_mapped : {A B : Type 0} (p : B → Bool) (f : A → B) (xs : List A) → list_any p (map f xs) ≡ list_any (λ x. p (f x)) xs
-any_mapped p f [] = refl
-any_mapped p f (x ∷ xs) = ap (λ b. p (f x) || b) (any_mapped p f xs)
-
 used : (variables : List BoundVariable) (x : Script) (name : Name)
     → is_used (bound_script variables x) name
     ≡ list_any (λ value. is_variable name (bound_value variables value)) (script_values x)
 used variables x name =
     ap (list_any (is_variable name)) (script (bound_value variables) x)
-    ∙ any_mapped (is_variable name) (bound_value variables) (script_values x)
+    ∙ any_map (is_variable name) (bound_value variables) (script_values x)
 
 -- a host variable of this name stays one where nothing is bound to it, and becomes a literal where something is
 replaced : (variables : List BoundVariable) (name : Name) (identifier : Identifier) (found : Option Value)

@@ -3,6 +3,7 @@ use Rattle.std.proofs.Common.{◌≡◌, Bool, true, false, ◌||◌, ◌&&◌, 
 use Rattle.std.proofs.Common.{Result, Ok, Err, ℕ, length, refl, ap, sym, ◌∙◌, IfSome}
 use Rattle.std.proofs.lemmas.List.Folds.{list_any-append}
 use Rattle.std.proofs.lemmas.List.{map-append}
+use Rattle.std.proofs.lemmas.Bool.{or_right}
 use Rattle.std.specs.Prelude.{unwrap_or, ◌==◌, nat_le, ◌+ℤ◌, ◌-ℤ◌}
 use Rattle.std.specs.List.{find, flat_map, list_all}
 use Rattle.std.specs.Option.{option_and_then, option_map, option_or}
@@ -52,6 +53,7 @@ use Rattle.ent_semantics.specs.Serial.{operations_of, run, script_run, with_answ
 use Rattle.ent_semantics.specs.Statement.{statement_meaning}
 use Rattle.ent_semantics.specs.Term.{SourceColumn, known_value, no_value, operand_value, expression_value}
 use Rattle.ent_semantics.specs.Term.{in_64_bits, number_of, source_columns, table_columns}
+use Rattle.ent_semantics.proofs.Environments.{values_joined}
 use Rattle.ent_bound.specs.Bound.{bound_script, bound_value, literal_or, value_bound}
 use Rattle.ent_sql_laws.specs.Meaning.{with_bound, script_run_from, run_with_bound}
 use Rattle.ent_bound.specs.Over.{Making, operand_over, expression_over, test_over, items_over, tests_over, select_over}
@@ -294,10 +296,6 @@ module _ (variables : List BoundVariable) (environment : Environment) where
 AreFree : List BoundVariable → List Name → Type 0
 AreFree variables names = (name : Name) → is_among names name ≡ true → value_bound variables name ≡ None
 
-or_right : (a b : Bool) → b ≡ true → (a || b) ≡ true
-or_right true b e = refl
-or_right false b e = e
-
 unfolded : (variables : List BoundVariable) (names : List Name) → AreFree variables names
     → (name : Name) → is_among names name ≡ true → value_bound variables name ≡ None
 unfolding AreFree
@@ -349,11 +347,6 @@ item_beside variables worth t None free environment = refl
 item_beside variables worth t (Some identifier) free environment =
     beside variables environment identifier.name (worth t) (first_free variables identifier.name [] free)
 
-with_values-append : (environment : Environment) (xs ys : List (Name × Value))
-    → with_values environment (xs ++ ys) ≡ with_values (with_values environment xs) ys
-with_values-append environment [] ys = refl
-with_values-append environment (x ∷ xs) ys = with_values-append (with_value environment x.0 x.1) xs ys
-
 items_beside : (variables : List BoundVariable) (worth : Term → Value) (xs : List EntangledItem)
     → AreFree variables (flat_map item_sets xs) → (environment : Environment)
     → with_values (with_bound variables environment) (flat_map (item_binds worth) xs)
@@ -362,13 +355,13 @@ items_beside variables worth [] free environment = refl
 items_beside variables worth (x ∷ xs) free environment =
     let own = item_binds worth x in
     let more = flat_map (item_binds worth) xs in
-    with_values-append (with_bound variables environment) own more
+    values_joined (with_bound variables environment) own more
     ∙ ap (λ (e : Environment). with_values e more)
     (item_beside variables worth x.term x.binds (free_left variables (item_sets x) (flat_map item_sets xs) free)
     environment)
     ∙ items_beside variables worth xs (free_right variables (item_sets x) (flat_map item_sets xs) free)
     (with_values environment own)
-    ∙ sym (ap (with_bound variables) (with_values-append environment own more))
+    ∙ sym (ap (with_bound variables) (values_joined environment own more))
 
 -- ---- statements
 

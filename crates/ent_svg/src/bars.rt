@@ -1,28 +1,28 @@
 //! What goes on in lanes: their time in runs and in groups, statements and waiting.
-use crate::place::{Place, colour};
+use crate::place::{Measures, colour};
 use crate::sheet::Sheet;
 use ent_group::Tx;
 use ent_picture::{Bar, Demand, Exchange, Life, Picture, Reply, Shade, What};
 
 /// The lanes' times in groups.
-pub(crate) fn put_shades(sheet: &mut Sheet, picture: &Picture, place: Place) {
+pub(crate) fn put_shades(sheet: &mut Sheet, picture: &Picture, measures: Measures) {
     for shade in &picture.shades {
-        put_shade(sheet, *shade, place);
+        put_shade(sheet, *shade, measures);
     }
 }
 
-fn put_shade(sheet: &mut Sheet, shade: Shade, place: Place) {
-    let left = place.start(shade.from);
-    let width = place.end(shade.to).saturating_sub(left);
-    let top = place.lane_top(shade.lane).saturating_add(2);
-    let height = place.lane.saturating_sub(4);
+fn put_shade(sheet: &mut Sheet, shade: Shade, measures: Measures) {
+    let left = measures.start(shade.from);
+    let width = measures.end(shade.to).saturating_sub(left);
+    let top = measures.lane_top(shade.lane).saturating_add(2);
+    let height = measures.lane.saturating_sub(4);
     let colour = colour(shade.group);
     sheet.put(format_args!(
         "<rect x=\"{left}\" y=\"{top}\" width=\"{width}\" height=\"{height}\" rx=\"4\" fill=\"{colour}\" \
          fill-opacity=\"0.2\"/>\n"
     ));
-    let strip_top = place.strip_top(shade.lane);
-    let strip = place.strip;
+    let strip_top = measures.strip_top(shade.lane);
+    let strip = measures.strip;
     let pattern = shade.group % 42;
     sheet.put(format_args!(
         "<rect x=\"{left}\" y=\"{strip_top}\" width=\"{width}\" height=\"{strip}\" rx=\"2\" \
@@ -31,15 +31,15 @@ fn put_shade(sheet: &mut Sheet, shade: Shade, place: Place) {
 }
 
 /// The lanes' times in runs.
-pub(crate) fn put_lives(sheet: &mut Sheet, picture: &Picture, place: Place) {
+pub(crate) fn put_lives(sheet: &mut Sheet, picture: &Picture, measures: Measures) {
     for life in &picture.lives {
-        put_life(sheet, *life, place);
+        put_life(sheet, *life, measures);
     }
 }
 
-fn put_life(sheet: &mut Sheet, life: Life, place: Place) {
-    let (left, right) = (place.middle(life.from), place.middle(life.to));
-    let height = place.height(life.lane);
+fn put_life(sheet: &mut Sheet, life: Life, measures: Measures) {
+    let (left, right) = (measures.middle(life.from), measures.middle(life.to));
+    let height = measures.height(life.lane);
     sheet.put(format_args!(
         "<path d=\"M{left} {height}H{right}\" stroke=\"#999\" stroke-width=\"2\"/>\
          <circle cx=\"{left}\" cy=\"{height}\" r=\"3\" fill=\"#999\"/>\n"
@@ -47,26 +47,31 @@ fn put_life(sheet: &mut Sheet, life: Life, place: Place) {
 }
 
 /// Statements and waiting.
-pub(crate) fn put_bars(sheet: &mut Sheet, picture: &Picture, trace: &[Exchange], place: Place) {
+pub(crate) fn put_bars(
+    sheet: &mut Sheet,
+    picture: &Picture,
+    trace: &[Exchange],
+    measures: Measures,
+) {
     for bar in &picture.bars {
-        put_bar(sheet, picture, trace, *bar, place);
+        put_bar(sheet, picture, trace, *bar, measures);
     }
 }
 
-fn put_bar(sheet: &mut Sheet, picture: &Picture, trace: &[Exchange], bar: Bar, place: Place) {
+fn put_bar(sheet: &mut Sheet, picture: &Picture, trace: &[Exchange], bar: Bar, measures: Measures) {
     sheet.put("<g><title>");
     put_title(sheet, picture, trace, bar);
     sheet.put("</title>");
-    let left = place.start(bar.from);
+    let left = measures.start(bar.from);
     let right = match bar.what {
-        What::Statement { answer: Some(_) } => place.end(bar.to),
-        _ => place.end_before(bar.from, bar.to),
+        What::Statement { answer: Some(_) } => measures.end(bar.to),
+        _ => measures.end_before(bar.from, bar.to),
     };
     let shape = Shape {
         left,
-        top: place.bar_top(bar.lane),
+        top: measures.bar_top(bar.lane),
         width: right.saturating_sub(left),
-        height: place.bar,
+        height: measures.bar,
     };
     shape.put(sheet, bar.what);
     put_label(sheet, bar, shape);

@@ -1,5 +1,5 @@
 //! What stands around the lanes: head, patterns, runs, events, names and fates.
-use crate::place::{Place, colour, pattern};
+use crate::place::{Measures, colour, pattern};
 use crate::sheet::Sheet;
 use ent_picture::{Fate, Lane, Picture, Run};
 
@@ -24,8 +24,8 @@ const WAITING: &str =
     <path d=\"M-2 8L8 -2M2 12L12 2\" stroke=\"#fff\" stroke-width=\"3\"/></pattern>\n";
 
 /// The beginning of a picture of this height.
-pub(crate) fn put_head(sheet: &mut Sheet, picture: &Picture, place: Place, height: u64) {
-    let width = place.width();
+pub(crate) fn put_head(sheet: &mut Sheet, picture: &Picture, measures: Measures, height: u64) {
+    let width = measures.width();
     sheet.put(format_args!(
         "<svg xmlns=\"http://www.w3.org/2000/svg\" width=\"{width}\" height=\"{height}\" \
          viewBox=\"0 0 {width} {height}\">\n"
@@ -67,23 +67,23 @@ fn put_count(sheet: &mut Sheet, count: u64, what: &str) {
 }
 
 /// The bands of the runs, with their numbers above the lanes.
-pub(crate) fn put_runs(sheet: &mut Sheet, picture: &Picture, place: Place) {
+pub(crate) fn put_runs(sheet: &mut Sheet, picture: &Picture, measures: Measures) {
     for run in &picture.runs {
-        put_run(sheet, *run, place);
+        put_run(sheet, *run, measures);
     }
 }
 
-fn put_run(sheet: &mut Sheet, run: Run, place: Place) {
+fn put_run(sheet: &mut Sheet, run: Run, measures: Measures) {
     let number = run.number;
     let ground = if number % 2 == 1 {
         "#f3f5f7"
     } else {
         "#eae6df"
     };
-    let left = place.edge(run.from);
-    let width = place.edge(run.to.saturating_add(1)).saturating_sub(left);
-    let top = place.top().saturating_sub(44);
-    let height = place.bottom().saturating_sub(top);
+    let left = measures.edge(run.from);
+    let width = measures.edge(run.to.saturating_add(1)).saturating_sub(left);
+    let top = measures.top().saturating_sub(44);
+    let height = measures.bottom().saturating_sub(top);
     sheet.put(format_args!(
         "<rect x=\"{left}\" y=\"{top}\" width=\"{width}\" height=\"{height}\" fill=\"{ground}\"/>\n"
     ));
@@ -97,14 +97,14 @@ fn put_run(sheet: &mut Sheet, run: Run, place: Place) {
 }
 
 /// The numbers of the events, as many as there is room for.
-pub(crate) fn put_events(sheet: &mut Sheet, picture: &Picture, place: Place) {
-    let height = place.top().saturating_sub(8);
+pub(crate) fn put_events(sheet: &mut Sheet, picture: &Picture, measures: Measures) {
+    let height = measures.top().saturating_sub(8);
     sheet.put(format_args!("<text class=\"s\" x=\"20\" y=\"{height}\">event</text>\n"));
-    let step = if place.column < 36 { 2 } else { 1 };
+    let step = if measures.column < 36 { 2 } else { 1 };
     let mut column = 0u64;
     for event in &picture.columns {
         if column % step == 0 {
-            let middle = place.middle(column);
+            let middle = measures.middle(column);
             sheet.put(format_args!(
                 "<text class=\"s m\" x=\"{middle}\" y=\"{height}\">{event}</text>\n"
             ));
@@ -114,27 +114,27 @@ pub(crate) fn put_events(sheet: &mut Sheet, picture: &Picture, place: Place) {
 }
 
 /// The lanes with the numbers of their transactions and what became of them.
-pub(crate) fn put_lanes(sheet: &mut Sheet, picture: &Picture, place: Place) {
+pub(crate) fn put_lanes(sheet: &mut Sheet, picture: &Picture, measures: Measures) {
     let mut number = 0u64;
     for lane in &picture.lanes {
-        put_lane(sheet, *lane, number, place);
+        put_lane(sheet, *lane, number, measures);
         number = number.saturating_add(1);
     }
-    let bottom = place.bottom();
-    put_border(sheet, bottom, place);
+    let bottom = measures.bottom();
+    put_border(sheet, bottom, measures);
 }
 
 /// The line between two lanes.
-fn put_border(sheet: &mut Sheet, height: u64, place: Place) {
-    let right = place.right().saturating_add(110);
+fn put_border(sheet: &mut Sheet, height: u64, measures: Measures) {
+    let right = measures.right().saturating_add(110);
     sheet.put(format_args!("<path d=\"M20 {height}H{right}\" stroke=\"#ccc\"/>\n"));
 }
 
-fn put_lane(sheet: &mut Sheet, lane: Lane, number: u64, place: Place) {
-    put_border(sheet, place.lane_top(number), place);
+fn put_lane(sheet: &mut Sheet, lane: Lane, number: u64, measures: Measures) {
+    put_border(sheet, measures.lane_top(number), measures);
     let tx = lane.tx;
-    let line = place.text(number);
-    let right = place.right().saturating_add(12);
+    let line = measures.text(number);
+    let right = measures.right().saturating_add(12);
     sheet.put(format_args!(
         "<text x=\"20\" y=\"{line}\">tx <tspan class=\"b\">{tx}</tspan></text>\n<text x=\"{right}\" y=\"{line}\">"
     ));

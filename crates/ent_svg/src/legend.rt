@@ -2,7 +2,7 @@
 use crate::bars::Shape;
 use crate::links::{Span, put_joint};
 use crate::marks::Spot;
-use crate::place::Place;
+use crate::place::Measures;
 use crate::sheet::Sheet;
 use ent_picture::{Demand, LinkKind, MarkKind, What};
 use ent_semantics::Failure;
@@ -22,8 +22,8 @@ const DEMAND: Demand = Demand {
 };
 
 /// The legend, below the lanes.
-pub(crate) fn put_legend(sheet: &mut Sheet, place: Place) {
-    let top = place.bottom().saturating_add(24);
+pub(crate) fn put_legend(sheet: &mut Sheet, measures: Measures) {
+    let top = measures.bottom().saturating_add(24);
     for row in 0..4u64 {
         for column in 0..4u64 {
             let left = column.saturating_mul(244).saturating_add(20);

@@ -1,17 +1,17 @@
 //! What several lanes have in common: joint answers, group commits, cycles of waiting.
 use crate::bars::{event_at, tx_of};
-use crate::place::{Place, colour};
+use crate::place::{Measures, colour};
 use crate::sheet::Sheet;
 use ent_picture::{Link, LinkKind, Picture};
 
 /// The links of these sorts: joint answers and cycles, or commits, which stand below the marks.
-pub(crate) fn put_links(sheet: &mut Sheet, picture: &Picture, place: Place) {
+pub(crate) fn put_links(sheet: &mut Sheet, picture: &Picture, measures: Measures) {
     for link in &picture.links {
-        put_link(sheet, picture, link, place);
+        put_link(sheet, picture, link, measures);
     }
 }
 
-fn put_link(sheet: &mut Sheet, picture: &Picture, link: &Link, place: Place) {
+fn put_link(sheet: &mut Sheet, picture: &Picture, link: &Link, measures: Measures) {
     sheet.put("<g><title>");
     sheet.put(match link.kind {
         LinkKind::Joint(_) => "answered together: tx",
@@ -21,16 +21,16 @@ fn put_link(sheet: &mut Sheet, picture: &Picture, link: &Link, place: Place) {
     put_names(sheet, picture, link.lanes.as_slice());
     let event = event_at(picture, link.column);
     sheet.put(format_args!(", event {event}</title>"));
-    let middle = place.middle(link.column);
+    let middle = measures.middle(link.column);
     let (top, bottom) = ends(link.lanes.as_slice());
     let span = Span {
         middle,
-        top: place.height(top),
-        bottom: place.height(bottom),
+        top: measures.height(top),
+        bottom: measures.height(bottom),
     };
     span.put(sheet, link.kind);
     for lane in &link.lanes {
-        put_joint(sheet, link.kind, middle, place.height(*lane));
+        put_joint(sheet, link.kind, middle, measures.height(*lane));
     }
     sheet.put("</g>\n");
 }

@@ -1,11 +1,11 @@
 //! How lanes leave their runs.
 use crate::bars::{event_at, number_width, tx_of};
-use crate::place::Place;
+use crate::place::Measures;
 use crate::sheet::Sheet;
 use ent_picture::{Mark, MarkKind, Picture};
 
 /// The marks of all lanes.
-pub(crate) fn put_marks(sheet: &mut Sheet, picture: &Picture, place: Place) {
+pub(crate) fn put_marks(sheet: &mut Sheet, picture: &Picture, measures: Measures) {
     for mark in &picture.marks {
         let tx = tx_of(picture, mark.lane);
         sheet.put(format_args!("<g><title>tx {tx} "));
@@ -13,9 +13,9 @@ pub(crate) fn put_marks(sheet: &mut Sheet, picture: &Picture, place: Place) {
         let event = event_at(picture, mark.column);
         sheet.put(format_args!(", event {event}</title>"));
         let spot = Spot {
-            middle: place.middle(mark.column),
-            height: place.height(mark.lane),
-            radius: place.bar / 2,
+            middle: measures.middle(mark.column),
+            height: measures.height(mark.lane),
+            radius: measures.bar / 2,
         };
         spot.put(sheet, mark.kind, mark.is_back);
         sheet.put("</g>\n");

@@ -19,7 +19,7 @@ const WIDE: u64 = 56;
 
 /// The measures of a picture.
 #[derive(Clone, Copy, Debug)]
-pub(crate) struct Place {
+pub(crate) struct Measures {
     pub(crate) columns: u64,
     pub(crate) lanes: u64,
     pub(crate) column: u64,
@@ -28,7 +28,7 @@ pub(crate) struct Place {
     pub(crate) strip: u64,
 }
 
-impl Place {
+impl Measures {
     /// The measures for so many columns and lanes: few columns share what the least width leaves them.
     pub(crate) fn new(columns: u64, lanes: u64) -> Self {
         let share = LEAST_WIDTH.saturating_sub(LEFT).saturating_sub(RIGHT) / columns.max(1);
@@ -37,7 +37,7 @@ impl Place {
             9..=20 => (36, 18, 5),
             _ => (30, 16, 4),
         };
-        Place {
+        Measures {
             columns,
             lanes,
             column: (share.max(NARROW).min(WIDE) / 2).saturating_mul(2),

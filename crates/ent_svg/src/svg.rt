@@ -4,7 +4,7 @@ use crate::frame::{put_events, put_head, put_lanes, put_runs};
 use crate::legend::{HEIGHT, put_legend};
 use crate::links::put_links;
 use crate::marks::put_marks;
-use crate::place::Place;
+use crate::place::Measures;
 use crate::sheet::Sheet;
 use ent_group::Tx;
 use ent_picture::{
@@ -15,23 +15,23 @@ use std::alloc::Global;
 
 /// The SVG of a picture of a trace. Where memory runs out there is none.
 pub(crate) fn svg_of(alloc: Global, picture: &Picture, trace: &[Exchange]) -> Option<Vec<u8>> {
-    let place = Place::new(picture.columns.len() as u64, picture.lanes.len() as u64);
+    let measures = Measures::new(picture.columns.len() as u64, picture.lanes.len() as u64);
     let mut sheet = Sheet::new(alloc);
     put_head(
         &mut sheet,
         picture,
-        place,
-        place.bottom().saturating_add(HEIGHT),
+        measures,
+        measures.bottom().saturating_add(HEIGHT),
     );
-    put_runs(&mut sheet, picture, place);
-    put_events(&mut sheet, picture, place);
-    put_lanes(&mut sheet, picture, place);
-    put_shades(&mut sheet, picture, place);
-    put_lives(&mut sheet, picture, place);
-    put_links(&mut sheet, picture, place);
-    put_bars(&mut sheet, picture, trace, place);
-    put_marks(&mut sheet, picture, place);
-    put_legend(&mut sheet, place);
+    put_runs(&mut sheet, picture, measures);
+    put_events(&mut sheet, picture, measures);
+    put_lanes(&mut sheet, picture, measures);
+    put_shades(&mut sheet, picture, measures);
+    put_lives(&mut sheet, picture, measures);
+    put_links(&mut sheet, picture, measures);
+    put_bars(&mut sheet, picture, trace, measures);
+    put_marks(&mut sheet, picture, measures);
+    put_legend(&mut sheet, measures);
     sheet.put("</svg>\n");
     sheet.into_whole()
 }

@@ -3,6 +3,7 @@ use Rattle.std.proofs.Common.{◌≡◌, ◌<◌, ◌⊎◌, inl, inr, ℕ, List
 use Rattle.std.specs.Prelude.{slice_get, slice_index_or, slice_set}
 use Rattle.std.proofs.lemmas.List.{length-map, map-set, set-set}
 use Rattle.ent_lists.specs.Sets as set
+use Rattle.ent_lists.proofs.Lists.{got_mapped, all_behind, split_last}
 use Rattle.ent_value.specs.declared.value.Kind.{Kind}
 use Rattle.ent_value.specs.declared.value.Value.{Value}
 use Rattle.ent_rel.specs.Relation.{Relation}
@@ -11,8 +12,8 @@ use Rattle.ent_semantics.specs.Form.{Tables}
 use Rattle.ent_select.specs.Tables.{kinds_in, no_table, rows_in}
 use Rattle.ent_protocol.specs.Job.{applied}
 use Rattle.ent_tables.specs.Stored.{AreOfTables, Stored, changed, changes_seen, stored_of, taken_back}
-use Rattle.ent_tables.proofs.Notes.{all_pop, all_push, ends, seen_newest}
-use Rattle.ent_tables.proofs.Places.{get_there, index_map, set_there}
+use Rattle.ent_tables.proofs.Notes.{all_pop, seen_newest}
+use Rattle.ent_tables.proofs.Places.{index_map, set_there}
 
 abbrev noted_at : ℕ → ℕ → List Relation → Noted
 noted_at tx table tables = record { tx = tx; table = table; before = slice_index_or tables table no_table }
@@ -20,7 +21,7 @@ noted_at tx table tables = record { tx = tx; table = table; before = slice_index
 module _ (tables : List Relation) (log : List Noted) (tx table : ℕ) (after : Relation) (there : table < length tables)
     (same : after.kinds ≡ (slice_index_or tables table no_table).kinds) where
   kinds_at : slice_get (kinds_in tables) table ≡ Some (slice_index_or tables table no_table).kinds
-  kinds_at = get_there (λ (t : Relation). t.kinds) tables table no_table there
+  kinds_at = got_mapped (λ (t : Relation). t.kinds) tables table no_table there
 
   kinds_kept : kinds_in (slice_set tables table after) ≡ kinds_in tables
   kinds_kept =
@@ -32,7 +33,7 @@ module _ (tables : List Relation) (log : List Noted) (tx table : ℕ) (after : R
   pub noted_too : AreOfTables (kinds_in tables) log
       → AreOfTables (kinds_in (slice_set tables table after)) (log ++ noted_at tx table tables ∷ [])
   noted_too all =
-      rw kinds_kept (all_push (λ change. slice_get (kinds_in tables) change.table ≡ Some change.before.kinds) log
+      rw kinds_kept (all_behind (λ change. slice_get (kinds_in tables) change.table ≡ Some change.before.kinds) log
       (noted_at tx table tables) all kinds_at)
 
   pub made : (removed added : List (List Value))
@@ -66,7 +67,7 @@ module _ (tables : List Relation) (log : List Noted) (tx table : ℕ) (after : R
       ap (λ (rs : Tables). slice_set rs table before.rows) (map-set (λ (t : Relation). t.rows) tables table after)
       ∙ set-set (rows_in tables) table after.rows before.rows
       ∙ set_there (rows_in tables) table before.rows
-      (get_there (λ (t : Relation). t.rows) tables table no_table there) in
+      (got_mapped (λ (t : Relation). t.rows) tables table no_table there) in
       (λ i. taken_back (record
       (stored_of (slice_set tables table after) (log ++ noted_at tx table tables ∷ [])) { changes = newest i }))
       ∙ (λ i. record { kinds = kinds_kept i; tables = rows i; changes = changes_seen log })
@@ -136,7 +137,7 @@ module _ (tables tables' : List Relation) (log log' : List Noted)
       (rw (← is) all)
 
   pub taken : stored_of tables' log' ≡ taken_back (stored_of tables log)
-  taken = by (ends log)
+  taken = by (split_last log)
     where
       by : (log ≡ []) ⊎ ((earlier : List Noted) × (newest : Noted) × (log ≡ earlier ++ newest ∷ []))
           → stored_of tables' log' ≡ taken_back (stored_of tables log)
@@ -150,7 +151,7 @@ module _ (tables tables' : List Relation) (log log' : List Noted)
           ∙ sym (ap (λ notes. taken_back (stored_of tables notes)) e.2)
 
   pub still_of_tables : AreOfTables (kinds_in tables') log'
-  still_of_tables = by (ends log)
+  still_of_tables = by (split_last log)
     where
       by : (log ≡ []) ⊎ ((earlier : List Noted) × (newest : Noted) × (log ≡ earlier ++ newest ∷ []))
           → AreOfTables (kinds_in tables') log'

@@ -1,5 +1,5 @@
 -- Notes of changes, and what rollbacks make of them.
-use Rattle.std.proofs.Common.{◌≡◌, ◌⊎◌, inl, inr, Bool, true, false, cond, List, [], ◌∷◌, ◌++◌, map, refl, sym, ap, ◌∙◌}
+use Rattle.std.proofs.Common.{◌≡◌, Bool, true, false, cond, List, [], ◌∷◌, ◌++◌, map, refl, sym, ap, ◌∙◌}
 use Rattle.std.specs.Prelude.{reverse, slice_set}
 use Rattle.std.specs.List.{AllByRecursion, filter}
 use Rattle.std.proofs.lemmas.List.{append-nil, map-append, map-set, reverse-append}
@@ -80,22 +80,7 @@ all_filter {A} P p (x ∷ xs) all = by (p x) (all_filter P p xs all.1)
     by true rest = (all.0, rest)
     by false rest = rest
 
-pub all_push : {A : Type 0} (P : A → Type 0) (xs : List A) (x : A) → AllByRecursion P xs → P x
-    → AllByRecursion P (xs ++ x ∷ [])
-all_push P [] x all here = (here, tt)
-all_push P (y ∷ xs) x all here = (all.0, all_push P xs x all.1 here)
-
 pub all_pop : {A : Type 0} (P : A → Type 0) (xs : List A) (x : A) → AllByRecursion P (xs ++ x ∷ [])
     → AllByRecursion P xs × P x
 all_pop P [] x all = (tt, all.0)
 all_pop P (y ∷ xs) x all = let rest = all_pop P xs x all.1 in ((all.0, rest.0), rest.1)
-
--- a list ends, or has none
-pub ends : {A : Type 0} (xs : List A) → (xs ≡ []) ⊎ ((earlier : List A) × (last : A) × (xs ≡ earlier ++ last ∷ []))
-ends [] = inl refl
-ends {A} (x ∷ xs) = by (ends xs)
-  where
-    by : (xs ≡ []) ⊎ ((earlier : List A) × (last : A) × (xs ≡ earlier ++ last ∷ []))
-        → (x ∷ xs ≡ []) ⊎ ((earlier : List A) × (last : A) × (x ∷ xs ≡ earlier ++ last ∷ []))
-    by (inl none) = inr ([], x, ap (λ ys. x ∷ ys) none)
-    by (inr e) = inr (x ∷ e.0, e.1, ap (λ ys. x ∷ ys) e.2)

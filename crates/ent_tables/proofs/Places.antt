@@ -11,13 +11,6 @@ use Rattle.ent_protocol.specs.State.{Use}
 use Rattle.ent_tables.specs.AtNumber.{seen_at, seen_in}
 use Rattle.ent_tables.specs.Stored.{kinds_declared}
 
--- a place of a list, seen by f
-pub map_at : {A B : Type 0} (f : A → B) (xs : List A) (i : ℕ) (x : A) (d : B) → i < length xs → x ≡ get_or xs i x
-    → slice_index_or (map f xs) i d ≡ f x
-map_at f [] i x d lt is = absurd (omega arith)
-map_at f (y ∷ xs) zero x d lt is = ap f (sym is)
-map_at f (y ∷ xs) (suc i) x d lt is = map_at f xs i x d (omega arith) is
-
 -- what stands at a place, or in its stead, seen by f
 pub index_map : {A B : Type 0} (f : A → B) (xs : List A) (i : ℕ) (d : A)
     → slice_index_or (map f xs) i (f d) ≡ f (slice_index_or xs i d)
@@ -38,13 +31,6 @@ pub past_all : {A B C : Type 0} (f : A → B) (g : B → C) (xs : List A) (i : �
 past_all f g [] i past = refl
 past_all f g (y ∷ xs) zero past = absurd (omega arith)
 past_all f g (y ∷ xs) (suc i) past = past_all f g xs i (omega arith)
-
--- a place below the length has what stands there
-pub get_there : {A B : Type 0} (f : A → B) (xs : List A) (i : ℕ) (d : A) → i < length xs
-    → slice_get (map f xs) i ≡ Some (f (slice_index_or xs i d))
-get_there f [] i d lt = absurd (omega arith)
-get_there f (x ∷ xs) zero d lt = refl
-get_there f (x ∷ xs) (suc i) d lt = get_there f xs i d (omega arith)
 
 -- a place that is written with what stands there
 pub set_there : {A : Type 0} (xs : List A) (i : ℕ) (x : A) → slice_get xs i ≡ Some x → set xs i x ≡ xs

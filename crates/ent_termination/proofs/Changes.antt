@@ -10,8 +10,9 @@ use Rattle.ent_semantics.specs.FormKinds.{changed_tables}
 use Rattle.ent_semantics.specs.declared.entangled.Entangled.{Entangled}
 use Rattle.ent_semantics.specs.declared.operand.Known.{Known}
 use Rattle.ent_semantics.specs.declared.statement.Statement.{Statement}
-use Rattle.ent_coordination.specs.Choice.{AreGroundings, IsLeastChoiceIfAny}
+use Rattle.ent_coordination.specs.Choice.{IsLeastChoiceIfAny}
 use Rattle.ent_coordination.specs.Pool.{Posted}
+use Rattle.ent_coordination.proofs.Grounded.{groundings_counted}
 use Rattle.ent_protocol.specs.Begin.{BeginsOrdinary, BeginsEntangled, BeginsCommit, BeginsNext, BeginsUnless}
 use Rattle.ent_protocol.specs.Begin.{BeginsMember, lending, posting, with_member}
 use Rattle.ent_protocol.specs.Begin as begin
@@ -107,13 +108,6 @@ pub record IsAct {F : Type 0} (s : State) (reply : Reply F) (new : State) : Type
   pub is : new ≡ after s act
   pub progress : is_progress reply ≡ worth s act
   pub work : brings_work reply ≡ opens s act
-
-groundings_enough : (tables : Tables) (asked : List Posted) (groundings : List Valuation)
-    → AreGroundings tables asked groundings → length groundings ≡ length asked
-groundings_enough tables [] [] h = refl
-groundings_enough tables [] (values ∷ more) h = absurd h
-groundings_enough tables (query ∷ asked) [] h = absurd h
-groundings_enough tables (query ∷ asked) (values ∷ more) h = ap suc (groundings_enough tables asked more h.1)
 
 module _ {F : Type 0} where
   -- the reply is known
@@ -218,7 +212,7 @@ module _ {F : Type 0} where
       → IsLeastChoiceIfAny tables asked groundings → IsAct s reply new
   answers_by s left asked (Some groundings) tables reply new step back chosen =
       acts s reply _ new
-      (Answers asked groundings left back (groundings_enough tables asked groundings chosen.choice.grounded))
+      (Answers asked groundings left back (groundings_counted tables asked groundings chosen.choice.grounded))
       step.0 step.1 refl refl
   answers_by s left asked None tables reply new step back chosen =
       acts s reply _ new (Tries asked left back) step.0 step.1 refl refl

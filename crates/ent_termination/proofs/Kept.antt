@@ -1,24 +1,14 @@
 -- Events that add no script keep the scripts.
 use Rattle.std.proofs.Common.{◌≡◌, Bool, true, false, List, refl}
-use Rattle.ent_value.specs.declared.value.Value.{Value}
-use Rattle.ent_semantics.specs.declared.statement.Statement.{Statement}
 use Rattle.ent_protocol.specs.Event.{Event, Reply}
-use Rattle.ent_protocol.specs.Finish.{finished}
-use Rattle.ent_protocol.specs.Job.{Job, Outcome, Shown, Changed, Bound, Choice, Fault}
+use Rattle.ent_protocol.specs.Job.{Job}
 use Rattle.ent_protocol.specs.Run.{Forms}
-use Rattle.ent_protocol.specs.State.{State, Member}
+use Rattle.ent_protocol.specs.State.{State}
 use Rattle.ent_protocol.specs.Step.{Step}
 use Rattle.ent_protocol_laws.specs.Replies.{adds_script}
 use Rattle.ent_protocol_laws.proofs.Leaves.{Leaves, left_behind}
+use Rattle.ent_protocol_laws.proofs.Few.{finishes}
 use Rattle.ent_lists.specs.Elements.{clash}
-
-finished_kept : (s : State) (m : Member) (c : Statement Value) (outcome : Outcome)
-    → (finished s m c outcome).submitted ≡ s.submitted
-finished_kept s m c (Changed count removed added) = refl
-finished_kept s m c (Bound value) = refl
-finished_kept s m c (Shown rows) = refl
-finished_kept s m c (Choice groundings) = refl
-finished_kept s m c (Fault failure) = refl
 
 abbrev IsKept : State → Bool → Bool → List Job → State → Type 0
 IsKept s added rolled jobs new = added ≡ false → new.submitted ≡ s.submitted
@@ -35,7 +25,7 @@ leaves_kept s =
       commits = λ m at ready none. refl;
       rolls_back = λ group cause none. refl;
       fails = λ left group cause back none. refl;
-      finishes = λ left m c outcome back at none. finished_kept (record s { lent = left }) m c outcome;
+      finishes = λ left m c outcome back at none. finishes (record s { lent = left }) m c outcome;
       picks = λ asked none. refl;
       joins = λ left asked groundings back none. refl;
       tries = λ left asked back none. refl;

@@ -17,6 +17,7 @@ use Rattle.ent_protocol.specs.PoolEvents.{joint_job}
 use Rattle.ent_protocol.specs.State.{State, Submitted, Member}
 use Rattle.ent_protocol_laws.specs.Lent.{AreOther, LentStandOnce}
 use Rattle.ent_protocol_laws.proofs.Found.{numbered_on, taken_fewer}
+use Rattle.ent_protocol_laws.proofs.Determined.{same_asked, same_single}
 use Rattle.ent_termination.proofs.Changes.{Act, Stays, Submits, Starts, Lends, Posts, Prepares, Steps, Fails, Picks}
 use Rattle.ent_termination.proofs.Changes.{Answers}
 use Rattle.ent_termination.proofs.Changes.{Tries, Ends, Recalls, after}
@@ -90,12 +91,6 @@ never single asked e = absurd (different e)
     different : One single ≡ Joint asked → ⊥
     different e = cc
 
-one_single : (one other : Single) → One one ≡ One other → one ≡ other
-one_single one other e = cc
-
-one_asked : (one other : List Posted) → Joint one ≡ Joint other → one ≡ other
-one_asked one other e = cc
-
 -- some of the same jobs are lent
 fewer : (s new : State) → ((job : Job) → In job new.lent → In job s.lent) → new.submitted ≡ s.submitted
     → new.tried ≡ s.tried → LentRight s → LentRight new
@@ -116,7 +111,7 @@ lends s m statement all is next h =
       placed = λ job single at work. elim (either job at) [
         | inl old ↦ h.placed job single old work
         | inr same ↦
-            let own = one_single single _ (sym work ∙ ap (λ (j : Job). j.work) same) in
+            let own = same_single single _ (sym work ∙ ap (λ (j : Job). j.work) same) in
             subst (λ (x : Single). IsPlaced (numbered s.submitted x.tx) x.place) (sym own)
             (placed_next s m (Ordinary statement) next tt)
       ];
@@ -144,7 +139,7 @@ picks s asked untried h =
       untried = λ job other at work there. elim (either job at) [
         | inl old ↦ h.untried job other old work there
         | inr same ↦
-            let own = one_asked other asked (sym work ∙ ap (λ (j : Job). j.work) same) in
+            let own = same_asked other asked (sym work ∙ ap (λ (j : Job). j.work) same) in
             untried (subst (Contains s.tried) own there)
       ];
     }

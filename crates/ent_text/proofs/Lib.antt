@@ -1,6 +1,7 @@
 pub mod Reading
 pub mod Rest
 pub mod Shorter
+pub mod Letters
 pub mod Fronts
 pub mod Digits
 pub mod Firsts

@@ -10,6 +10,7 @@ use Rattle.std.specs.Option.{option_map_or}
 use Rattle.std.specs.List.{take_while, list_all, list_any}
 use Rattle.std.specs.Char.{is_ascii_alphabetic, is_ascii_digit, is_ascii_control}
 use Rattle.std.specs.Str.Parse.{IsNumeral, digits_value}
+use Rattle.ent_lists.proofs.Lists.{same_first}
 use Rattle.ent_value.specs.Refusal.{◌>>=◌}
 use Rattle.ent_value.specs.declared.refusal.Refusal.TheVariants as errors
 use Rattle.ent_value.specs.Name.{is_word_byte}
@@ -467,9 +468,6 @@ too_long_is_read place (Fault fault) rest h = absurd h
 
 -- ---- faults
 
-starts : (c d : ℕ) (xs ys : List ℕ) → c ∷ xs ≡ d ∷ ys → c ≡ d
-starts c d xs ys e = ap (λ (l : List ℕ). slice_index l 0) e
-
 nothing_is_read : (place c : ℕ) (others : List ℕ) → c ≢ 39
     → ((front behind : List ℕ) (piece : Option TokenKind) → c ∷ others ≡ front ++ behind → IsPiece front piece → ⊥)
     → (read : Result Piece TextFault) → Cut place (c ∷ others) read → read ≡ Err (BadChar place)
@@ -478,9 +476,9 @@ nothing_is_read place c others ne none (Ok x) (word, is, spelled, longest, withi
 nothing_is_read place c others ne none (Err (BadChar at)) (inl h) =
     ap (λ (n : ℕ). let r : Result Piece TextFault = Err (BadChar n) in r) h.0
 nothing_is_read place c others ne none (Err (BadChar at)) (inr (far, e, (front, behind, d, is, plain, control, f))) =
-    absurd (ne (starts c 39 others (doubled front ++ d ∷ behind) is))
+    absurd (ne (same_first c 39 others (doubled front ++ d ∷ behind) is))
 nothing_is_read place c others ne none (Err (OpenText at)) (e, (content, is, plain)) =
-    absurd (ne (starts c 39 others (doubled content) is))
+    absurd (ne (same_first c 39 others (doubled content) is))
 nothing_is_read place c others ne none (Err (NumberTooLarge at)) (e, (n, (front, behind, is, spelled, longest), lt)) =
     absurd (none front behind (Some (Number n)) is spelled)
 nothing_is_read place c others ne none (Err (TextTooLong at)) (e, (kind, (front, behind, is, spelled, longest), lt)) =

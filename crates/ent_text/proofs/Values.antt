@@ -1,11 +1,10 @@
 -- Values are read as they are written.
 use Rattle.std.proofs.Common.{◌≡◌, ℕ, zero, suc, pos, negsuc, ◌<◌, ◌≤◌, Bool, true, false, leb, List, [], ◌∷◌, ◌++◌}
 use Rattle.std.proofs.Common.{length, cond, Ok, Err, Result, refl, ap, sym, ◌∙◌, subst, arith, eqb, append_assoc}
-use Rattle.std.specs.Prelude.{◌&&◌}
 use Rattle.std.specs.List.{list_all}
 use Rattle.std.specs.Char.{is_ascii_digit}
 use Rattle.std.specs.Fmt.{decimal}
-use Rattle.std.proofs.lemmas.Bool.{le-leb, leb-true, eqb-true, ne_eqb}
+use Rattle.std.proofs.lemmas.Bool.{le-leb, leb-true, eqb-true, ne_eqb, and_parts}
 use Rattle.std.proofs.lemmas.Fmt.{decimal_nonempty}
 use Rattle.ent_lists.specs.Elements.{neither}
 use Rattle.ent_value.specs.Refusal.{◌>>=◌}
@@ -123,10 +122,6 @@ pub over_digit : (rest : List ℕ) → IsOver rest → Stops is_ascii_digit rest
 over_digit [] h = tt
 over_digit (c ∷ others) h = no_digit c (neither (is_word_byte c) (eqb c 39) h).0
 
-all_first : (a b : Bool) → (a && b) ≡ true → a ≡ true
-all_first true b h = refl
-all_first false b h = cc
-
 no_quote : (b : ℕ) → is_ascii_digit b ≡ true → b ≡ 39 → ⊥
 no_quote b h e = let k : is_ascii_digit b ≡ false = ap is_ascii_digit e in cc
 
@@ -164,7 +159,7 @@ text_again content rest is over =
 digits_again : (n : ℕ) (digits rest : List ℕ) → decimal n ≡ digits → 0 < length digits
     → list_all is_ascii_digit digits ≡ true → value_at (digits ++ rest) ≡ positive_at (digits ++ rest)
 digits_again n [] rest is some all = absurd (omega arith)
-digits_again n (b ∷ digits) rest is some all = digit_again b (digits ++ rest) (all_first (is_ascii_digit b) _ all)
+digits_again n (b ∷ digits) rest is some all = digit_again b (digits ++ rest) (and_parts (is_ascii_digit b) _ all).0
 
 minus : (bytes : List ℕ) → value_at (45 ∷ bytes) ≡ negative_at bytes
 unfolding value_at

@@ -1,5 +1,5 @@
 //! The token at the front.
-ghost use Rattle.std.specs.Prelude.{◌≡◌};
+ghost use Rattle.std.specs.Prelude.{◌≡◌, drop};
 ghost use Rattle.ent_value.specs.declared.refusal.Refusal.TheVariants.{Fault};
 ghost use Rattle.ent_value.specs.Refusal.{Gives};
 ghost use Rattle.ent_text.specs.declared.grammar_fault.GrammarFault.TheVariants.{Unexpected, TooMany};
@@ -55,30 +55,42 @@ pub fn begins_with_divider(divider: Divider, tokens: &Tokens<'_>) -> bool
     }
 }
 
-/// Where this reserved word stands, and the tokens behind it.
+/// Where the first of these tokens stands, which is passed over.
+fn taken(end: usize, tokens: &mut Tokens<'_>) -> usize
+    ensures place { result ≡ place_of end tokens.old }
+    ensures behind { tokens.new ≡ drop 1 tokens.old }
+{
+    let place = tokens.start(end);
+    tokens.advance();
+    place
+}
+
+/// Passes over this reserved word, and tells where it stood. Where it doesn't stand at the front, nothing is known of
+/// the tokens that are left.
 pub fn word_at(
     word: Keyword,
     end: usize,
-    tokens: Tokens<'_>,
-) -> Result<(usize, Tokens<'_>), Refusal<GrammarFault>>
-    ensures { Gives (λ x. x) result (word_at word end tokens.entry) }
+    tokens: &mut Tokens<'_>,
+) -> Result<usize, Refusal<GrammarFault>>
+    ensures { Gives (λ x. (x, tokens.new)) result (word_at word end tokens.old) }
 {
     match tokens.front() {
-        Some(TokenView::Word(found)) if *found == word => Ok((tokens.start(end), tokens.tail())),
-        _ => Err(unexpected(end, &tokens)),
+        Some(TokenView::Word(found)) if *found == word => Ok(taken(end, tokens)),
+        _ => Err(unexpected(end, tokens)),
     }
 }
 
-/// Where this symbol stands, and the tokens behind it.
+/// Passes over this symbol, and tells where it stood. Where it doesn't stand at the front, nothing is known of the
+/// tokens that are left.
 pub fn sign_at(
     sign: Symbol,
     end: usize,
-    tokens: Tokens<'_>,
-) -> Result<(usize, Tokens<'_>), Refusal<GrammarFault>>
-    ensures { Gives (λ x. x) result (sign_at sign end tokens.entry) }
+    tokens: &mut Tokens<'_>,
+) -> Result<usize, Refusal<GrammarFault>>
+    ensures { Gives (λ x. (x, tokens.new)) result (sign_at sign end tokens.old) }
 {
     match tokens.front() {
-        Some(TokenView::Sign(found)) if *found == sign => Ok((tokens.start(end), tokens.tail())),
-        _ => Err(unexpected(end, &tokens)),
+        Some(TokenView::Sign(found)) if *found == sign => Ok(taken(end, tokens)),
+        _ => Err(unexpected(end, tokens)),
     }
 }

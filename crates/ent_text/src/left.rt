@@ -13,7 +13,7 @@ ghost use Rattle.ent_text.specs.declared.token.TokenKind.TheVariants.{Fault};
 
 use crate::bytes::{from, tail};
 use crate::fault::TextFault;
-use crate::piece::{behind_piece, is_blank, other_piece};
+use crate::piece::{behind_piece, is_blank, wordless_piece};
 use crate::view::TokenView;
 use crate::word::{view_of, word_and_rest};
 use std::marker::Model;
@@ -134,7 +134,7 @@ fn tokens_from(place: usize, bytes: &[u8]) -> Tokens<'_>
         if rest[0].is_ascii_alphabetic() {
             return tokens_from_word(start, rest);
         }
-        match other_piece(start, rest) {
+        match wordless_piece(start, rest) {
             Ok((front, behind)) => {
                 let end = start + (rest.len() - behind.len());
                 let Some(view) = front else {
@@ -196,6 +196,13 @@ impl<'a> Tokens<'a> {
             None => none,
             Some(_) => self.end,
         }
+    }
+
+    /// Passes over the first.
+    pub fn advance(&mut self)
+        ensures { self.new ≡ drop 1 self.old }
+    {
+        *self = tokens_from(self.end, self.behind);
     }
 
     /// Those behind the first.

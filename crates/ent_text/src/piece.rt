@@ -96,6 +96,7 @@ fn text_at(place: usize, bytes: &[u8]) -> Result<(Option<TokenView<'_>>, &[u8]),
     Ok((Some(literal_of(behind, len, rest.len())), rest))
 }
 
+#[inline(always)]
 #[tactic(auto, unfolding(crate::specs::Lexing::symbol_at))]
 fn symbol_at(place: usize, bytes: &[u8]) -> Result<(Option<TokenView<'_>>, &[u8]), TextFault>
     ensures { Sees result (symbol_at place bytes.now) }
@@ -129,6 +130,28 @@ pub(crate) fn behind_piece(place: usize, bytes: &[u8]) -> Result<&[u8], TextFaul
             Ok((_, rest)) => Ok(rest),
             Err(fault) => Err(fault),
         }
+    }
+}
+
+/// The piece at the front where that is no blank and no word, and the bytes behind it. Most are symbols, which are read
+/// at once.
+#[inline(always)]
+#[tactic(auto, unfolding(crate::specs::Lexing::piece_at))]
+pub(crate) fn wordless_piece(
+    place: usize,
+    bytes: &[u8],
+) -> Result<(Option<TokenView<'_>>, &[u8]), TextFault>
+    requires room { place + length bytes.now < 2 ^ 64 }
+    requires nonempty { 0 < length bytes.now }
+    requires visible { is_blank (slice_index bytes.now 0) ≡ false }
+    requires wordless { is_ascii_alphabetic (slice_index bytes.now 0) ≡ false }
+    ensures { Sees result (piece_at place bytes.now) }
+{
+    let first = bytes[0];
+    if first.is_ascii_digit() || first == b'\'' || first == b'@' || first == b'-' {
+        other_piece(place, bytes)
+    } else {
+        symbol_at(place, bytes)
     }
 }
 

@@ -1,11 +1,11 @@
 //! Answers of statements, each in one line.
-use crate::text::Text;
+use crate::text::WrittenText;
 use ent_semantics::{Answer, Fact};
 use ent_value::Row;
 use std::alloc::Global;
 
 /// An answer as a report has it, in one line and without its place.
-pub(crate) fn put_answer(alloc: Global, text: &mut Text, answer: &Answer) {
+pub(crate) fn put_answer(alloc: Global, text: &mut WrittenText, answer: &Answer) {
     match answer {
         Answer::Count(count) => text.put_number("count", *count),
         Answer::Value(value) => {
@@ -24,7 +24,7 @@ pub(crate) fn put_answer(alloc: Global, text: &mut Text, answer: &Answer) {
 }
 
 /// Rows, each behind a blank.
-pub fn put_rows(alloc: Global, text: &mut Text, rows: &[Row]) {
+pub fn put_rows(alloc: Global, text: &mut WrittenText, rows: &[Row]) {
     for row in rows {
         text.put(" ");
         text.put_row(alloc, row);
@@ -32,7 +32,7 @@ pub fn put_rows(alloc: Global, text: &mut Text, rows: &[Row]) {
 }
 
 /// Rows of answer relations, each behind a blank.
-fn put_facts(alloc: Global, text: &mut Text, facts: &[Fact]) {
+fn put_facts(alloc: Global, text: &mut WrittenText, facts: &[Fact]) {
     for fact in facts {
         text.put(" ");
         text.put_name(&fact.relation);
@@ -41,7 +41,7 @@ fn put_facts(alloc: Global, text: &mut Text, facts: &[Fact]) {
 }
 
 /// Answers, each behind a semicolon and a blank.
-pub fn put_answers(alloc: Global, text: &mut Text, answers: &[Answer]) {
+pub fn put_answers(alloc: Global, text: &mut WrittenText, answers: &[Answer]) {
     for answer in answers {
         text.put("; ");
         put_answer(alloc, text, answer);

@@ -4,7 +4,7 @@ ghost use Rattle.ent_protocol.specs.Event.{Event};
 ghost use Rattle.ent_sched.specs.Watching.{TellsOf, heard_of};
 
 use ent_eval::Done;
-use ent_sched::{Core, Reply, Told, Watcher};
+use ent_sched::{Core, MadeEvent, Reply, Watcher};
 
 /// Two watchers, each of which is told all.
 #[derive(Drop)]
@@ -14,20 +14,25 @@ pub struct Both<A, B> {
 }
 
 /// What is told, with the mark of each of two watchers.
-fn parted<A: Watcher, B: Watcher>(told: Told<(A::Mark, B::Mark)>) -> (Told<A::Mark>, Told<B::Mark>)
+fn parted<A: Watcher, B: Watcher>(
+    told: MadeEvent<(A::Mark, B::Mark)>,
+) -> (MadeEvent<A::Mark>, MadeEvent<B::Mark>)
     ensures { (event : Event)
         → TellsOf (λ mark done. A.marks mark.0 done × B.marks mark.1 done) told event
         → TellsOf A.marks result.0 event × TellsOf B.marks result.1 event }
 {
     match told {
-        Told::StartRun => (Told::StartRun, Told::StartRun),
-        Told::Begin(tx) => (Told::Begin(tx), Told::Begin(tx)),
-        Told::Finish((first, second)) => (Told::Finish(first), Told::Finish(second)),
-        Told::Pick => (Told::Pick, Told::Pick),
-        Told::JoinAnswer((first, second)) => (Told::JoinAnswer(first), Told::JoinAnswer(second)),
-        Told::BreakCycle => (Told::BreakCycle, Told::BreakCycle),
-        Told::EndRun => (Told::EndRun, Told::EndRun),
-        Told::Recall => (Told::Recall, Told::Recall),
+        MadeEvent::StartRun => (MadeEvent::StartRun, MadeEvent::StartRun),
+        MadeEvent::Begin(tx) => (MadeEvent::Begin(tx), MadeEvent::Begin(tx)),
+        MadeEvent::Finish((first, second)) => (MadeEvent::Finish(first), MadeEvent::Finish(second)),
+        MadeEvent::Pick => (MadeEvent::Pick, MadeEvent::Pick),
+        MadeEvent::JoinAnswer((first, second)) => (
+            MadeEvent::JoinAnswer(first),
+            MadeEvent::JoinAnswer(second),
+        ),
+        MadeEvent::BreakCycle => (MadeEvent::BreakCycle, MadeEvent::BreakCycle),
+        MadeEvent::EndRun => (MadeEvent::EndRun, MadeEvent::EndRun),
+        MadeEvent::Recall => (MadeEvent::Recall, MadeEvent::Recall),
     }
 }
 
@@ -48,7 +53,7 @@ impl<A: Watcher, B: Watcher> Watcher for Both<A, B> {
         (self.first.mark(done), self.second.mark(done))
     }
 
-    fn tell(&mut self, told: Told<(A::Mark, B::Mark)>, reply: &Reply, core: &Core)
+    fn tell(&mut self, told: MadeEvent<(A::Mark, B::Mark)>, reply: &Reply, core: &Core)
         ensures { (event : Event)
             → TellsOf (λ mark done. A.marks mark.0 done × B.marks mark.1 done) told event
             → A.hears self.old.first (heard_of event (reply_seen reply.now) core.now) self.new.first

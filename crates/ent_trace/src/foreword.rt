@@ -2,7 +2,7 @@
 ghost use Rattle.std.specs.Prelude.{◌≡◌, None};
 
 use ent_eval::Done;
-use ent_sched::{Core, Reply, Told, Watcher};
+use ent_sched::{Core, MadeEvent, Reply, Watcher};
 use std::fmt::Display;
 use std::io::Eprint;
 
@@ -37,7 +37,7 @@ impl<E: Eprint, D: Display + Drop> Watcher for Foreword<'_, E, D> {
 
     fn mark(&self, _done: &Done) {}
 
-    fn tell(&mut self, _told: Told<()>, _reply: &Reply, _core: &Core)
+    fn tell(&mut self, _told: MadeEvent<()>, _reply: &Reply, _core: &Core)
         ensures { self.new.word ≡ None }
     {
         if let Some(word) = self.word.take() {

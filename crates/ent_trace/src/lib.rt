@@ -26,6 +26,6 @@ pub use both::Both;
 pub use foreword::Foreword;
 pub use note_taker::NoteTaker;
 pub use reply::put_reply;
-pub use text::Text;
+pub use text::WrittenText;
 pub use trace::Trace;
 pub use watcher_law::notes_are_of_what_was_told;

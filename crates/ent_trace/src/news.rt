@@ -12,8 +12,8 @@ use ent_sched::Reply;
 
 /// What is told of some transactions.
 #[derive(Drop)]
-pub(crate) struct News<'a> {
-    pub(crate) of: &'a [Tx],
+pub(crate) struct News {
+    pub(crate) of: Members,
     pub(crate) change: Change,
 }
 
@@ -37,54 +37,61 @@ fn held_back(post: &Unsafe) -> LastStatus
 }
 
 /// These transactions have passed a statement.
-fn passes(members: &Members) -> News<'_>
-    ensures of { result.of.now ≡ members.now }
+fn passes(members: Members) -> News
+    ensures of { result.of ≡ members }
     ensures change { result.change ≡ Passes }
 {
     News {
-        of: members.as_slice(),
+        of: members,
         change: Change::Passes,
     }
 }
 
 /// These transactions are told this, the last so far.
-fn stands(members: &Members, last_status: LastStatus) -> News<'_>
-    ensures of { result.of.now ≡ members.now }
+fn stands(members: Members, last_status: LastStatus) -> News
+    ensures of { result.of ≡ members }
     ensures change { result.change ≡ Stands last_status }
 {
     News {
-        of: members.as_slice(),
+        of: members,
         change: Change::Stands(last_status),
     }
 }
 
 /// What a reply tells, to an event of these transactions.
 #[tactic(auto, using(crate::proofs::Hearing::entered_numbered))]
-pub(crate) fn news_of<'a>(own: &'a Members, reply: &'a Reply) -> News<'a>
-    ensures of { result.of.now ≡ (news own.now (reply_seen reply.now)).of }
+pub(crate) fn news_of(own: &Members, reply: &Reply) -> News
+    ensures of { result.of ≡ (news own.now (reply_seen reply.now)).of }
     ensures change { result.change ≡ (news own.now (reply_seen reply.now)).change }
 {
     match reply {
         Reply::Started(members) => News {
-            of: members.as_slice(),
+            of: members.unpacked(),
             change: Change::Starts,
         },
-        Reply::Stepped(_) => passes(own),
-        Reply::Answered => passes(own),
-        Reply::Lent(_) => stands(own, LastStatus::Free),
-        Reply::Blocked(holder) => stands(own, LastStatus::Blocked(*holder)),
-        Reply::HeldBack(post) => stands(own, held_back(post)),
-        Reply::Posted => stands(own, LastStatus::Posted),
-        Reply::NoChoice => stands(own, LastStatus::NoChoice(own.copy())),
-        Reply::Prepared => stands(own, LastStatus::Prepared),
-        Reply::Committed { first: _, members } => stands(members, LastStatus::Committed),
-        Reply::RolledBack(group) => stands(group, LastStatus::RolledBack(first_party(own))),
-        Reply::Failed(failure, group) => {
-            stands(group, LastStatus::Failed(first_party(own), *failure))
+        Reply::Stepped(_) => passes(own.copy()),
+        Reply::Answered => passes(own.copy()),
+        Reply::Lent(_) => stands(own.copy(), LastStatus::Free),
+        Reply::Blocked(holder) => stands(own.copy(), LastStatus::Blocked(*holder)),
+        Reply::HeldBack(post) => stands(own.copy(), held_back(post)),
+        Reply::Posted => stands(own.copy(), LastStatus::Posted),
+        Reply::NoChoice => stands(own.copy(), LastStatus::NoChoice(own.copy())),
+        Reply::Prepared => stands(own.copy(), LastStatus::Prepared),
+        Reply::Committed { first: _, members } => stands(members.unpacked(), LastStatus::Committed),
+        Reply::RolledBack(group) => {
+            stands(group.unpacked(), LastStatus::RolledBack(first_party(own)))
         }
-        Reply::Broken(cycle, group) => stands(group, LastStatus::Broken(cycle.copy())),
+        Reply::Failed(failure, group) => {
+            stands(
+                group.unpacked(),
+                LastStatus::Failed(first_party(own), *failure),
+            )
+        }
+        Reply::Broken(cycle, group) => {
+            stands(group.unpacked(), LastStatus::Broken(cycle.unpacked()))
+        }
         _ => News {
-            of: &[],
+            of: Members::new(),
             change: Change::Passes,
         },
     }

@@ -13,7 +13,7 @@ use ent_eval::{Done, Work};
 use ent_group::{Members, Tx};
 use ent_match::Posted;
 use ent_reasons::{Notes, Observations};
-use ent_sched::{Core, Reply, Told, Watcher};
+use ent_sched::{Core, MadeEvent, Reply, Watcher};
 use std::alloc::Global;
 
 /// Notes what each transaction was told last in its run, and what was seen of it when nothing could be answered.
@@ -76,23 +76,23 @@ fn workers(work: &Work) -> Option<Members>
 }
 
 /// Those whom an event is of; none where they are more than a list of members holds.
-fn parties(told: Told<Option<Members>>) -> Option<Members>
+fn parties(told: MadeEvent<Option<Members>>) -> Option<Members>
     ensures { (event : Event) → TellsOf Marks told event → AreHeld result (parties event) }
 {
     match told {
-        Told::Begin(tx) => Some(Members::of(tx)),
-        Told::Finish(own) => own,
-        Told::JoinAnswer(own) => own,
-        Told::StartRun => Some(Members::new()),
-        Told::Pick => Some(Members::new()),
-        Told::BreakCycle => Some(Members::new()),
-        Told::EndRun => Some(Members::new()),
-        Told::Recall => Some(Members::new()),
+        MadeEvent::Begin(tx) => Some(Members::of(tx)),
+        MadeEvent::Finish(own) => own,
+        MadeEvent::JoinAnswer(own) => own,
+        MadeEvent::StartRun => Some(Members::new()),
+        MadeEvent::Pick => Some(Members::new()),
+        MadeEvent::BreakCycle => Some(Members::new()),
+        MadeEvent::EndRun => Some(Members::new()),
+        MadeEvent::Recall => Some(Members::new()),
     }
 }
 
 /// Notes what an event and its reply tell.
-fn hear(notes: &mut Notes, told: Told<Option<Members>>, reply: &Reply)
+fn hear(notes: &mut Notes, told: MadeEvent<Option<Members>>, reply: &Reply)
     ensures { (event : Event)
         → TellsOf Marks told event
         → IsHeard notes.old (event, reply_seen reply.now) notes.new }
@@ -100,25 +100,25 @@ fn hear(notes: &mut Notes, told: Told<Option<Members>>, reply: &Reply)
     match parties(told) {
         Some(own) => {
             let News { of, change } = news_of(&own, reply);
-            notes.change_each(of, &change);
+            notes.change_each(of.as_slice(), &change);
         }
         None => notes.lose(),
     }
 }
 
 /// Those whose result was handed in; nobody where that is no joint answer.
-fn joined(told: &Told<Option<Members>>) -> Option<&Members> {
+fn joined(told: &MadeEvent<Option<Members>>) -> Option<&Members> {
     match told {
-        Told::JoinAnswer(own) => own.as_ref(),
+        MadeEvent::JoinAnswer(own) => own.as_ref(),
         _ => None,
     }
 }
 
 /// Who made an event; 0, which is none, where it is of nobody.
-fn maker(told: &Told<Option<Members>>) -> Tx {
+fn maker(told: &MadeEvent<Option<Members>>) -> Tx {
     match told {
-        Told::Begin(tx) => *tx,
-        Told::Finish(Some(own)) => first_party(own),
+        MadeEvent::Begin(tx) => *tx,
+        MadeEvent::Finish(Some(own)) => first_party(own),
         _ => 0,
     }
 }
@@ -128,12 +128,12 @@ fn maker(told: &Told<Option<Members>>) -> Tx {
 fn see(
     alloc: Global,
     observations: &mut Observations,
-    told: &Told<Option<Members>>,
+    told: &MadeEvent<Option<Members>>,
     reply: &Reply,
     core: &Core,
 ) {
     match reply {
-        Reply::Started(members) => observations.start(members),
+        Reply::Started(members) => observations.start(&members.unpacked()),
         Reply::Nothing => look(alloc, observations, core),
         Reply::NoChoice => look_at_blocks(alloc, observations, core),
         Reply::Answered => {
@@ -142,10 +142,14 @@ fn see(
             }
             look_at_blocks(alloc, observations, core);
         }
-        Reply::RolledBack(group) | Reply::Failed(_, group) => observations.tie(group, maker(told)),
+        Reply::RolledBack(group) | Reply::Failed(_, group) => {
+            observations.tie(&group.unpacked(), maker(told));
+        }
         Reply::Broken(cycle, group) => {
-            observations.break_deadlock(cycle, group);
-            observations.tie(group, first_party(cycle));
+            let cycle = cycle.unpacked();
+            let group = group.unpacked();
+            observations.break_deadlock(&cycle, &group);
+            observations.tie(&group, first_party(&cycle));
         }
         _ => {}
     }
@@ -167,7 +171,7 @@ impl Watcher for NoteTaker {
         workers(done.job().work())
     }
 
-    fn tell(&mut self, told: Told<Option<Members>>, reply: &Reply, core: &Core)
+    fn tell(&mut self, told: MadeEvent<Option<Members>>, reply: &Reply, core: &Core)
         ensures { (event : Event)
             → TellsOf Marks told event
             → IsHeard self.old.notes (event, reply_seen reply.now) self.new.notes }

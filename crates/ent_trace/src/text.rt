@@ -6,14 +6,14 @@ use std::io::Write;
 
 /// Text that is written piece by piece. Where memory runs out it is marked as cut off.
 #[derive(Drop)]
-pub struct Text {
+pub struct WrittenText {
     bytes: Vec<u8>,
     is_cut_off: bool,
 }
 
-impl Text {
+impl WrittenText {
     pub fn new(alloc: Global) -> Self {
-        Text {
+        WrittenText {
             bytes: Vec::new(alloc),
             is_cut_off: false,
         }
@@ -24,7 +24,7 @@ impl Text {
     }
 
     pub fn into_bytes(self) -> Vec<u8> {
-        let Text { bytes, .. } = self;
+        let WrittenText { bytes, .. } = self;
         bytes
     }
 

@@ -3,9 +3,9 @@ ghost use Rattle.std.specs.Prelude.{◌≡◌};
 
 use crate::event::put_event;
 use crate::reply::put_reply;
-use crate::text::Text;
+use crate::text::WrittenText;
 use ent_eval::Done;
-use ent_sched::{Core, Reply, Told, Watcher};
+use ent_sched::{Core, MadeEvent, Reply, Watcher};
 use std::alloc::Global;
 use std::io::Eprint;
 use std::str;
@@ -19,7 +19,7 @@ const MOST_KEPT: usize = 65_536;
 pub struct Trace<'a, E> {
     alloc: Global,
     to: &'a E,
-    text: Text,
+    text: WrittenText,
     lent: u64,
     has_failed: bool,
 }
@@ -30,7 +30,7 @@ impl<'a, E: Eprint> Trace<'a, E> {
         Trace {
             alloc,
             to,
-            text: Text::new(alloc),
+            text: WrittenText::new(alloc),
             lent: 0,
             has_failed: false,
         }
@@ -72,7 +72,7 @@ impl<E: Eprint> Watcher for Trace<'_, E> {
         self.lent
     }
 
-    fn tell(&mut self, told: Told<u64>, reply: &Reply, _core: &Core)
+    fn tell(&mut self, told: MadeEvent<u64>, reply: &Reply, _core: &Core)
         ensures { self.new.alloc ≡ self.old.alloc }
     {
         put_event(&mut self.text, &told);

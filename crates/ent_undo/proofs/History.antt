@@ -1,11 +1,12 @@
 -- What a log tells of a history of writes.
-use Rattle.std.proofs.Common.{◌≡◌, ℕ, suc, ◌==◌, ◌&&◌, Bool, true, false, cond, not, List, [], ◌∷◌, ◌++◌, filter, refl}
+use Rattle.std.proofs.Common.{◌≡◌, ℕ, ◌==◌, ◌&&◌, Bool, true, false, cond, not, List, [], ◌∷◌, ◌++◌, filter, refl}
 use Rattle.std.proofs.Common.{sym, ap, ◌∙◌, arith, Some}
 use Rattle.std.specs.Prelude.{All, AllPairs}
 use Rattle.std.specs.List.{find}
 use Rattle.std.specs.Option.{option_map_or}
 use Rattle.std.proofs.lemmas.Bool.Decides.{nat_tests}
 use Rattle.std.proofs.lemmas.List.Elements.{All-head, All-tail, filter-append}
+use Rattle.ent_lists.proofs.Lists.{pairs_head, pairs_tail}
 use Rattle.ent_rel.specs.Relation.{Relation}
 use Rattle.ent_undo.specs.Change.{Change, is_among, is_of, is_of_others, of_others, is_change_of, before_first_change}
 use Rattle.ent_undo.specs.Writes.{Tables, Write, after_write, after_writes, change_by, changes_by, writes_of_others}
@@ -14,12 +15,6 @@ use Rattle.ent_undo.specs.Writes.{TellsOnceNoted, TellsOnceForgotten, TellsOnceR
 use Rattle.ent_undo.proofs.Undoing.{before-older, before-other}
 
 -- ---- lists
-
-pairs_head : {X : Type 0} (R : X → X → Type 0) (x : X) (xs : List X) → AllPairs R (x ∷ xs) → All (R x) xs
-pairs_head R x xs all = λ k d lt. all 0 (suc k) d (omega arith) (omega arith)
-
-pairs_tail : {X : Type 0} (R : X → X → Type 0) (x : X) (xs : List X) → AllPairs R (x ∷ xs) → AllPairs R xs
-pairs_tail R x xs all = λ i j d below lt. all (suc i) (suc j) d (omega arith) (omega arith)
 
 -- the first that passes two tests is among those that pass one
 find-filter : {X : Type 0} (p q : X → Bool) (xs : List X)

@@ -8,7 +8,7 @@ use Rattle.std.proofs.lemmas.List.{flat_map_more, take_more, append_assoc}
 use Rattle.ent_value.specs.declared.value.Kind.{Kind}
 use Rattle.ent_value.specs.declared.value.Value.{Value}
 use Rattle.ent_semantics.specs.Entangled.{Valuation}
-use Rattle.ent_unify.specs.declared.unifier.Binding.{Binding}
+use Rattle.ent_unify.specs.declared.unifier.ClassBinding.{ClassBinding}
 use Rattle.ent_unify.specs.declared.variable.Representative.{Representative}
 use Rattle.ent_unify.specs.declared.variable.Representative.TheVariants.{Constant, Variable}
 use Rattle.ent_unify.specs.declared.variable.Variable.{Variable as Variables}
@@ -19,14 +19,15 @@ use Rattle.ent_unify.specs.Unifier.{Agrees}
 use Rattle.ent_unify.proofs.Places.{get_or-map}
 use Rattle.ent_unify.proofs.Solving.{same_variable-self, same_variable-true}
 
-class_first : (b : Binding) (bs : List Binding) (x : Variables) → b.variable ≡ x → class_of (b ∷ bs) x ≡ b.stands
+class_first : (b : ClassBinding) (bs : List ClassBinding) (x : Variables) → b.variable ≡ x
+    → class_of (b ∷ bs) x ≡ b.stands
 class_first b bs x is =
     ap (λ t. cond t b.stands (class_of bs x)) (ap (λ y. same_variable y x) is ∙ same_variable-self x)
 
 -- ---- the bindings of equations
 
 -- one more equation
-pub bindings_more : (stands : Substitution) (G S : List Sides) (i : ℕ) (g s : Sides) (bs mid new : List Binding)
+pub bindings_more : (stands : Substitution) (G S : List Sides) (i : ℕ) (g s : Sides) (bs mid new : List ClassBinding)
     → S ≡ map (resolved_both stands) G → i < length G → g ≡ get_or G i g → s ≡ get_or S i s
     → bs ≡ flat_map (bindings_under stands) (take i G)
     → mid ≡ bs ++ binding_of g.0 s.0 → new ≡ mid ++ binding_of g.1 s.1
@@ -42,32 +43,32 @@ bindings_more stands G S i g s bs mid new put below is_g is_s so_far first secon
     both ∙ (ap (λ xs. xs ++ f g) so_far ∙ (flat_map_more f [] (take i G) g ∙ ap (flat_map f) (sym more)))
 
 -- each binding is of what stands for its variable
-AreOf : Substitution → List Binding → Type 0
+AreOf : Substitution → List ClassBinding → Type 0
 AreOf stands [] = Unit {0}
 AreOf stands (b ∷ bs) = (b.stands ≡ stands b.variable) × AreOf stands bs
 
-OccursIn : Variables → List Binding → Type 0
+OccursIn : Variables → List ClassBinding → Type 0
 OccursIn x [] = ⊥
 OccursIn x (b ∷ bs) = (b.variable ≡ x) ⊎ OccursIn x bs
 
-are_of-append : (stands : Substitution) (bs cs : List Binding) → AreOf stands bs → AreOf stands cs
+are_of-append : (stands : Substitution) (bs cs : List ClassBinding) → AreOf stands bs → AreOf stands cs
     → AreOf stands (bs ++ cs)
 unfolding AreOf
 are_of-append stands [] cs left right = right
 are_of-append stands (b ∷ bs) cs left right = (left.0, are_of-append stands bs cs left.1 right)
 
-occurs-left : (x : Variables) (bs cs : List Binding) → OccursIn x bs → OccursIn x (bs ++ cs)
+occurs-left : (x : Variables) (bs cs : List ClassBinding) → OccursIn x bs → OccursIn x (bs ++ cs)
 unfolding OccursIn
 occurs-left x [] cs here = absurd here
 occurs-left x (b ∷ bs) cs (inl is) = inl is
 occurs-left x (b ∷ bs) cs (inr later) = inr (occurs-left x bs cs later)
 
-occurs-right : (x : Variables) (bs cs : List Binding) → OccursIn x cs → OccursIn x (bs ++ cs)
+occurs-right : (x : Variables) (bs cs : List ClassBinding) → OccursIn x cs → OccursIn x (bs ++ cs)
 unfolding OccursIn
 occurs-right x [] cs here = here
 occurs-right x (b ∷ bs) cs here = inr (occurs-right x bs cs here)
 
-found : (stands : Substitution) (bs : List Binding) (x : Variables) → AreOf stands bs → OccursIn x bs
+found : (stands : Substitution) (bs : List ClassBinding) (x : Variables) → AreOf stands bs → OccursIn x bs
     → class_of bs x ≡ stands x
 unfolding AreOf OccursIn
 found stands [] x are occurs = absurd occurs
@@ -79,7 +80,7 @@ found stands (b ∷ bs) x are (inr later) =
       | inr differs ↦ ap (λ t. cond t b.stands (class_of bs x)) differs ∙ found stands bs x are.1 later
     ]
 
-class_worth : (values : Assignment) (stands : Substitution) (bs : List Binding) (x : Variables) → AreOf stands bs
+class_worth : (values : Assignment) (stands : Substitution) (bs : List ClassBinding) (x : Variables) → AreOf stands bs
     → ((y : Variables) → worth values (stands y) ≡ values y) → worth values (class_of bs x) ≡ values x
 unfolding AreOf
 class_worth values stands [] x are kept = refl
@@ -134,7 +135,7 @@ module _ (stands : Substitution) (x : Variables) where
       occurs-right x (bindings_under stands e) (flat_map (bindings_under stands) es)
       (occurs_right es k d (omega arith) is)
 
-class_side : (stands : Substitution) (bs : List Binding) (s : Representative)
+class_side : (stands : Substitution) (bs : List ClassBinding) (s : Representative)
     → ((x : Variables) → s ≡ Variable x → class_of bs x ≡ stands x) → resolved (class_of bs) s ≡ resolved stands s
 class_side stands bs (Constant value) is = refl
 class_side stands bs (Variable x) is = is x refl
@@ -144,7 +145,7 @@ constant_case : (s : Representative) (values : Assignment) (w : Value) → worth
 constant_case (Constant value) values w is = sym is
 constant_case (Variable x) values w is = tt
 
-pub agrees_from_kept : (K : List (List Kind)) (stands : Substitution) (es : List Sides) (bs : List Binding)
+pub agrees_from_kept : (K : List (List Kind)) (stands : Substitution) (es : List Sides) (bs : List ClassBinding)
     (V : List Valuation) → bs ≡ flat_map (bindings_under stands) es
     → ((x : Variables) → worth (member_value V) (stands x) ≡ member_value V x) → Agrees K bs V
 agrees_from_kept K stands es bs V is kept =
@@ -167,7 +168,7 @@ IsSideOf K (Variable x) = IsVariableOf K x
 abbrev pub AreSidesOf : List (List Kind) → Sides → Type 0
 AreSidesOf K equation = IsSideOf K equation.0 × IsSideOf K equation.1
 
-agree_sides : (K : List (List Kind)) (bs : List Binding) (V : List Valuation) (l r : Representative)
+agree_sides : (K : List (List Kind)) (bs : List ClassBinding) (V : List Valuation) (l r : Representative)
     → IsSideOf K l → IsSideOf K r → resolved (class_of bs) l ≡ resolved (class_of bs) r → Agrees K bs V
     → worth (member_value V) l ≡ worth (member_value V) r
 agree_sides K bs V (Constant c) (Constant d) left right same agrees = cc
@@ -177,7 +178,7 @@ agree_sides K bs V (Variable x) (Constant d) left right same agrees =
     constant_is (class_of bs x) d (member_value V x) same (agrees.constants x left)
 agree_sides K bs V (Variable x) (Variable y) left right same agrees = agrees.classes x y left right same
 
-pub holds_from_agrees : (K : List (List Kind)) (stands : Substitution) (es : List Sides) (bs : List Binding)
+pub holds_from_agrees : (K : List (List Kind)) (stands : Substitution) (es : List Sides) (bs : List ClassBinding)
     (V : List Valuation) → bs ≡ flat_map (bindings_under stands) es
     → ((k : ℕ) (d : Sides) → k < length es → resolved stands (get_or es k d).0 ≡ resolved stands (get_or es k d).1)
     → All (AreSidesOf K) es → Agrees K bs V → All (Holds (member_value V)) es

@@ -13,7 +13,7 @@ use Rattle.ent_semantics.specs.declared.entangled.Term.{Term}
 use Rattle.ent_semantics.specs.declared.entangled.Term.TheVariants as terms
 use Rattle.ent_coordination.specs.Pool.{AreOfKinds}
 use Rattle.ent_unify.specs.declared.tuple.Tuple.{Tuple}
-use Rattle.ent_unify.specs.declared.unifier.Binding.{Binding}
+use Rattle.ent_unify.specs.declared.unifier.ClassBinding.{ClassBinding}
 use Rattle.ent_unify.specs.declared.unifier.MemberAtom.{MemberAtom}
 use Rattle.ent_unify.specs.Side.{Assignment}
 use Rattle.ent_unify.specs.Equation.{Sides, Holds, HasKinds, AreWithinBounds, AreRefuted}
@@ -52,7 +52,7 @@ all_together P f (x ∷ xs) all =
 
 -- ---- the kinds of members
 
-kinds_at : (V : List Valuation) (m : ℕ) → get_or (map kinds_of V) m [] ≡ kinds_of (get_or V m [])
+pub kinds_at : (V : List Valuation) (m : ℕ) → get_or (map kinds_of V) m [] ≡ kinds_of (get_or V m [])
 kinds_at [] m = refl
 kinds_at (values ∷ V) zero = refl
 kinds_at (values ∷ V) (suc m) = kinds_at V m
@@ -174,7 +174,7 @@ reads_valuations values K m =
     subst (Reads values m (get_or K m [])) (sym (valuation_at (values_under values) K m (λ n. refl)))
     (reads_under values m (get_or K m []))
 
-most_general : (K : List (List Kind)) (pairs : List Pair) (es : List Sides) (bs : List Binding)
+most_general : (K : List (List Kind)) (pairs : List Pair) (es : List Sides) (bs : List ClassBinding)
     → AreEquationsOf K pairs es → AreBindingsOf es bs → IsMostGeneral K pairs bs
 most_general K pairs es bs are puts =
     let is = puts.are in
@@ -197,7 +197,7 @@ most_general K pairs es bs are puts =
     }
 
 -- what is found out about the equations of pairs
-pub unified : (K : List (List Kind)) (pairs : List Pair) (es : List Sides) (o : Option (List Binding))
+pub unified : (K : List (List Kind)) (pairs : List Pair) (es : List Sides) (o : Option (List ClassBinding))
     → AreEquationsOf K pairs es
     → MatchOption o (AreRefuted es) (λ bs. AreBindingsOf es bs)
     → MatchOption o (NoneEquals K pairs) (λ bs. IsMostGeneral K pairs bs)

@@ -10,7 +10,7 @@ use Rattle.ent_semantics.specs.Entangled.{Valuation}
 use Rattle.ent_semantics.specs.Term.{no_value}
 use Rattle.ent_semantics.specs.declared.entangled.Atom.{Atom}
 use Rattle.ent_coordination.specs.Pool.{AreOfKinds, fact_under}
-use Rattle.ent_unify.specs.declared.unifier.Binding.{Binding}
+use Rattle.ent_unify.specs.declared.unifier.ClassBinding.{ClassBinding}
 use Rattle.ent_unify.specs.declared.unifier.MemberAtom.{MemberAtom}
 use Rattle.ent_unify.specs.declared.variable.Representative.{Representative}
 use Rattle.ent_unify.specs.declared.variable.Representative.TheVariants.{Constant, Variable}
@@ -46,7 +46,7 @@ NoneEquals kinds pairs =
     (valuations : List Valuation) → AreKinded kinds valuations → All (AreEqual valuations) pairs → ⊥
 
 -- what stands for a variable's class
-abbrev pub class_of : List Binding → Variables → Representative
+abbrev pub class_of : List ClassBinding → Variables → Representative
 class_of [] x = Variable x
 class_of (binding ∷ bindings) x =
     if same_variable binding.variable x then binding.stands else class_of bindings x
@@ -56,7 +56,7 @@ constant_in (Constant value) = Some value
 constant_in (Variable x) = None
 
 -- the value that all of a variable's class must have
-abbrev pub constant_of : List Binding → Variables → Option Value
+abbrev pub constant_of : List ClassBinding → Variables → Option Value
 constant_of bindings x = constant_in (class_of bindings x)
 
 -- the value of a member's variable
@@ -75,15 +75,15 @@ IsVariableOf kinds x = slice_get (slice_index_or kinds x.member []) x.index ≡ 
 
 -- valuations give one value to all of the members' variables that are of one class, and to those of a class with a
 -- constant that one
-pub record Agrees (kinds : List (List Kind)) (bindings : List Binding) (valuations : List Valuation) : Type 0 where
+pub record Agrees (kinds : List (List Kind)) (bindings : List ClassBinding) (valuations : List Valuation) : Type 0 where
   pub classes : (x y : Variables) → IsVariableOf kinds x → IsVariableOf kinds y
       → class_of bindings x ≡ class_of bindings y → member_value valuations x ≡ member_value valuations y
   pub constants : (x : Variables) → IsVariableOf kinds x
       → IfSome (constant_of bindings x) (λ value. member_value valuations x ≡ value)
 
 -- values of the kinds make all pairs equal exactly where they agree with the unifier, and there are such values
-pub record IsMostGeneral (kinds : List (List Kind)) (pairs : List (MemberAtom × MemberAtom)) (bindings : List Binding)
-    : Type 0 where
+pub record IsMostGeneral (kinds : List (List Kind)) (pairs : List (MemberAtom × MemberAtom))
+    (bindings : List ClassBinding) : Type 0 where
   pub exact : (valuations : List Valuation) → AreKinded kinds valuations
       → All (AreEqual valuations) pairs ↔ Agrees kinds bindings valuations
   pub some : List Valuation
@@ -91,11 +91,11 @@ pub record IsMostGeneral (kinds : List (List Kind)) (pairs : List (MemberAtom ×
   pub equal : All (AreEqual some) pairs
 
 -- what is put down for a side
-abbrev pub binding_of : Representative → Representative → List Binding
+abbrev pub binding_of : Representative → Representative → List ClassBinding
 binding_of (Constant value) stands = []
 binding_of (Variable x) stands = record { variable = x; stands = stands } ∷ []
 
-abbrev pub bindings_under : Substitution → Sides → List Binding
+abbrev pub bindings_under : Substitution → Sides → List ClassBinding
 bindings_under stands equation =
     binding_of equation.0 (resolved stands equation.0) ++ binding_of equation.1 (resolved stands equation.1)
 
@@ -119,7 +119,7 @@ pub record AreEquationsOf (kinds : List (List Kind)) (pairs : List (MemberAtom �
   pub bounds : All AreWithinBounds equations
 
 -- the bindings of a solution
-pub record AreBindingsOf (equations : List Sides) (bindings : List Binding) : Type 0 where
+pub record AreBindingsOf (equations : List Sides) (bindings : List ClassBinding) : Type 0 where
   pub stands : Substitution
   pub solves : Solves equations (length equations) stands
   pub are : bindings ≡ flat_map (bindings_under stands) equations

@@ -14,5 +14,5 @@ mod unifier;
 mod variable;
 
 pub use atom::unifies;
-pub use unifier::{Binding, MemberAtom, Unifier, unify};
+pub use unifier::{ClassBinding, MemberAtom, Unifier, unify};
 pub use variable::{Representative, Variable};

@@ -29,7 +29,7 @@ pub struct MemberAtom<'a> {
 
 /// A variable, and what stands for its class.
 #[derive(Drop)]
-pub struct Binding {
+pub struct ClassBinding {
     pub variable: Variable,
     pub stands: Representative,
 }
@@ -37,14 +37,14 @@ pub struct Binding {
 /// The classes of variables that have one value. A variable of which nothing is known is a class of its own.
 #[derive(Drop)]
 pub struct Unifier {
-    bindings: Vec<Binding>,
+    bindings: Vec<ClassBinding>,
 }
 
 impl Model for Unifier {
     ghost use Rattle.std.specs.Prelude.{List};
-    ghost use Rattle.ent_unify.specs.declared.unifier.Binding.{Binding};
+    ghost use Rattle.ent_unify.specs.declared.unifier.ClassBinding.{ClassBinding};
 
-    ghost Value = { List Binding };
+    ghost Value = { List ClassBinding };
 
     ghost view = { λ u. u.bindings.items };
 }
@@ -52,7 +52,7 @@ impl Model for Unifier {
 /// Puts down what stands for a side, where it is a variable.
 fn push_binding(
     alloc: Global,
-    bindings: &mut Vec<Binding>,
+    bindings: &mut Vec<ClassBinding>,
     side: Side<'_>,
     stands: Side<'_>,
 ) -> Result<(), AllocError>
@@ -61,7 +61,7 @@ fn push_binding(
 {
     if let Side::Variable(variable) = side {
         let stands = stands.to_owned(alloc)?;
-        bindings.push(Binding { variable, stands })?;
+        bindings.push(ClassBinding { variable, stands })?;
     }
     Ok(())
 }
@@ -71,7 +71,7 @@ fn bindings_of(
     alloc: Global,
     given: &[Equation<'_>],
     solved: &[Equation<'_>],
-) -> Result<Vec<Binding>, AllocError>
+) -> Result<Vec<ClassBinding>, AllocError>
     requires { length given.now ≡ length solved.now }
     ensures { (stands : Substitution)
         → map seen_equation solved.now ≡ map (resolved_both stands) (map seen_equation given.now)

@@ -2,6 +2,7 @@
 use Rattle.std.proofs.Common.{◌≡◌, ℕ, zero, suc, ◌+◌, ◌==◌, Bool, true, false, cond, List, [], ◌∷◌, map, refl, sym, ap}
 use Rattle.std.proofs.Common.{◌∙◌, arith, inl, inr, Some, slice_get, subst}
 use Rattle.std.specs.List.{range_with_len}
+use Rattle.std.proofs.lemmas.Option.{same_Some}
 use Rattle.ent_tree.specs.declared.script.Script.{Script}
 use Rattle.ent_semantics.specs.declared.answer.Answer.{Answer}
 use Rattle.ent_semantics.specs.declared.book.Entry.{Entry}
@@ -9,13 +10,14 @@ use Rattle.ent_semantics.specs.declared.book.Fate.{Fate}
 use Rattle.ent_semantics.specs.declared.book.Fate.TheVariants as fates
 use Rattle.ent_semantics.specs.declared.book.Fated.{Fated}
 use Rattle.ent_semantics.specs.Book.{HasCommitted, IsEntryOf}
+use Rattle.ent_semantics.proofs.Numbered.{numbered_in}
 use Rattle.ent_book.specs.Report.{entry_answers, fate_answers}
 use Rattle.ent_history.specs.declared.history.Told.{Told}
 use Rattle.ent_history.specs.Told.{commits, entries_of, entry_if, fates_from, has_committed, journal_of, told_fate}
 use Rattle.ent_lists.specs.Elements.{In, in_contains, in_either, in_flat}
+use Rattle.ent_lists.proofs.Numbers.{plus_zero}
 use Rattle.ent_report_laws.specs.Tellable.{AreTransactionsOf}
-use Rattle.ent_verdict.proofs.Kept.{numbered_in}
-use Rattle.ent_verdict.proofs.Fates.{fate_at, same_one}
+use Rattle.ent_verdict.proofs.Fates.{fate_at}
 
 -- ---- the entry of a transaction
 
@@ -41,9 +43,6 @@ its_own number tx (fates.GaveUp runs) answers entry at = absurd at
 its_own number tx (fates.RolledBack runs) answers entry at = absurd at
 its_own number tx (fates.Failed failure runs) answers entry at = absurd at
 
-this_tx : (tx : ℕ) → tx ≡ tx + 0
-this_tx tx = omega arith
-
 later_tx : (tx k : ℕ) → (tx + 1) + k ≡ tx + suc k
 later_tx tx k = omega arith
 
@@ -54,7 +53,7 @@ entry_is_told number tx (one ∷ more) entry at =
     elim (in_either (entry_if number tx one) (entries_of number (tx + 1) more) entry at) [
       | inl here ↦
           let own = its_own number tx one.fate one.answers entry here in
-          record { index = 0; one = one; at = refl; tx = own.0 ∙ this_tx tx; answers = own.1 }
+          record { index = 0; one = one; at = refl; tx = own.0 ∙ plus_zero tx; answers = own.1 }
       | inr behind ↦
           let later = entry_is_told number (tx + 1) more entry behind in
           record {
@@ -87,7 +86,7 @@ module _ (all : List Told) where
       let entry = committed (1 + k) number (runs, in_contains (fates_from 1 all) fated there) in
       let told = journal_is_told entry.0 (numbered_in (journal_of all) number entry.0 entry.1) in
       let index : told.index ≡ k = same_index told.index k (sym told.tx ∙ entry.2) in
-      let same : told.one ≡ one = same_one told.one one (sym told.at ∙ ap (slice_get all) index ∙ at) in
+      let same : told.one ≡ one = same_Some told.one one (sym told.at ∙ ap (slice_get all) index ∙ at) in
       ap entry_answers entry.1 ∙ told.answers ∙ ap (λ (t : Told). t.answers) same
 
 none_told : (scripts : List Script) (all : List Told) → AreTransactionsOf scripts all → (k : ℕ) (one : Told)
@@ -96,7 +95,7 @@ none_told [] [] told k one at is = cc (at)
 none_told [] (first ∷ more) told k one at is = absurd told
 none_told (script ∷ scripts) [] told k one at is = absurd told
 none_told (script ∷ scripts) (first ∷ more) told zero one at is =
-    subst (λ (t : Told). has_committed t.fate ≡ false → t.answers ≡ []) (same_one first one at) told.0.otherwise is
+    subst (λ (t : Told). has_committed t.fate ≡ false → t.answers ≡ []) (same_Some first one at) told.0.otherwise is
 none_told (script ∷ scripts) (first ∷ more) told (suc k) one at is = none_told scripts more told.1 k one at is
 
 -- ---- all transactions

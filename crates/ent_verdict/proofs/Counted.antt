@@ -14,11 +14,10 @@ use Rattle.ent_book.specs.Report.{entry_answers, line}
 use Rattle.ent_book.specs.Report2.{scripts_text}
 use Rattle.ent_history.specs.declared.history.History.{History}
 use Rattle.ent_history.specs.declared.history.Told.{Told}
-use Rattle.ent_history.specs.Lines.{answer_lines, told_lines}
 use Rattle.ent_history.specs.Text.{history_text, joints_text, opening_text, shown_text, transactions_text}
 use Rattle.ent_history.specs.Told.{told_by, told_fate}
 use Rattle.ent_lists.specs.Elements.{In, contains_in, to_all, to_map}
-use Rattle.ent_report_laws.proofs.Lengths.{part_fits, transactions_fit}
+use Rattle.ent_report_laws.proofs.Lengths.{answer_lines, told_lines, part_fits, transactions_fit}
 use Rattle.ent_answer_laws.specs.Answered.{CanBeCounted}
 use Rattle.ent_verdict.proofs.Entries.{index_of}
 

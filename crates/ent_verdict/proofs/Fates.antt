@@ -2,6 +2,7 @@
 use Rattle.std.proofs.Common.{◌≡◌, ℕ, zero, suc, ◌+◌, List, [], ◌∷◌, map, length, refl, sym, ap, ◌∙◌, arith, subst}
 use Rattle.std.proofs.Common.{inl, inr, Some, slice_get}
 use Rattle.std.specs.List.{AllByRecursion, range_with_len}
+use Rattle.std.proofs.lemmas.Option.{same_Some}
 use Rattle.ent_tree.specs.declared.limits.TheConstants.{MOST_RUNS}
 use Rattle.ent_tree.specs.declared.script.Script.{Script}
 use Rattle.ent_semantics.specs.declared.book.Fate.{Fate}
@@ -54,14 +55,11 @@ later_number number k = omega arith
 this_number : (number : ℕ) → number + 0 ≡ number
 this_number number = omega arith
 
-pub same_one : {X : Type 0} (x y : X) → Some x ≡ Some y → x ≡ y
-same_one x y e = cc
-
 pub fate_at : (number : ℕ) (all : List Told) (k : ℕ) (one : Told) → slice_get all k ≡ Some one
     → In (record { tx = number + k; fate = one.fate }) (fates_from number all)
 fate_at number [] k one at = cc (at)
 fate_at number (first ∷ more) zero one at =
-    inl (λ i. record { tx = this_number number i; fate = (sym (same_one first one at) i).fate })
+    inl (λ i. record { tx = this_number number i; fate = (sym (same_Some first one at) i).fate })
 fate_at number (first ∷ more) (suc k) one at =
     inr (subst (λ (tx : ℕ). In (record { tx = tx; fate = one.fate }) (fates_from (number + 1) more))
     (later_number number k) (fate_at (number + 1) more k one at))

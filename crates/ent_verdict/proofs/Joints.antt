@@ -17,9 +17,8 @@ use Rattle.ent_history.specs.Joints.{PlacesRise}
 use Rattle.ent_history.specs.Parts.{IsNumber}
 use Rattle.ent_lists.specs.Elements.{In, Pairs, all_map, contains_in, in_contains, in_flat, index_pairs, of_all, to_all}
 use Rattle.ent_lists.specs.Elements.{to_flat}
-use Rattle.ent_semantics.proofs.Numbered.{numbered_low}
+use Rattle.ent_semantics.proofs.Numbered.{numbered_low, numbered_in}
 use Rattle.ent_report_laws.specs.Tellable.{IsJointTold, IsMemberTold}
-use Rattle.ent_verdict.proofs.Kept.{numbered_in}
 use Rattle.ent_verdict.proofs.Seen.{seen_in}
 
 -- ---- numbers

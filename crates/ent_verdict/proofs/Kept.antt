@@ -1,5 +1,5 @@
 -- The database of a legal book has no rows under names that aren't declared.
-use Rattle.std.proofs.Common.{◌≡◌, ℕ, zero, suc, false, List, [], ◌∷◌, map, refl, sym, ap, subst, ◌∙◌, inl}
+use Rattle.std.proofs.Common.{◌≡◌, false, List, [], ◌∷◌, map, refl, sym, ap, subst, ◌∙◌, inl}
 use Rattle.std.proofs.Common.{inr, Some, None, Result, Ok}
 use Rattle.std.specs.List.{AllByRecursion}
 use Rattle.std.specs.Option.{option_and_then, option_map}
@@ -19,13 +19,14 @@ use Rattle.ent_semantics.specs.Serial.{Operation, Run, Runs, Turn, operations_of
 use Rattle.ent_semantics.specs.Serial.{ran_first, run, script_run, scripts_run}
 use Rattle.ent_semantics.specs.Statement.{statement_meaning}
 use Rattle.ent_semantics.specs.Uses.{KeepsOthers, changes}
+use Rattle.ent_semantics.proofs.Numbered.{numbered_in}
 use Rattle.ent_form.specs.AllFaults.{head_of}
 use Rattle.ent_form.specs.Catalogue.{schemas_of}
 use Rattle.ent_form.specs.Form.{script_in}
 use Rattle.ent_form.specs.OpeningFault.{opening_fault}
 use Rattle.ent_form.specs.ScriptFaults.{script_faults}
 use Rattle.ent_form.specs.declared.script.Plain.{Plain}
-use Rattle.ent_lists.specs.Elements.{In, clash, got_in, in_contains, not_so, of_all, to_map}
+use Rattle.ent_lists.specs.Elements.{In, clash, in_contains, not_so, of_all, to_map}
 use Rattle.ent_report_laws.proofs.Sound.{Laws}
 use Rattle.ent_answer_laws.proofs.Turns.{ended_some, resolves}
 use Rattle.ent_answer_laws.proofs.Walking.{operations_so}
@@ -37,11 +38,6 @@ use Rattle.ent_history.proofs.Tables.{Keeps}
 
 abbrev pub statement_of : Operation → Statement
 statement_of operation = operation.statement
-
--- the operations of a script are its statements
-pub operations_are : (sts : List Statement) (oracle : List Valuation) (operations : List Operation)
-    → operations_of sts oracle ≡ Some operations → map statement_of operations ≡ sts
-operations_are sts oracle operations e = (operations_so sts oracle operations e).0
 
 pub record ScriptRan (declared : List Create) (script : Script) (oracle : List Valuation) (d : Database) (r : Run)
     : Type 0 where
@@ -108,7 +104,7 @@ module _ (keeps : Keeps) (declared : List Create) (name : Name) where
       let ran = script_ran declared script oracle d r e in
       kept_run ran.operations d nothing_bound r ran.runs (λ operation at.
       stay operation.statement
-      (subst (In operation.statement) (operations_are script.statements oracle ran.operations ran.are)
+      (subst (In operation.statement) (operations_so script.statements oracle ran.operations ran.are).0
       (to_map statement_of ran.operations operation at)))
 
   kept_scripts : (turns : List Turn) (d : Database) (all : Runs) → scripts_run declared turns d ≡ Some all
@@ -128,10 +124,6 @@ module _ (keeps : Keeps) (declared : List Create) (name : Name) where
 
 abbrev pub IsFaultless : Opening → Script → Type 0
 IsFaultless opening script = script_faults (schemas_of opening.tables) script ≡ []
-
-pub numbered_in : {X : Type 0} (xs : List X) (n : ℕ) (x : X) → numbered xs n ≡ Some x → In x xs
-numbered_in xs zero x e = cc (e)
-numbered_in xs (suc k) x e = got_in xs k x e
 
 module _ (laws : Laws) (keeps : Keeps) (book : Book Database) (legal : IsLegal book) where
   pub turn_script : (turn : Turn) → In turn legal.turns → numbered book.scripts turn.tx ≡ Some turn.script

@@ -19,6 +19,7 @@ mod Scripts
 mod Sorts
 mod Steps
 mod Runs
+mod ThingLines
 mod Verdicts
 pub mod Fates
 pub mod Committed

@@ -20,6 +20,7 @@ use Rattle.ent_semantics.specs.declared.book.JointAnswer.{JointAnswer}
 use Rattle.ent_semantics.specs.Book.{IsLegal, book_read_views}
 use Rattle.ent_semantics.specs.Database.{Database, Name, opening_database}
 use Rattle.ent_semantics.specs.Serial.{Runs, Turn}
+use Rattle.ent_semantics.proofs.Numbered.{numbered_in}
 use Rattle.ent_book.specs.Report2.{report_2_text}
 use Rattle.ent_form.specs.Catalogue.{schemas_of}
 use Rattle.ent_form.specs.OpeningFault.{declarations_fault, opening_fault}
@@ -45,7 +46,7 @@ use Rattle.ent_verdict.proofs.Bare.{none_placed, opening_bare}
 use Rattle.ent_verdict.proofs.Counted.{entry_counted}
 use Rattle.ent_verdict.proofs.Entries.{AreFrom}
 use Rattle.ent_verdict.proofs.Joints.{Rising, all_grounded}
-use Rattle.ent_verdict.proofs.Kept.{IsFaultless, none_undeclared, numbered_in}
+use Rattle.ent_verdict.proofs.Kept.{IsFaultless, none_undeclared}
 use Rattle.ent_verdict.proofs.Right.{IsReady, can_be_told, told_book}
 use Rattle.ent_verdict.proofs.Tables.{shown_create}
 

@@ -1,6 +1,7 @@
 -- The joint answers that a history tells are told by its book again, where that is legal.
 use Rattle.std.proofs.Common.{◌≡◌, ℕ, zero, suc, List, [], ◌∷◌, map, refl, sym, ap, subst, ◌∙◌, inl, inr, Option, Some}
 use Rattle.std.proofs.Common.{Ok, Result, slice_get}
+use Rattle.std.proofs.lemmas.Option.{same_Some}
 use Rattle.ent_tree.specs.declared.entangled.Entangled.{Entangled as TreeEntangled}
 use Rattle.ent_tree.specs.declared.script.Script.{Script}
 use Rattle.ent_tree.specs.declared.script.Statement.{Statement as TreeStatement}
@@ -16,6 +17,7 @@ use Rattle.ent_semantics.specs.declared.entangled.Entangled.{Entangled}
 use Rattle.ent_semantics.specs.declared.operand.Known.{Known}
 use Rattle.ent_semantics.specs.declared.statement.Statement.{Statement}
 use Rattle.ent_semantics.specs.declared.statement.Statement.TheVariants as forms
+use Rattle.ent_semantics.proofs.Numbered.{numbered_in}
 use Rattle.ent_form.specs.AllFaults.{fault_of, head_of}
 use Rattle.ent_form.specs.Catalogue.{schemas_of}
 use Rattle.ent_form.specs.Form.{script_in, statement_in}
@@ -35,9 +37,7 @@ use Rattle.ent_report_laws.specs.Tellable.{CanBeTold, IsJointTold, IsMemberTold}
 use Rattle.ent_check.proofs.Along.{Resolves, resolved_so}
 use Rattle.ent_answer_laws.proofs.Turns.{resolves}
 use Rattle.ent_answer_laws.proofs.Walking.{entangled_form}
-use Rattle.ent_verdict.proofs.Kept.{numbered_in}
 use Rattle.ent_verdict.proofs.Seen.{seen_in}
-use Rattle.ent_verdict.proofs.Fates.{same_one}
 
 -- ---- the form of an entangled statement
 
@@ -50,7 +50,7 @@ form_at : (schemas : List TableSchema) (bound : Bound) (statements : List TreeSt
 form_at schemas bound [] made resolved k entangled at = cc (at)
 form_at schemas bound (statement ∷ more) [] resolved k entangled at = absurd resolved
 form_at schemas bound (statement ∷ more) (form ∷ made) resolved zero entangled at =
-    let same : statement ≡ trees.Entangled entangled = same_one statement (trees.Entangled entangled) at in
+    let same : statement ≡ trees.Entangled entangled = same_Some statement (trees.Entangled entangled) at in
     let own = entangled_form schemas bound resolved.0 entangled form
     (ap (statement_in schemas bound) (sym same) ∙ resolved.1) in
     (own.0, ap (λ (f : Statement Known). Some f) own.1)

@@ -11,7 +11,9 @@ use Rattle.ent_semantics.specs.Serial.{scripts_read_views, seen, seen_after, see
 use Rattle.ent_semantics.specs.Statement.{statement_meaning}
 use Rattle.ent_history.proofs.Operations.{in_after, seen_one}
 use Rattle.ent_lists.specs.Elements.{In, in_either}
-use Rattle.ent_verdict.proofs.Kept.{operations_are, statement_of}
+use Rattle.ent_lists.proofs.Numbers.{plus_zero, plus_suc}
+use Rattle.ent_answer_laws.proofs.Walking.{operations_so}
+use Rattle.ent_verdict.proofs.Kept.{statement_of}
 
 -- ---- what a statement sees
 
@@ -33,12 +35,6 @@ pub record SeenIn (turns : List Turn) (s : ReadView) : Type 0 where
   pub own : s.tx ≡ turn.tx
   pub there : numbered turn.script.statements s.place ≡ Some (statements.Entangled s.entangled)
 
-this_place : (place : ℕ) → place ≡ place + 0
-this_place place = omega arith
-
-later_place : (place k : ℕ) → suc place + k ≡ place + suc k
-later_place place k = omega arith
-
 module _ (declared : List Create) where
   seen_at : (tx place : ℕ) (operations : List Operation) (d : Database) (v : Environment) (s : ReadView)
       → In s (read_views declared tx place operations d v) → SeenAt tx place operations s
@@ -52,7 +48,7 @@ module _ (declared : List Create) where
             record {
               own = one.own;
               before = 0;
-              here = one.here ∙ this_place place;
+              here = one.here ∙ plus_zero place;
               there = ap (λ x. Some x) one.is;
             }
         | inr later ↦
@@ -61,7 +57,7 @@ module _ (declared : List Create) where
             record {
               own = r.own;
               before = suc r.before;
-              here = r.here ∙ later_place place r.before;
+              here = r.here ∙ plus_suc place r.before;
               there = r.there;
             }
       ]
@@ -91,7 +87,7 @@ module _ (declared : List Create) where
         one.own,
         ap (numbered turn.script.statements) (one.here ∙ n)
             ∙ ap (λ (sts : List Statement). slice_get sts one.before)
-            (sym (operations_are turn.script.statements turn.oracle x.0 x.1))
+            (sym (operations_so turn.script.statements turn.oracle x.0 x.1).0)
             ∙ one.there,
       )
 

@@ -29,7 +29,7 @@ pub use right_law::{
 };
 pub use unambiguous_law::{
     texts_have_one_verdict, texts_stop_at_one_line, texts_tell_of_one_history,
-    told_texts_have_no_form_fault, told_texts_of_characters_are_reports,
+    things_stand_at_one_line, told_texts_have_no_form_fault, told_texts_of_characters_are_reports,
 };
 pub use verdict_law::{
     books_of_told_histories_are_told, reports_tell_books_apart,

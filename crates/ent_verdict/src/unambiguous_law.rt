@@ -6,6 +6,8 @@ ghost use Rattle.ent_check_report.specs.declared.verdict.Verdict.{Verdict};
 ghost use Rattle.ent_history.specs.declared.history.History.{History};
 ghost use Rattle.ent_history.specs.Fault.{HasFormFault, IsNoReport};
 ghost use Rattle.ent_history.specs.Stands.{Tells};
+ghost use Rattle.ent_history.specs.declared.finding.Thing.{Thing};
+ghost use Rattle.ent_report_reader.specs.Located.{StandsAt};
 
 use ent_report_lines::{
     heads_are_read_as_written, joints_are_read_as_written, openings_are_read_as_written,
@@ -55,6 +57,18 @@ pub fn texts_stop_at_one_line()
     joints_are_read_as_written();
 }
 
+/// A thing stands at one line of a text only.
+pub fn things_stand_at_one_line()
+    ensures { (text : List ℕ) (thing : Thing) (one other : ℕ)
+        → StandsAt text thing one → StandsAt text thing other → one ≡ other }
+{
+    printed_text_is_itself();
+    transactions_are_read_as_written();
+    openings_are_read_as_written();
+    heads_are_read_as_written();
+    joints_are_read_as_written();
+}
+
 /// A text has one verdict only.
 pub fn texts_have_one_verdict()
     ensures { (text : List ℕ) (one other : Verdict) → IsVerdict text one → IsVerdict text other → one ≡ other }
@@ -62,4 +76,5 @@ pub fn texts_have_one_verdict()
     texts_tell_of_one_history();
     told_texts_of_characters_are_reports();
     texts_stop_at_one_line();
+    things_stand_at_one_line();
 }

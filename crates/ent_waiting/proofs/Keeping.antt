@@ -4,7 +4,7 @@ use Rattle.std.proofs.Common.{Option, Some, None, map, length, nat_eq, arith, in
 use Rattle.std.proofs.lemmas.Bool.{cases_Bool}
 use Rattle.std.specs.List.{IsDistinct}
 use Rattle.std.specs.Map.{lookup, remove_entry, set_value}
-use Rattle.std.proofs.Common.{IsSome, OnErr, OnOk, Result, Ok, Err, ◌==◌, not, ◌&&◌, ◌||◌}
+use Rattle.std.proofs.Common.{OnErr, OnOk, Result, Ok, Err, ◌==◌, not, ◌&&◌, ◌||◌}
 use Rattle.std.proofs.lemmas.Bool.{eqb-true}
 use Rattle.ent_waiting.proofs.Endings.{ends_once, few_kept, told_beside}
 use Rattle.std.specs.BTreeMap.{is_at}
@@ -19,8 +19,8 @@ use Rattle.ent_waiting.specs.declared.queues.Rank.TheVariants.{Newcomer, Ordinar
 use Rattle.ent_waiting.specs.declared.queues.Station.{Station}
 use Rattle.ent_waiting.specs.declared.queues.Station.TheVariants.{Batch, Queue}
 use Rattle.ent_waiting.specs.Waiter.{is_idle}
-use Rattle.ent_waiting.specs.declared.waiter.Place.{Place}
-use Rattle.ent_waiting.specs.declared.waiter.Place.TheVariants.{Chosen, Queued, Resting, Submitted}
+use Rattle.ent_waiting.specs.declared.waiter.WaitingPlace.{WaitingPlace}
+use Rattle.ent_waiting.specs.declared.waiter.WaitingPlace.TheVariants.{Chosen, Queued, Resting, Submitted}
 use Rattle.ent_waiting.specs.declared.waiter.Submission.{Submission}
 use Rattle.ent_waiting.specs.declared.waiter.Waiter.{Waiter}
 use Rattle.std.specs.Option.{option_map}
@@ -59,7 +59,7 @@ queued_at old new first last ticket value queued updates made = λ station t.
 
 -- ---- who stands where
 
-pub placed : (found : Option Waiter) (place : Place) → option_map (λ waiter. waiter.place) found ≡ Some place
+pub placed : (found : Option Waiter) (place : WaitingPlace) → option_map (λ waiter. waiter.place) found ≡ Some place
     → (waiter : Waiter) × (found ≡ Some waiter) × (waiter.place ≡ place)
 placed (Some waiter) place e = (waiter, refl, cc)
 placed None place e = absurd cc
@@ -79,7 +79,7 @@ pub at : (ticket t : ℕ) → is_at (nat_cmp ticket) t ≡ true → ticket ≡ t
 at ticket t e = grind (arith, common_steps)
 
 -- where one ticket has another script, what the look-up of a ticket finds was there, or is that one
-either : (here : Bool) (value found : Option Waiter) (waiter : Waiter) → cond here value found ≡ Some waiter
+pub either : (here : Bool) (value found : Option Waiter) (waiter : Waiter) → cond here value found ≡ Some waiter
     → ((here ≡ true) × (value ≡ Some waiter)) ⊎ ((here ≡ false) × (found ≡ Some waiter))
 either true value found waiter e = inl (refl, e)
 either false value found waiter e = inr (refl, e)
@@ -277,10 +277,6 @@ pub oks : {T E P : Type 0} (r : Result T E) → P → OnOk r P
 oks (Ok x) p = p
 oks (Err e) p = tt
 
-pub some_of : {X : Type 0} (o : Option X) → IsSome o → (x : X) × (o ≡ Some x)
-some_of (Some x) h = (x, refl)
-some_of None h = absurd cc
-
 -- ---- queues that are left
 
 and_not : (b : Bool) → (not b && b) ≡ false
@@ -288,7 +284,8 @@ and_not true = refl
 and_not false = refl
 
 -- who leaves the queue of its place is in none
-pub in_none : (first last : Queues) (ticket : ℕ) (place : Place) → ((station : Station) → has station first ticket ≡ stands_in station place)
+pub in_none : (first last : Queues) (ticket : ℕ) (place : WaitingPlace)
+    → ((station : Station) → has station first ticket ≡ stands_in station place)
     → MakesAt ticket (λ station. not (stands_in station place) && has station first ticket) first last
     → MakesAt ticket (λ station. false) first last
 in_none first last ticket place there made = λ station t.
@@ -341,7 +338,7 @@ same_rank_is Woken Ordinary e = absurd cc
 same_rank_is Woken Newcomer e = absurd cc
 same_rank_is Woken Woken e = refl
 
-pub are_apart : (station : Station) (from to : Place) → (from ≡ to → ⊥) → (is_idle from || is_idle to) ≡ true
+pub are_apart : (station : Station) (from to : WaitingPlace) → (from ≡ to → ⊥) → (is_idle from || is_idle to) ≡ true
     → stands_in station from ≡ true → stands_in station to ≡ true → ⊥
 are_apart (Queue rank) (Queued own) (Queued other) differ idle one two =
     differ (ap (λ (r : Rank). Queued r) (same_rank_is own rank one ∙ sym (same_rank_is other rank two)))
@@ -362,7 +359,7 @@ are_apart Batch (Submitted s) (Queued own) differ idle one two = absurd cc
 are_apart Batch (Submitted s) Chosen differ idle one two = absurd cc
 are_apart Batch (Submitted s) (Submitted t) differ idle one two = absurd cc
 
-pub are_same : (station : Station) (from to : Place) → is_idle from ≡ false → is_idle to ≡ false
+pub are_same : (station : Station) (from to : WaitingPlace) → is_idle from ≡ false → is_idle to ≡ false
     → stands_in station from ≡ stands_in station to
 are_same station Resting to one two = absurd cc
 are_same station (Queued own) to one two = absurd cc
@@ -383,7 +380,7 @@ shifted true true never = absurd (never refl refl)
 shifted true false never = refl
 shifted false to never = or_false to
 
-pub shifts : (first middle last : Queues) (ticket : ℕ) (from to : Place)
+pub shifts : (first middle last : Queues) (ticket : ℕ) (from to : WaitingPlace)
     → ((station : Station) → stands_in station from ≡ true → stands_in station to ≡ true → ⊥)
     → ((station : Station) → has station first ticket ≡ stands_in station from)
     → MakesAt ticket (λ station. stands_in station to || has station first ticket) first middle
@@ -409,7 +406,7 @@ stays_at : (b : Bool) (station : Station) (value : Bool) (queues : Queues) (tick
 stays_at true station value queues ticket t e is = ap (has station queues) (sym (at ticket t e)) ∙ is
 stays_at false station value queues ticket t e is = refl
 
-pub stays : (queues : Queues) (ticket : ℕ) (from to : Place)
+pub stays : (queues : Queues) (ticket : ℕ) (from to : WaitingPlace)
     → ((station : Station) → stands_in station from ≡ stands_in station to)
     → ((station : Station) → has station queues ticket ≡ stands_in station from)
     → MakesAt ticket (λ station. stands_in station to) queues queues

@@ -7,22 +7,17 @@ use Rattle.std.specs.List.{AllByRecursion}
 use Rattle.std.specs.Map.{lookup, remove_entry, set_value}
 use Rattle.std.specs.Ordering.{match_ordering, nat_cmp}
 use Rattle.std.specs.declared.cmp.Ordering.{Ordering}
-use Rattle.std.specs.declared.cmp.Ordering.TheVariants.{Greater}
 use Rattle.ent_lists.specs.Elements.{Pairs, of_all, of_map, filter_whole, map_joined, other_number, number_itself}
+use Rattle.ent_lists.proofs.Numbers.{cmp_above}
 use Rattle.ent_waiting.specs.WaitingList.{WaitingList, admitted, changed, ending_as, waiter_of}
 use Rattle.ent_waiting.specs.declared.ended.Ending.{Ending}
 use Rattle.ent_waiting.specs.declared.waiter.Waiter.{Waiter as Entry}
 use Rattle.ent_waiting.specs.Room.{StandByTicket, IsBefore, IsBelow, WasPut, waiter_at, waiting_in, was_put}
 use Rattle.ent_waiting.specs.Store.{Waiter}
 use Rattle.ent_waiting.specs.World.{without}
+use Rattle.ent_waiting.proofs.Keeping.{at}
 
 -- ---- numbers
-
-above : (k n : ℕ) → n < k → nat_cmp k n ≡ Greater
-above k n low = grind (arith, common_steps)
-
-at_itself : (k n : ℕ) → is_at (nat_cmp k) n ≡ true → k ≡ n
-at_itself k n e = grind (arith, common_steps)
 
 at_other : (k n : ℕ) → is_at (nat_cmp k) n ≡ false → n ≡ k → ⊥
 at_other k n e = grind (arith, common_steps)
@@ -34,7 +29,7 @@ behind : (es : List (ℕ × Entry)) (k : ℕ) (v : Entry) → AllByRecursion (Is
 behind [] k v all = refl
 behind (e ∷ es) k v all =
     ap (λ (o : Ordering). match_ordering o ((k, v) ∷ e ∷ es) ((e.0, v) ∷ es) (e ∷ insert_entry nat_cmp es k v))
-    (above k e.0 all.0)
+    (cmp_above k e.0 all.0)
     ∙ ap (λ (more : List (ℕ × Entry)). e ∷ more) (behind es k v all.1)
 
 pub one_more : (list : WaitingList) (entry : Entry) → StandByTicket list
@@ -53,8 +48,8 @@ removed k [] ascend = refl
 removed k (e ∷ es) ascend = by (is_at (nat_cmp k) e.0) refl (removed k es ascend.1)
   where
     others : k ≡ e.0 → without k (map waiter_at es) ≡ map waiter_at es
-    others same = filter_whole (stays k) (map waiter_at es) (λ w at.
-        let r = of_map waiter_at es w at in
+    others same = filter_whole (stays k) (map waiter_at es) (λ w there.
+        let r = of_map waiter_at es w there in
         let low : e.0 < r.0.0 = of_all (IsBefore e) es r.0 ascend.0 r.1 in
         let is : w.ticket ≡ r.0.0 = ap (λ (v : Waiter WasPut). v.ticket) r.2 in
         ap not (other_number w.ticket k (λ here. absurd (omega (arith, low, is, here, same)))))
@@ -64,7 +59,7 @@ removed k (e ∷ es) ascend = by (is_at (nat_cmp k) e.0) refl (removed k es asce
         → map waiter_at (cond b es (e ∷ remove_entry (is_at (nat_cmp k)) es))
         ≡ cond (not (e.0 == k)) (waiter_at e ∷ without k (map waiter_at es)) (without k (map waiter_at es))
     by true is rest =
-        let same = at_itself k e.0 is in
+        let same = at k e.0 is in
         sym (others same)
         ∙ sym (ap (λ b. cond (not b) (waiter_at e ∷ without k (map waiter_at es)) (without k (map waiter_at es)))
         (ap (λ (n : ℕ). n == k) (sym same) ∙ number_itself k))

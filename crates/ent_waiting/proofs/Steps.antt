@@ -1,6 +1,7 @@
 -- Each step keeps what holds.
 use Rattle.std.proofs.Common.{◌≡◌, ◌⊎◌, ◌≤◌, ◌+◌, ℕ, ◌==◌, Bool, true, false, cond, List, [], ◌∷◌, ◌++◌}
 use Rattle.std.proofs.Common.{refl, sym, ap, subst, ◌∙◌, inl, inr, arith, Option, Some, None}
+use Rattle.std.proofs.lemmas.Option.{same_Some}
 use Rattle.ent_lists.specs.Elements.{In, in_either, in_first, in_second, all_by, same_number, differ, number_itself}
 use Rattle.ent_waiting.specs.Store.{Write, Version, Fits, version, claimed}
 use Rattle.ent_waiting.specs.Step.{Step, load, crash, look, put, end, commit, send, arrive, acknowledge, fence}
@@ -25,9 +26,6 @@ found new f claim other x is = by (other == claim) refl is
     by true e is = inl (same_number other claim e, is)
     by false e is = inr (differ other claim e, is)
 
-only : {X : Type 0} (x y : X) → Some x ≡ Some y → x ≡ y
-only x y e = cc
-
 -- an element behind the others
 last_in : {X : Type 0} (xs : List X) (x y : X) → In y (xs ++ x ∷ []) → In y xs ⊎ (y ≡ x)
 last_in xs x y at = elim (in_either xs (x ∷ []) y at) [
@@ -44,7 +42,7 @@ module _ {T C S E : Type 0} (changed : C → T → T) (first : T) where
     renewed claim new right other own is = elim (found (Some new) old.claimants claim other own is) [
       | inl here ↦
           subst (λ (c : ℕ). Right changed old.store old.sent old.versions old.history c own) (sym here.0)
-          (subst (Right changed old.store old.sent old.versions old.history claim) (only new own here.1) right)
+          (subst (Right changed old.store old.sent old.versions old.history claim) (same_Some new own here.1) right)
       | inr there ↦ kept.right other own there.1
     ]
 
@@ -96,7 +94,7 @@ module _ {T C S E : Type 0} (changed : C → T → T) (first : T) where
               elim (found (Some (begun (claimed old.store))) old.claimants (old.store.claim + 1) claim own is) [
                 | inl here ↦
                     subst (Right changed (claimed old.store) old.sent _ old.history claim)
-                    (only (begun (claimed old.store)) own here.1) (newly claim here.0)
+                    (same_Some (begun (claimed old.store)) own here.1) (newly claim here.0)
                 | inr there ↦ others claim own there.0 (kept.right claim own there.1)
               ];
         }
@@ -376,7 +374,7 @@ module _ {T C S E : Type 0} (changed : C → T → T) (first : T) where
       sent_by other one there write same e =
           let here : claim ≡ other = sym (ap (λ (w : Write C S E). w.claim) same) ∙ e in
           let own_is : own ≡ one =
-          only own one (sym is ∙ ap old.claimants here ∙ there) in
+          same_Some own one (sym is ∙ ap old.claimants here ∙ there) in
           subst (λ (c : ℕ). Sent c one write) here
           (subst (λ (o : Claimant T C S E). Sent claim o write) own_is
           (subst (Sent claim own) (sym same) (record { number = omega arith; busy = λ n. busy; is = λ n. refl })))

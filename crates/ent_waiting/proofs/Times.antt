@@ -3,19 +3,7 @@ use Rattle.std.proofs.Common.{◌≡◌, ◌≤◌, ◌+◌, ℕ, suc, Bool, tru
 use Rattle.std.proofs.Common.{refl, sym, ap, ◌∙◌, inl, inr, arith}
 use Rattle.std.specs.List.{filter}
 use Rattle.ent_lists.specs.Elements.{In, same_number, number_itself, other_number}
-
--- one more where the test holds
-abbrev pub one_if : Bool → ℕ → ℕ
-one_if true k = suc k
-one_if false k = k
-
-one_added : (b : Bool) (j k : ℕ) → one_if b (j + k) ≡ one_if b j + k
-one_added true j k = omega arith
-one_added false j k = refl
-
-one_more : (b : Bool) (k : ℕ) → k ≤ one_if b k
-one_more true k = omega arith
-one_more false k = omega arith
+use Rattle.ent_lists.proofs.Numbers.{one_added, one_more, one_if}
 
 module _ {X : Type 0} (key : X → ℕ) (n : ℕ) where
   abbrev pub times : List X → ℕ

@@ -4,8 +4,8 @@ use Rattle.std.specs.Ordering.{nat_cmp}
 use Rattle.std.specs.BTreeMap.{is_at}
 use Rattle.std.specs.BTreeSet.{contains}
 use Rattle.ent_waiting.specs.declared.queues.Queues.{Queues}
-use Rattle.ent_waiting.specs.declared.waiter.Place.{Place}
-use Rattle.ent_waiting.specs.declared.waiter.Place.TheVariants.{Chosen, Queued, Submitted}
+use Rattle.ent_waiting.specs.declared.waiter.WaitingPlace.{WaitingPlace}
+use Rattle.ent_waiting.specs.declared.waiter.WaitingPlace.TheVariants.{Chosen, Queued, Submitted}
 use Rattle.ent_waiting.specs.declared.queues.Rank.{Rank}
 use Rattle.ent_waiting.specs.declared.queues.Rank.TheVariants.{Ordinary, Newcomer, Woken}
 use Rattle.ent_waiting.specs.declared.queues.Station.{Station}
@@ -23,7 +23,7 @@ same_station Batch Batch = true
 same_station one other = false
 
 -- a place is at a station: in a queue, or in the batch
-abbrev pub stands_in : Station → Place → Bool
+abbrev pub stands_in : Station → WaitingPlace → Bool
 stands_in (Queue rank) (Queued own) = same_rank own rank
 stands_in Batch Chosen = true
 stands_in Batch (Submitted submission) = true

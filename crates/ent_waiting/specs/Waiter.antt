@@ -2,8 +2,8 @@
 use Rattle.std.specs.Prelude.{ℕ, List, [], ◌∷◌, ◌++◌, ◌+◌, ◌-◌, ◌^◌, Bool, true, false, nat_le, min}
 use Rattle.ent_tree.specs.declared.script.Script.{Script}
 use Rattle.ent_waiting.specs.declared.queues.Rank.{Rank}
-use Rattle.ent_waiting.specs.declared.waiter.Place.{Place}
-use Rattle.ent_waiting.specs.declared.waiter.Place.TheVariants.{Resting, Queued, Chosen, Submitted}
+use Rattle.ent_waiting.specs.declared.waiter.WaitingPlace.{WaitingPlace}
+use Rattle.ent_waiting.specs.declared.waiter.WaitingPlace.TheVariants.{Resting, Queued, Chosen, Submitted}
 use Rattle.ent_waiting.specs.declared.waiter.Submission.{Submission}
 use Rattle.ent_waiting.specs.declared.waiter.Waiter.{Waiter}
 use Rattle.ent_waiting.specs.declared.waiter.Patience.{Patience}
@@ -32,7 +32,7 @@ with_batch true batches = min (batches + 1) (2 ^ 64 - 1)
 with_batch false batches = batches
 
 -- in no batch
-abbrev pub is_idle : Place → Bool
+abbrev pub is_idle : WaitingPlace → Bool
 is_idle Resting = true
 is_idle (Queued rank) = true
 is_idle Chosen = false
@@ -41,7 +41,7 @@ is_idle (Submitted submission) = false
 -- ---- after a batch
 
 -- the transactions that a script became, with that of its place
-abbrev pub noted : Place → List Submission → List Submission
+abbrev pub noted : WaitingPlace → List Submission → List Submission
 noted (Submitted submission) submissions = submissions ++ submission ∷ []
 noted other submissions = submissions
 

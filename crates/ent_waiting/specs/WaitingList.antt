@@ -14,8 +14,8 @@ use Rattle.ent_waiting.specs.declared.ended.Ending.TheVariants.{GaveUp}
 use Rattle.ent_waiting.specs.declared.queues.Queues.{Queues}
 use Rattle.ent_waiting.specs.declared.queues.Rank.{Rank}
 use Rattle.ent_waiting.specs.declared.queues.Station.{Station}
-use Rattle.ent_waiting.specs.declared.waiter.Place.{Place}
-use Rattle.ent_waiting.specs.declared.waiter.Place.TheVariants.{Submitted}
+use Rattle.ent_waiting.specs.declared.waiter.WaitingPlace.{WaitingPlace}
+use Rattle.ent_waiting.specs.declared.waiter.WaitingPlace.TheVariants.{Submitted}
 use Rattle.ent_waiting.specs.declared.waiter.Submission.{Submission}
 use Rattle.ent_waiting.specs.declared.waiter.Waiter.{Waiter}
 
@@ -77,12 +77,12 @@ waits_idle None = false
 waits_idle (Some waiter) = is_idle waiter.place
 
 -- who is in no batch comes to another place; nobody else changes
-abbrev pub moved_with : Option Waiter → ℕ → Place → WaitingList → WaitingList
+abbrev pub moved_with : Option Waiter → ℕ → WaitingPlace → WaitingList → WaitingList
 moved_with None ticket place list = list
 moved_with (Some waiter) ticket place list =
     if is_idle waiter.place then changed ticket (record waiter { place = place }) list else list
 
-abbrev pub moved : ℕ → Place → WaitingList → WaitingList
+abbrev pub moved : ℕ → WaitingPlace → WaitingList → WaitingList
 moved ticket place list = moved_with (waiter_of list ticket) ticket place list
 
 -- how a script of a ticket ended, after one batch more that counts or doesn't
@@ -122,7 +122,7 @@ UpdatesAt ticket waiter old new = (t : ℕ) → lookup (is_at (nat_cmp t)) new
 -- ---- who stands where
 
 -- the script of a ticket waits at this place
-pub record StandsAt (list : WaitingList) (ticket : ℕ) (place : Place) : Type 0 where
+pub record StandsAt (list : WaitingList) (ticket : ℕ) (place : WaitingPlace) : Type 0 where
   pub waiter : Waiter
   pub waits : waiter_of list ticket ≡ Some waiter
   pub place_is : waiter.place ≡ place

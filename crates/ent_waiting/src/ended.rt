@@ -43,7 +43,7 @@ pub(crate) fn ended_of(ended: &VecDeque<Ended>, ticket: u64) -> Option<&Ended>
     ended.iter().find(|one| one.ticket.number() == ticket)
 }
 
-/// Who ended last but so many others, where that is kept.
+/// An ended ticket, counted back from the last one, which is number 0; None if it isn't kept.
 pub(crate) fn last_but(ended: &VecDeque<Ended>, back: usize) -> Option<&Ended>
     ensures { option_copied result ≡ last_but back ended.now.items }
 {
@@ -52,7 +52,7 @@ pub(crate) fn last_but(ended: &VecDeque<Ended>, back: usize) -> Option<&Ended>
     ended.get(place)
 }
 
-/// Keeps one more that ended, of which the last so many are kept.
+/// Adds an ended ticket, and drops the oldest beyond `most`.
 pub(crate) fn keep(ended: &mut VecDeque<Ended>, most: usize, one: Ended)
     requires limit { length ended.old.items ≤ most }
     requires room { deque_len ended.old < deque_capacity ended.old }

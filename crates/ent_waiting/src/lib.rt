@@ -28,5 +28,5 @@ pub use store_law::{
     writes_are_ordered,
 };
 pub use ticket::Ticket;
-pub use waiter::{Patience, Place, Submission, Waiter};
+pub use waiter::{Patience, Submission, Waiter, WaitingPlace};
 pub use waiting_list::{Full, Limits, NotRestored, NotWithdrawn, WaitingList};

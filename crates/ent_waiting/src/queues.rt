@@ -5,7 +5,7 @@ ghost use Rattle.std.specs.Ordering.{nat_cmp};
 ghost use Rattle.ent_waiting.specs.declared.queues.Station.{Station as StationSeen};
 ghost use Rattle.ent_waiting.specs.Queues.{IsEmpty, MakesAt, Puts, SameQueues, has, stands_in};
 
-use crate::waiter::Place;
+use crate::waiter::WaitingPlace;
 use std::alloc::{AllocError, Global};
 use std::collections::BTreeSet;
 
@@ -77,33 +77,33 @@ pub(crate) fn leave(queues: &mut Queues, station: Station, ticket: u64)
 }
 
 /// A ticket comes to the station of a place, where it has one. Where memory runs out nothing changes.
-pub(crate) fn enter(queues: &mut Queues, place: Place, ticket: u64) -> Result<(), AllocError>
+pub(crate) fn enter(queues: &mut Queues, place: WaitingPlace, ticket: u64) -> Result<(), AllocError>
     ensures ok { OnOk result (MakesAt ticket (λ station. stands_in station place || has station queues.old ticket)
         queues.old queues.new) }
     ensures err { OnErr result (SameQueues queues.old queues.new) }
 {
     match place {
-        Place::Queued(rank) => join(queues, Station::Queue(rank), ticket),
-        Place::Chosen | Place::Submitted(_) => join(queues, Station::Batch, ticket),
-        Place::Resting => Ok(()),
+        WaitingPlace::Queued(rank) => join(queues, Station::Queue(rank), ticket),
+        WaitingPlace::Chosen | WaitingPlace::Submitted(_) => join(queues, Station::Batch, ticket),
+        WaitingPlace::Resting => Ok(()),
     }
 }
 
 /// A ticket leaves the station of a place, where it has one.
-pub(crate) fn quit(queues: &mut Queues, place: Place, ticket: u64)
+pub(crate) fn quit(queues: &mut Queues, place: WaitingPlace, ticket: u64)
     ensures { MakesAt ticket (λ station. not (stands_in station place) && has station queues.old ticket)
         queues.old queues.new }
 {
     match place {
-        Place::Queued(rank) => leave(queues, Station::Queue(rank), ticket),
-        Place::Chosen | Place::Submitted(_) => leave(queues, Station::Batch, ticket),
-        Place::Resting => {}
+        WaitingPlace::Queued(rank) => leave(queues, Station::Queue(rank), ticket),
+        WaitingPlace::Chosen | WaitingPlace::Submitted(_) => leave(queues, Station::Batch, ticket),
+        WaitingPlace::Resting => {}
     }
 }
 
 /// Whether two places are at different stations, or one of them is at none.
 #[tactic(auto, using(crate::proofs::Keeping::are_apart, crate::proofs::Keeping::are_same))]
-fn are_apart(from: Place, to: Place) -> bool
+fn are_apart(from: WaitingPlace, to: WaitingPlace) -> bool
     ensures apart { result ≡ true
         → (station : StationSeen) → stands_in station from ≡ true → stands_in station to ≡ true → ⊥ }
     ensures same { result ≡ false → (station : StationSeen) → stands_in station from ≡ stands_in station to }
@@ -115,8 +115,8 @@ fn are_apart(from: Place, to: Place) -> bool
 #[tactic(auto, using(crate::proofs::Keeping::stays))]
 pub(crate) fn shift(
     queues: &mut Queues,
-    from: Place,
-    to: Place,
+    from: WaitingPlace,
+    to: WaitingPlace,
     ticket: u64,
 ) -> Result<(), AllocError>
     requires there { (station : StationSeen) → has station queues.old ticket ≡ stands_in station from }

@@ -25,7 +25,7 @@ pub struct Submission {
 
 /// Where a script waits.
 #[derive(Clone, Copy, Debug, PartialEq, Eq)]
-pub enum Place {
+pub enum WaitingPlace {
     /// In no queue: nothing is tried for it until something changes.
     Resting,
     /// In the queue of this rank.
@@ -36,14 +36,14 @@ pub enum Place {
     Submitted(Submission),
 }
 
-impl Place {
+impl WaitingPlace {
     /// Whether who is there is in no batch.
     pub fn is_idle(self) -> bool
         ensures { result ≡ is_idle self }
     {
         match self {
-            Place::Resting | Place::Queued(_) => true,
-            Place::Chosen | Place::Submitted(_) => false,
+            WaitingPlace::Resting | WaitingPlace::Queued(_) => true,
+            WaitingPlace::Chosen | WaitingPlace::Submitted(_) => false,
         }
     }
 }
@@ -58,7 +58,7 @@ pub struct Waiter {
     pub batches: u64,
     /// The transactions that it became so far, in order. The present one comes in when it is over.
     pub submissions: Sequence<Submission>,
-    pub place: Place,
+    pub place: WaitingPlace,
     /// Its meeting is tried by itself next.
     pub alone: bool,
 }
@@ -79,7 +79,7 @@ impl Waiter {
             patience,
             batches,
             submissions: Sequence::new(alloc),
-            place: Place::Queued(rank),
+            place: WaitingPlace::Queued(rank),
             alone: false,
         }
     }
@@ -89,7 +89,7 @@ impl Waiter {
         ensures ok { OnOk result (self.new ≡ with_place_noted self.old) }
         ensures err { OnErr result (self.new ≡ self.old) }
     {
-        if let Place::Submitted(submission) = self.place {
+        if let WaitingPlace::Submitted(submission) = self.place {
             self.submissions.push(submission)?;
         }
         Ok(())
@@ -107,12 +107,12 @@ impl Waiter {
     {
         self.note_place()?;
         self.batches = with_batch(self.batches, counts);
-        self.place = Place::Queued(rank);
+        self.place = WaitingPlace::Queued(rank);
         self.alone = alone;
         Ok(())
     }
 
-    /// How it ended, of whom its transaction is noted.
+    /// The waiter as an ended ticket, with this ending.
     pub(crate) fn ended(self, ticket: Ticket, ending: Ending, counts: bool) -> Ended
         ensures { result ≡ record {
           ticket = ticket;

@@ -19,14 +19,14 @@ ghost use Rattle.ent_waiting.specs.declared.ended.Ending.TheVariants.{Withdrawn}
 ghost use Rattle.ent_waiting.specs.declared.queues.Station.{Station as StationSeen};
 ghost use Rattle.ent_waiting.specs.declared.waiter.Waiter.{Waiter as WaiterSeen};
 ghost use Rattle.ent_waiting.specs.declared.waiting_list.Full.{Full as FullSeen};
-ghost use Rattle.ent_waiting.specs.declared.waiter.Place.TheVariants.{Queued, Chosen, Resting, Submitted};
+ghost use Rattle.ent_waiting.specs.declared.waiter.WaitingPlace.TheVariants.{Queued, Chosen, Resting, Submitted};
 ghost use Rattle.ent_waiting.specs.declared.waiting_list.NotRestored.TheVariants.{NoRoom, Used};
 ghost use Rattle.ent_waiting.specs.declared.waiting_list.NotWithdrawn.TheVariants.{Absent, InBatch};
 
 use crate::ended::{self, Ended, Ending};
 use crate::queues::{self, Queues, Rank, Station};
 use crate::ticket::Ticket;
-use crate::waiter::{Patience, Place, Submission, Waiter, is_over, with_batch};
+use crate::waiter::{Patience, Submission, Waiter, WaitingPlace, is_over, with_batch};
 use ent_tree::Script;
 use ent_value::{Refusal, Sequence};
 use std::alloc::{AllocError, Global};
@@ -119,7 +119,7 @@ fn admit(
     ensures err { OnErr result (waiters.new.entries ≡ waiters.old.entries) }
 {
     let place = waiter.place;
-    queues::shift(queues, Place::Resting, place, ticket)?;
+    queues::shift(queues, WaitingPlace::Resting, place, ticket)?;
     match waiters.insert(ticket, waiter) {
         Ok(_) => Ok(()),
         Err(refused) => {
@@ -147,7 +147,7 @@ fn next_of(waiters: &BTreeMap<u64, Waiter>, from: u64) -> Option<u64>
 }
 
 /// Where the script of a ticket waits.
-fn place_of(waiters: &BTreeMap<u64, Waiter>, ticket: u64) -> Option<Place>
+fn place_of(waiters: &BTreeMap<u64, Waiter>, ticket: u64) -> Option<WaitingPlace>
     ensures { result ≡ option_map (λ waiter. waiter.place) (lookup (is_at (nat_cmp ticket)) waiters.now.entries) }
 {
     match waiters.get(&ticket) {
@@ -157,7 +157,7 @@ fn place_of(waiters: &BTreeMap<u64, Waiter>, ticket: u64) -> Option<Place>
 }
 
 /// The script of a ticket waits at another place, in whichever queue.
-fn put_at(waiters: &mut BTreeMap<u64, Waiter>, ticket: u64, place: Place)
+fn put_at(waiters: &mut BTreeMap<u64, Waiter>, ticket: u64, place: WaitingPlace)
     ensures changed { (waiter : WaiterSeen)
         → lookup (is_at (nat_cmp ticket)) waiters.old.entries ≡ Some waiter
         → waiters.new.entries
@@ -177,7 +177,7 @@ fn move_to(
     waiters: &mut BTreeMap<u64, Waiter>,
     queues: &mut Queues,
     ticket: u64,
-    place: Place,
+    place: WaitingPlace,
 ) -> Result<(), AllocError>
     requires queued { AreQueued waiters.old.entries queues.old }
     ensures ok { OnOk result ((waiter : WaiterSeen)
@@ -274,11 +274,11 @@ fn come_back(
     ensures kept_queued { AreQueued waiters.new.entries queues.new }
     ensures err { OnErr result (waiters.new.entries ≡ waiters.old.entries) }
 {
-    let queue = Place::Queued(rank);
+    let queue = WaitingPlace::Queued(rank);
     queues::enter(queues, queue, ticket)?;
     match write_back(waiters, ticket, rank, counts, alone) {
         Ok(()) => {
-            queues::quit(queues, Place::Chosen, ticket);
+            queues::quit(queues, WaitingPlace::Chosen, ticket);
             Ok(())
         }
         Err(AllocError) => {
@@ -448,7 +448,7 @@ impl WaitingList {
         ensures err { OnErr result (self.new ≡ self.old) }
         ensures onward { Onward self.old self.new }
     {
-        self.put_idle(ticket, Place::Queued(rank))
+        self.put_idle(ticket, WaitingPlace::Queued(rank))
     }
 
     /// A script that waits and is in no batch leaves its queue, and comes into none. Where memory runs out nothing
@@ -462,7 +462,7 @@ impl WaitingList {
         ensures err { OnErr result (self.new ≡ self.old) }
         ensures onward { Onward self.old self.new }
     {
-        self.put_idle(ticket, Place::Resting)
+        self.put_idle(ticket, WaitingPlace::Resting)
     }
 
     /// A script that waits and is in no batch comes into the next one. Where memory runs out nothing changes.
@@ -475,11 +475,11 @@ impl WaitingList {
         ensures err { OnErr result (self.new ≡ self.old) }
         ensures onward { Onward self.old self.new }
     {
-        self.put_idle(ticket, Place::Chosen)
+        self.put_idle(ticket, WaitingPlace::Chosen)
     }
 
     /// A script that waits and is in no batch comes to another place.
-    fn put_idle(&mut self, ticket: Ticket, place: Place) -> Result<(), AllocError>
+    fn put_idle(&mut self, ticket: Ticket, place: WaitingPlace) -> Result<(), AllocError>
         ensures ok { OnOk result (self.new ≡ moved ticket place self.old) }
         ensures updates { OnOk result ((waiter : WaiterSeen)
             → waiter_of self.old ticket ≡ Some waiter
@@ -535,7 +535,7 @@ impl WaitingList {
         put_at(
             &mut self.waiters,
             ticket.number(),
-            Place::Submitted(submission),
+            WaitingPlace::Submitted(submission),
         );
     }
 
@@ -668,8 +668,8 @@ impl WaitingList {
         ended::ended_of(&self.ended, ticket.number())
     }
 
-    /// Who ended last but so many others, where that is kept. A ticket ends at most once; so who keeps the one that
-    /// ended last learns with it which ended since.
+    /// An ended ticket, counted back from the last one, which is number 0; None if it isn't kept. A ticket ends at most
+    /// once; so who keeps the one that ended last learns with it which ended since.
     pub fn ended_back(&self, back: usize) -> Option<&Ended>
         ensures { option_copied result ≡ last_but back self.now.ended }
     {

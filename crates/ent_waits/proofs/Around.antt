@@ -3,6 +3,7 @@ use Rattle.std.proofs.Common.{◌≡◌, ℕ, ◌<◌, List, [], ◌∷◌, leng
 use Rattle.std.proofs.Common.{Option, Some, None}
 use Rattle.std.specs.Prelude.{Contains, slice_get}
 use Rattle.std.proofs.lemmas.Bool.{cases_lt}
+use Rattle.ent_lists.proofs.Contained.{contains_none, contains_first}
 use Rattle.ent_coordination.specs.Component.{IsComponent}
 use Rattle.ent_coordination.specs.Pool.{Posted, first_tx}
 use Rattle.ent_match.specs.Components.{AreFirstPlaces, FirstIs, component_at}
@@ -11,9 +12,9 @@ use Rattle.ent_protocol.specs.Member.{pool}
 use Rattle.ent_protocol.specs.PoolEvents.{IsPresentComponent}
 use Rattle.ent_protocol.specs.State.{State}
 use Rattle.ent_match.specs.Place.{HasNoneOf, IsPlaceOf}
+use Rattle.ent_match.proofs.Beginning.{some_within}
 use Rattle.ent_waits.proofs.Exact.{AreClasses, begins_somewhere, component_in, has_first, is_posted, present_in}
-use Rattle.ent_waits.proofs.Listed.{element_here, in_none}
-use Rattle.ent_waits.proofs.Picked.{first_at, within_posted}
+use Rattle.ent_waits.proofs.Picked.{first_at}
 
 abbrev tx_of : Posted → ℕ
 tx_of member = member.tx
@@ -22,11 +23,11 @@ first_member : (asked : List Posted) (first : Posted) → Some first ≡ slice_g
 first_member [] first is = cc
 first_member (own ∷ more) first is =
     let same : own ≡ first = cc in
-    element_here own more first same
+    contains_first own more first same
 
 -- no statements are no component
 pub of_none : (posted asked : List Posted) → None ≡ slice_get asked 0 → IsComponent posted asked → ⊥
-of_none posted [] none component = in_none component.first (has_first posted [] component)
+of_none posted [] none component = contains_none component.first (has_first posted [] component)
 of_none posted (own ∷ more) none component = cc
 
 pub not_posted : (posted asked : List Posted) (first : Posted) → Some first ≡ slice_get asked 0
@@ -61,7 +62,7 @@ module _ (classes : AreClasses) (posted asked : List Posted) (ascends : IsByNumb
       let tx : (get_or posted own.0 first).tx ≡ first.tx =
       sym (first_at posted ascends firsts are own.0 first own.1) ∙ (ap first_tx own.2 ∙ first_tx_is asked first is) in
       let room = are.room in
-      let below : own.0 < length posted = (let l = within_posted firsts own.0 own.0 own.1 in omega arith) in
+      let below : own.0 < length posted = (let l = some_within firsts own.0 own.0 own.1 in omega arith) in
       let same : own.0 ≡ place = one_place posted ascends first own.0 place below at.0 tx (at.1 first) in (
         subst (λ k. FirstIs firsts k k) same own.1,
         subst (λ k. component_at firsts k posted ≡ asked) same own.2,

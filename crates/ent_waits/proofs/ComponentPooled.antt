@@ -2,10 +2,10 @@
 use Rattle.std.proofs.Common.{◌≡◌, ◌⊎◌, inl, inr, List, [], ◌∷◌, ◌++◌, subst}
 use Rattle.std.specs.Prelude.{Contains}
 use Rattle.std.proofs.lemmas.List.Elements.{Contains-append_left, Contains-push, Contains-push_cases}
+use Rattle.ent_lists.proofs.Contained.{contains_cases, contains_first, contains_later}
 use Rattle.ent_coordination.specs.Pool.{Posted}
 use Rattle.ent_match.specs.Posting.{Adds}
 use Rattle.ent_match.specs.Same.{SameStatements}
-use Rattle.ent_waits.proofs.Listed.{element_cases, element_here, element_later}
 
 push_of : (pool : List Posted) (member other : Posted) → Contains pool other ⊎ (member ≡ other)
     → Contains (pool ++ member ∷ []) other
@@ -14,8 +14,8 @@ push_of pool member other (inr is) = subst (Contains (pool ++ member ∷ [])) is
 
 cons_of : (pool : List Posted) (member other : Posted) → Contains pool other ⊎ (member ≡ other)
     → Contains (member ∷ pool) other
-cons_of pool member other (inl there) = element_later member pool other there
-cons_of pool member other (inr is) = element_here member pool other is
+cons_of pool member other (inl there) = contains_later member pool other there
+cons_of pool member other (inr is) = contains_first member pool other is
 
 turned : {A B : Type 0} → A ⊎ B → B ⊎ A
 turned (inl a) = inr a
@@ -31,6 +31,6 @@ added old new member adds other = (
 -- in the first place
 pub put_before : (old : List Posted) (member : Posted) → SameStatements (member ∷ old) (old ++ member ∷ [])
 put_before old member other = (
-  λ there. push_of old member other (turned (element_cases member old other there)),
+  λ there. push_of old member other (turned (contains_cases member old other there)),
   λ there. cons_of old member other (Contains-push_cases old member other there),
 )

@@ -10,6 +10,8 @@ use Rattle.std.proofs.lemmas.List.{get_or_default, get_or-map, length-map, take_
 use Rattle.std.proofs.lemmas.List.Elements.{Contains-append_cases, Contains-append_left}
 use Rattle.std.proofs.lemmas.List.Elements.{Contains-append_right, Contains-push_cases}
 use Rattle.std.proofs.lemmas.Map.Made.{AllPairs-from_IsDistinct}
+use Rattle.std.proofs.lemmas.Bool.{cases_lt}
+use Rattle.std.proofs.lemmas.Option.{same_Some}
 use Rattle.ent_lists.specs.Elements.{and_both, clash, differ, number_itself, other_number, same_number}
 use Rattle.ent_lists.specs.Elements.{turned}
 use Rattle.ent_group.specs.Marks.{has_mark}
@@ -25,7 +27,7 @@ use Rattle.ent_run.specs.Run.{Run, with_run}
 use Rattle.ent_run.specs.Waits.{waits_by, waits_over}
 use Rattle.ent_run.proofs.HeldUses.{into_by_number}
 use Rattle.ent_run.proofs.Lists.{contains_cases, contains_none, into_filter, into_map, out_of_filter, some_of}
-use Rattle.ent_run.proofs.OneMember.{found_tx, some_same}
+use Rattle.ent_run.proofs.OneMember.{found_tx}
 use Rattle.ent_protocol.specs.Member.{active_member, is_of, is_tx}
 use Rattle.ent_protocol.specs.Rollback.{group_numbers}
 use Rattle.ent_protocol.specs.State.{Member, State, Use, by_number, first_of}
@@ -34,16 +36,16 @@ use Rattle.ent_waits.specs.Rows.{IsMember, IsNotPassed, IsRowOf, IsRowOfAny, Mar
 use Rattle.ent_waits.specs.Rows.{MarksGroup, MarksGroupOf, MarksInConflict, MarksOne, MarksOver, StandsAt}
 use Rattle.ent_waits.specs.Waits.{nothing}
 use Rattle.ent_waits.specs.declared.rows.Askers.{Askers}
-use Rattle.ent_waits.proofs.Stuck.{MarksOneMore, below_or, mark_made}
+use Rattle.ent_waits.proofs.Stuck.{MarksOneMore, mark_made}
 
 -- ---- the member of a number
 
 -- members of one number stand at one place
 one_place : (members : List Member) (i j : ℕ) (d : Member) → IsDistinct nat_eq (map tx_of members)
     → i < length members → j < length members → tx_of (get_or members i d) ≡ tx_of (get_or members j d) → j ≡ i
-one_place members i j d distinct low high same = elim (below_or i j) [
+one_place members i j d distinct low high same = elim (cases_lt i j) [
   | inl before ↦ absurd (apart i j before high same)
-  | inr after ↦ elim (below_or j i) [
+  | inr after ↦ elim (cases_lt j i) [
     | inl before ↦ absurd (apart j i before low (sym same))
     | inr still ↦ omega arith
   ]
@@ -179,7 +181,7 @@ module _ (run : Run) where
   pub label_is : (tx group : ℕ) (label : Option ℕ) → IsLabelOf tx label → label ≡ Some group → (member : Member)
       → IsMember run member → member.tx ≡ tx → member.group ≡ group
   label_is tx group label labels is member there own =
-      sym (some_same group member.group (sym is ∙ (labels member.group).1 (member, there, own, refl)))
+      sym (same_Some group member.group (sym is ∙ (labels member.group).1 (member, there, own, refl)))
 
   pub no_label : (tx : ℕ) (label : Option ℕ) → IsLabelOf tx label → label ≡ None → (member : Member)
       → IsMember run member → member.tx ≡ tx → ⊥

@@ -1,5 +1,4 @@
 pub mod Pooled
-pub mod Listed
 pub mod Numbered
 pub mod Exact
 pub mod ComponentPooled

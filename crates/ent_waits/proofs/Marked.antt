@@ -7,6 +7,7 @@ use Rattle.std.specs.List.{flat_map}
 use Rattle.std.proofs.lemmas.List.{get_or_default, get_or-map, get_or-set_other, get_or-take, length-map}
 use Rattle.std.proofs.lemmas.Grind.{get_or-set_at}
 use Rattle.std.proofs.lemmas.List.Elements.{All-cons, All-nil}
+use Rattle.std.proofs.lemmas.Bool.{cases_lt}
 use Rattle.ent_lists.specs.Elements.{both_and}
 use Rattle.ent_group.specs.Reach.{IsAt}
 use Rattle.ent_semantics.specs.Serial.{numbered}
@@ -20,7 +21,6 @@ use Rattle.ent_protocol.specs.Waits.{is_waiting, next_uses}
 use Rattle.ent_waits.specs.Rows.{IsMarkedPair, MarksAll, StandsAt}
 use Rattle.ent_waits.specs.Waits.{awaits_now, gathered, nothing, pair_if_awaited, pairs_while_waiting, state_with}
 use Rattle.ent_waits.proofs.OnCycles.{all_of_flat_map}
-use Rattle.ent_waits.proofs.Stuck.{below_or}
 
 -- the element at a place, whatever is read beyond the end
 abbrev pub IsElement : List Member → ℕ → Member → Type 0
@@ -53,7 +53,7 @@ pub rows_more : (run : Run) (submitted : List Submitted) (lent : List Job) (rows
     → AreRowsUpto run submitted lent at rows → AreRowsUpto run submitted lent (at + 1) (set rows at row)
 rows_more run submitted lent rows at row here is room marks upto = λ place asker below stands.
     let P : ℕ → Type 0 = λ own. MarksAll run.active (awaits_now run submitted lent asker) own in
-    elim (below_or place at) [
+    elim (cases_lt place at) [
       | inl before ↦
           let other : place ≢ at = λ same. absurd (omega (arith, before, same)) in
           subst P (sym (get_or-set_other rows at place row 0 other)) (upto place asker before stands)

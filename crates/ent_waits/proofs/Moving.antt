@@ -36,10 +36,6 @@ waiting_is_idle false false waiting = refl
 
 -- ---- in conflict
 
-pub no_holder : (blocker : Option ℕ) → is_some blocker ≡ false → blocker ≡ None
-no_holder (Some holder) none = absurd (true≢false none)
-no_holder None none = refl
-
 pub nobody_blocks : (blocker : Option ℕ) (none : Bool) → is_some blocker ≡ not none → blocker ≡ None → none ≡ true
 nobody_blocks blocker true some nobody = refl
 nobody_blocks blocker false some nobody = absurd (true≢false (sym some ∙ ap is_some nobody))

@@ -4,9 +4,9 @@ use Rattle.std.proofs.Common.{inl, inr}
 use Rattle.std.specs.Prelude.{AllPairs, Contains}
 use Rattle.std.proofs.lemmas.Bool.{cases_lt}
 use Rattle.std.proofs.lemmas.List.{get_or_default}
+use Rattle.ent_lists.proofs.Contained.{contains_none, contains_cases, contains_first, contains_later}
 use Rattle.ent_coordination.specs.Pool.{Posted}
 use Rattle.ent_match.specs.Fault.{IsByNumber}
-use Rattle.ent_waits.proofs.Listed.{element_cases, element_here, element_later, in_none}
 
 module _ {X : Type 0} (number : X → ℕ) where
   abbrev pub Ascends : List X → Type 0
@@ -49,9 +49,9 @@ rest_ordered x xs ordered i j d less below = ordered (suc i) (suc j) d (omega ar
 same_first : (x y : Posted) (xs ys : List Posted) → IsByNumber (x ∷ xs) → IsByNumber (y ∷ ys)
     → Contains (y ∷ ys) x → Contains (x ∷ xs) y → x ≡ y
 same_first x y xs ys one other there back =
-    elim (element_cases y ys x there) [
+    elim (contains_cases y ys x there) [
       | inl is ↦ sym is
-      | inr behind ↦ elim (element_cases x xs y back) [
+      | inr behind ↦ elim (contains_cases x xs y back) [
         | inl is ↦ is
         | inr behind_too ↦
             (let l = first_less y ys x other behind in
@@ -63,7 +63,7 @@ same_first x y xs ys one other there back =
 rest_there : (x y : Posted) (xs ys : List Posted) → x ≡ y → IsByNumber (x ∷ xs)
     → ((z : Posted) → Contains (x ∷ xs) z → Contains (y ∷ ys) z) → (z : Posted) → Contains xs z → Contains ys z
 rest_there x y xs ys same ordered all z there =
-    elim (element_cases y ys z (all z (element_later x xs z there))) [
+    elim (contains_cases y ys z (all z (contains_later x xs z there))) [
       | inl is ↦
           let l = first_less x xs z ordered there in
           let tx : x.tx ≡ z.tx = ap (λ (p : Posted). p.tx) (same ∙ is) in
@@ -75,11 +75,11 @@ rest_there x y xs ys same ordered all z there =
 pub same_statements : (xs ys : List Posted) → IsByNumber xs → IsByNumber ys
     → ((x : Posted) → Contains xs x → Contains ys x) → ((x : Posted) → Contains ys x → Contains xs x) → xs ≡ ys
 same_statements [] [] one other there back = refl
-same_statements [] (y ∷ ys) one other there back = absurd (in_none y (back y (element_here y ys y refl)))
-same_statements (x ∷ xs) [] one other there back = absurd (in_none x (there x (element_here x xs x refl)))
+same_statements [] (y ∷ ys) one other there back = absurd (contains_none y (back y (contains_first y ys y refl)))
+same_statements (x ∷ xs) [] one other there back = absurd (contains_none x (there x (contains_first x xs x refl)))
 same_statements (x ∷ xs) (y ∷ ys) one other there back =
-    let first = same_first x y xs ys one other (there x (element_here x xs x refl))
-    (back y (element_here y ys y refl)) in
+    let first = same_first x y xs ys one other (there x (contains_first x xs x refl))
+    (back y (contains_first y ys y refl)) in
     let rest = same_statements xs ys (rest_ordered x xs one) (rest_ordered y ys other)
     (rest_there x y xs ys first one there) (rest_there y x ys xs (sym first) other back) in
     λ i. first i ∷ rest i

@@ -1,13 +1,15 @@
 -- The first open component.
 use Rattle.std.proofs.Common.{◌≡◌, inl, inr, ℕ, ◌<◌, ◌≤◌, List, [], ◌∷◌, length, get_or, refl, sym, ap, subst, arith}
-use Rattle.std.proofs.Common.{Option, Some, None, zero, suc}
+use Rattle.std.proofs.Common.{Option, Some, None}
 use Rattle.std.specs.Prelude.{Contains}
 use Rattle.std.proofs.lemmas.Bool.{cases_lt}
 use Rattle.std.proofs.lemmas.List.{get_or_default}
+use Rattle.ent_lists.proofs.Contained.{contains_none}
 use Rattle.ent_lock.specs.Use.{IsLeast}
 use Rattle.ent_coordination.specs.Pool.{Posted, first_tx}
 use Rattle.ent_match.specs.Components.{AreFirstPlaces, FirstIs, component_at}
 use Rattle.ent_match.specs.Fault.{IsByNumber}
+use Rattle.ent_match.proofs.Beginning.{some_within}
 use Rattle.ent_protocol.specs.Job.{Job}
 use Rattle.ent_protocol.specs.Member.{pool}
 use Rattle.ent_protocol.specs.PoolEvents.{CanBePicked, IsPresentComponent}
@@ -16,14 +18,8 @@ use Rattle.ent_protocol.specs.State.{State}
 use Rattle.ent_waits.specs.Component.{IsPick, IsPickIn}
 use Rattle.ent_waits.specs.Open.{IsFirstOpen, IsOpen, IsOpenAt, NoneIsOpen}
 use Rattle.ent_waits.proofs.Exact.{AreClasses, begins_somewhere, component_in, present_in}
-use Rattle.ent_waits.proofs.Listed.{in_none}
 
 -- ---- places and the transactions that stand there
-
-pub within_posted : (firsts : List (Option ℕ)) (place first : ℕ) → FirstIs firsts place first → place < length firsts
-within_posted [] place first is = let e : None ≡ Some first = is in absurd cc
-within_posted (own ∷ firsts) zero first is = omega arith
-within_posted (own ∷ firsts) (suc place) first is = let below = within_posted firsts place first is in omega arith
 
 module _ (posted : List Posted) (ascends : IsByNumber posted) (firsts : List (Option ℕ))
     (are : AreFirstPlaces posted firsts) where
@@ -31,7 +27,7 @@ module _ (posted : List Posted) (ascends : IsByNumber posted) (firsts : List (Op
       → first_tx (component_at firsts place posted) ≡ (get_or posted place d).tx
   first_at place d is =
       let room = are.room in
-      let below : place < length posted = (let l = within_posted firsts place place is in omega arith) in
+      let below : place < length posted = (let l = some_within firsts place place is in omega arith) in
       let own = get_or posted place d in
       are.begins place own is (below, get_or_default posted place own d below)
 
@@ -39,7 +35,7 @@ module _ (posted : List Posted) (ascends : IsByNumber posted) (firsts : List (Op
       → first_tx (component_at firsts one posted) ≤ first_tx (component_at firsts other posted)
   first_le one other le is is_too =
       let room = are.room in
-      let below : other < length posted = (let l = within_posted firsts other other is_too in omega arith) in
+      let below : other < length posted = (let l = some_within firsts other other is_too in omega arith) in
       let d = some posted other below in
       let a = first_at one d is in
       let b = first_at other d is_too in
@@ -117,7 +113,7 @@ can_alone s asked present untried =
     record {
       component = present;
       untried = untried;
-      not_out = λ out. in_none out.0 out.1;
+      not_out = λ out. contains_none out.0 out.1;
     }
 
 pub least_untried : (posted : List Posted) (tried : List (List Posted)) (asked : List Posted)

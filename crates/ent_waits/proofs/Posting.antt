@@ -12,7 +12,7 @@ use Rattle.ent_lists.specs.Elements.{contains_in, in_contains}
 use Rattle.ent_match.specs.Fault.{IsByNumber}
 use Rattle.ent_match.specs.Posting.{HasNone}
 use Rattle.ent_protocol.specs.Begin.{pool_with}
-use Rattle.ent_protocol.specs.Member.{Asks, pool, posted_as}
+use Rattle.ent_protocol.specs.Member.{pool, posted_as}
 use Rattle.ent_protocol.specs.PostedBy.{in_pool}
 use Rattle.ent_protocol.specs.State.{State, Member}
 use Rattle.ent_members.specs.Order.{tx_of}
@@ -83,6 +83,3 @@ pub pool_is : (s : State) (posted : List Posted) (query : Posted) (member : Memb
     → query ≡ posted_as member statement
     → posted ++ query ∷ [] ≡ pool_with s member statement
 pool_is s posted query member statement same is = λ i. sym same i ++ is i ∷ []
-
-pub asks_same : (one other : Entangled Value) → Asks one ≡ Asks other → one ≡ other
-asks_same one other same = cc

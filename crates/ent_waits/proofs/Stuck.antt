@@ -2,29 +2,21 @@
 use Rattle.std.proofs.Common.{◌≡◌, ◌≢◌, ℕ, ◌+◌, ◌<◌, ◌≤◌, ◌==◌, ◌⊎◌, inl, inr, Bool, true, false}
 use Rattle.std.proofs.Common.{not, ◌||◌, List, [], ◌∷◌, length, nat_eq, bit_and, bit_or, refl, sym, ap, subst, ◌∙◌, arith}
 use Rattle.std.proofs.Common.{true≢false}
-use Rattle.std.specs.Prelude.{All, AllPairs, Contains, nat_lt, slice_index}
+use Rattle.std.specs.Prelude.{All, AllPairs, Contains, slice_index}
 use Rattle.std.specs.Int.{bit_at}
-use Rattle.std.proofs.lemmas.Bool.{eqb-true, ltb-true, ltb-false}
+use Rattle.std.proofs.lemmas.Bool.{eqb-true, cases_lt}
 use Rattle.std.proofs.lemmas.Bool.Decides.{nat_tests}
 use Rattle.std.proofs.lemmas.Nat.Bits.{bit_at-lt, bit_at-zero, bit_at_and, bit_at_or}
 use Rattle.std.proofs.lemmas.List.Elements.{All-contains}
+use Rattle.ent_lists.proofs.Truth.{or_either}
 use Rattle.ent_group.specs.Cycle.{IsOnCycle}
 use Rattle.ent_group.specs.Marks.{IsMarked, has_mark}
 use Rattle.ent_group.specs.Reach.{IsAt}
 use Rattle.ent_group.proofs.CycleWalk.{next_of}
+use Rattle.ent_group.proofs.Walks.{no_mark}
 use Rattle.ent_waits.specs.Rows.{IsMarkedPair}
 
-pub below_or : (i j : ℕ) → (i < j) ⊎ (j ≤ i)
-below_or i j = elim (nat_lt i j) as (λ b. nat_lt i j ≡ b → (i < j) ⊎ (j ≤ i)) [
-  | true ↦ λ e. inl (ltb-true i j e)
-  | false ↦ λ e. inr (ltb-false i j e)
-] refl
-
 -- ---- marks
-
-no_mark : (at : ℕ) → has_mark 0 at ≡ false
-unfolding has_mark
-no_mark at = ap (λ n. n == 1) (bit_at-zero at)
 
 eq_is : (n m : ℕ) → n ≡ m → (n == m) ≡ true
 eq_is n m is = grind (arith, nat_tests)
@@ -65,19 +57,14 @@ bit_of_both left right i own other =
     let theirs : bit_at right i ≡ 1 = eqb-true (bit_at right i) 1 other in
     eq_is (bit_at (bit_and left right) i) 1 (omega (arith, mine, theirs, bit_at_and left right i))
 
-or_from : (a b : Bool) → (a ≡ true) ⊎ (b ≡ true) → (a || b) ≡ true
-or_from a b (inl e) = λ i. e i || b
-or_from true b (inr e) = refl
-or_from false b (inr e) = e
-
 abbrev pub MarksOneMore : ℕ → ℕ → ℕ → Type 0
 MarksOneMore row new at = (i : ℕ) → has_mark new i ≡ ((i == at) || has_mark row i)
 
 pub mark_kept : (row new at i : ℕ) → MarksOneMore row new at → has_mark row i ≡ true → has_mark new i ≡ true
-mark_kept row new at i step old = step i ∙ or_from (i == at) (has_mark row i) (inr old)
+mark_kept row new at i step old = step i ∙ or_either (i == at) (has_mark row i) (inr old)
 
 pub mark_made : (row new at i : ℕ) → MarksOneMore row new at → i ≡ at → has_mark new i ≡ true
-mark_made row new at i step is = step i ∙ or_from (i == at) (has_mark row i) (inl (eq_is i at is))
+mark_made row new at i step is = step i ∙ or_either (i == at) (has_mark row i) (inl (eq_is i at is))
 
 -- ---- the places at which a row has a mark
 
@@ -86,7 +73,7 @@ AreAwaited rows awaited count = (i j : ℕ) → i < count → IsMarked rows i j 
 
 pub awaited_more : (rows : List ℕ) (awaited at : ℕ) → AreAwaited rows awaited at
     → AreAwaited rows (bit_or awaited (slice_index rows at)) (at + 1)
-awaited_more rows awaited at old = λ i j below marked. elim (below_or i at) [
+awaited_more rows awaited at old = λ i j below marked. elim (cases_lt i at) [
   | inl before ↦ bit_of_either awaited (slice_index rows at) j (inl (old i j before marked))
   | inr past ↦
       let here : i ≡ at = omega arith in
@@ -112,7 +99,7 @@ stuck_both rows stuck waiting are = λ i j below own marked other.
 
 pub stuck_more : (rows : List ℕ) (stuck left new at : ℕ) → MarksOneMore left new at → AreStuck rows stuck left at
     → AreStuck rows stuck new (at + 1)
-stuck_more rows stuck left new at step old = λ i j below marked other. elim (below_or i at) [
+stuck_more rows stuck left new at step old = λ i j below marked other. elim (cases_lt i at) [
   | inl before ↦ mark_kept left new at i step (old i j before marked other)
   | inr past ↦ let here : i ≡ at = omega arith in mark_made left new at i step here
 ]
@@ -120,7 +107,7 @@ stuck_more rows stuck left new at step old = λ i j below marked other. elim (be
 pub stuck_same : (rows : List ℕ) (stuck left at : ℕ) (share : Bool) → share ≡ false
     → ((i : ℕ) → has_mark (slice_index rows at) i ≡ true → has_mark stuck i ≡ true → share ≡ true)
     → AreStuck rows stuck left at → AreStuck rows stuck left (at + 1)
-stuck_same rows stuck left at share none all old = λ i j below marked other. elim (below_or i at) [
+stuck_same rows stuck left at share none all old = λ i j below marked other. elim (cases_lt i at) [
   | inl before ↦ old i j before marked other
   | inr past ↦
       let here : i ≡ at = omega arith in
@@ -143,9 +130,9 @@ on_cycle_goes_on waits x (m ∷ ms, found_cycle, inside) =
 
 same_place : (numbers : List ℕ) → AllPairs (λ x y. x ≢ y) numbers → (x i j : ℕ) → IsAt numbers x i
     → IsAt numbers x j → i ≡ j
-same_place numbers distinct x i j (in_i, at_i) (in_j, at_j) = elim (below_or i j) [
+same_place numbers distinct x i j (in_i, at_i) (in_j, at_j) = elim (cases_lt i j) [
   | inl below ↦ absurd (distinct i j 0 below in_j (at_i ∙ sym at_j))
-  | inr above ↦ elim (below_or j i) [
+  | inr above ↦ elim (cases_lt j i) [
     | inl other ↦ absurd (distinct j i 0 other in_i (at_j ∙ sym at_i))
     | inr upper ↦ omega (arith, above, upper)
   ]

@@ -1,10 +1,11 @@
 -- Who waits is a member that isn't prepared, and so is the first of a cycle.
 use Rattle.std.proofs.Common.{◌≡◌, ◌==◌, ℕ, zero, suc, Bool, true, false, if◌then◌else◌, List, [], ◌∷◌, map}
 use Rattle.std.proofs.Common.{Some, refl, sym, ap, ◌∙◌, arith, true≢false}
+use Rattle.std.specs.List.{AllByRecursion}
 use Rattle.std.specs.Prelude.{All, Contains, filter, slice_index, slice_index_or}
 use Rattle.std.proofs.lemmas.Bool.Decides.{nat_tests}
 use Rattle.std.proofs.lemmas.List.Elements.{All-contains, All-contains_itself, All-filter, All-head, All-map}
-use Rattle.std.proofs.lemmas.List.Elements.{All-weaker}
+use Rattle.std.proofs.lemmas.List.Elements.{All-tail, All-weaker}
 use Rattle.ent_group.specs.Cycle.{IsCycle, links_to}
 use Rattle.ent_protocol.specs.Member.{active_member, is_tx, next_of}
 use Rattle.ent_protocol.specs.State.{State, Member, first_of}
@@ -64,3 +65,23 @@ first_is_active s (x ∷ []) cycle =
 first_is_active s (x ∷ y ∷ more) cycle =
     found_in x s.active (All-contains (IsOf s) (waits s) (x, y) (waiters_are_active s)
     (All-head (Contains (waits s)) (x, y) (links_to (y ∷ more) x) cycle.closes.linked))
+
+-- ---- all of a cycle
+
+all_linked : (s : State) (xs : List ℕ) (end : ℕ) → All (Contains (waits s)) (links_to xs end)
+    → AllByRecursion (HasNumber s.active) xs
+all_linked s [] end linked = tt
+all_linked s (x ∷ []) end linked = (
+  All-contains (IsOf s) (waits s) (x, end) (waiters_are_active s) (All-head (Contains (waits s)) (x, end) [] linked),
+  tt,
+)
+all_linked s (x ∷ y ∷ more) end linked = (
+  All-contains (IsOf s) (waits s) (x, y) (waiters_are_active s)
+      (All-head (Contains (waits s)) (x, y) (links_to (y ∷ more) end) linked),
+  all_linked s (y ∷ more) end (All-tail (Contains (waits s)) (x, y) (links_to (y ∷ more) end) linked),
+)
+
+-- all of a cycle wait, and so are active
+pub all_are_active : (s : State) (cycle : List ℕ) → IsCycle (waits s) cycle → AllByRecursion (HasNumber s.active) cycle
+all_are_active s [] cycle = tt
+all_are_active s (x ∷ more) cycle = all_linked s (x ∷ more) x cycle.closes.linked

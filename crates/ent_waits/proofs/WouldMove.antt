@@ -1,5 +1,5 @@
 -- Who would move, in the words of the protocol.
-use Rattle.std.proofs.Common.{◌≡◌, ◌||◌, ℕ, Bool, true, false, List, Some, refl, sym, subst, arith}
+use Rattle.std.proofs.Common.{◌≡◌, ◌||◌, ℕ, false, List, Some, sym, subst, arith}
 use Rattle.std.specs.Prelude.{Contains}
 use Rattle.ent_lock.specs.Use.{IsLeastIfAny}
 use Rattle.ent_protocol.specs.Member.{is_lent, next_of}
@@ -7,10 +7,6 @@ use Rattle.ent_protocol.specs.Quiet.{CanMove, MovesBy}
 use Rattle.ent_protocol.specs.State.{State, Member}
 use Rattle.ent_waits.specs.Movers.{IsMover}
 use Rattle.ent_waits.specs.Free.{IsIdle}
-
-pub idle_is_unposted : (posted lent : Bool) → (posted || lent) ≡ false → posted ≡ false
-idle_is_unposted true lent idle = idle
-idle_is_unposted false lent idle = refl
 
 -- a member that would move is the least of itself
 pub mover : (s : State) (member : Member) (tx : ℕ) → tx ≡ member.tx → IsIdle s member

@@ -10,7 +10,7 @@ ghost use Rattle.ent_waits.specs.Waits.{nothing};
 use crate::marks::share_mark;
 use crate::rows::{Askers, MarkedGroups, mark_next_group, row_of, row_of_askers};
 use ent_group::{MOST_MEMBERS, Row, Tx, with_mark};
-use ent_members::{Member, Use};
+use ent_members::{RunMember, Use};
 use ent_run::Run;
 
 /// A table, and the row of whoever changes it: marks at those for whom any such member waits, and maybe at others of
@@ -22,8 +22,8 @@ pub(crate) struct ChangersRow {
     of_group: Option<GroupRow>,
 }
 
-/// A group, and the row of whoever of it changes a table: marks at those for whom any such member waits, and at those
-/// of the group who hold a use of the table themselves.
+/// A group, and a row of marks: the members for whom its members wait that change a table, and those of the group that
+/// hold the table themselves.
 #[derive(Clone, Copy)]
 struct GroupRow {
     group: Tx,
@@ -87,7 +87,7 @@ fn group_row(run: &Run, table: usize, group: Tx, known: Option<GroupRow>) -> Gro
 
 /// The row of a member that changes a table, where some of its own group hold the table. The row that it has in common
 /// with its group is its own, but where it is marked itself: then it holds the table too, and has a row for itself.
-fn row_in_group(run: &Run, asker: &Member, place: usize, common: &mut ChangersRow) -> Row
+fn row_in_group(run: &Run, asker: &RunMember, place: usize, common: &mut ChangersRow) -> Row
     requires within { place < MOST_MEMBERS }
     requires known { IsOfChangers run.now common.old }
     ensures row { MarksAll run.now.active
@@ -107,7 +107,7 @@ fn row_in_group(run: &Run, asker: &Member, place: usize, common: &mut ChangersRo
 /// own: it is its own, but where it is marked itself. Then some of its own group hold the table.
 fn row_of_next_changer(
     run: &Run,
-    asker: &Member,
+    asker: &RunMember,
     place: usize,
     table: usize,
     known: &mut Option<ChangersRow>,
@@ -131,7 +131,7 @@ fn row_of_next_changer(
 /// The row of a member that changes a table, which it may have in common with others.
 pub(crate) fn row_of_changer(
     run: &Run,
-    asker: &Member,
+    asker: &RunMember,
     place: usize,
     table: usize,
     known: &mut Option<ChangersRow>,

@@ -13,7 +13,7 @@ use crate::rows::rows_of;
 use crate::waiting::is_waiting;
 use ent_group::{MOST_MEMBERS, Members, cycle};
 use ent_job::Job;
-use ent_members::{Member, SubmittedScript, Use};
+use ent_members::{RunMember, SubmittedScript, Use};
 use ent_run::{Run, awaited_members_are_waited_for};
 
 /// A cycle of members that wait for each other: each waits for the next, and the last for the first. The first is the
@@ -70,7 +70,7 @@ fn push_pairs(
     run: &Run,
     submitted: &[SubmittedScript],
     lent: &[Job],
-    asker: &Member,
+    asker: &RunMember,
 )
     requires { length pairs.old + length run.now.active ≤ MOST_PAIRS }
     ensures pairs { pairs.new ≡ pairs.old ++ pairs_while_waiting run.now submitted.now lent.now asker.now }
@@ -82,7 +82,7 @@ fn push_pairs(
 }
 
 /// Puts in whom a member that asks for uses waits for.
-fn push_awaited(pairs: &mut Pairs, run: &Run, asker: &Member, asked: &[Use])
+fn push_awaited(pairs: &mut Pairs, run: &Run, asker: &RunMember, asked: &[Use])
     requires { length pairs.old + length run.now.active ≤ MOST_PAIRS }
     ensures pairs { pairs.new ≡ pairs.old ++ flat_map (pair_if_awaited run.now asker.now asked.now) run.now.active }
     ensures bound { length pairs.new ≤ length pairs.old + length run.now.active }
@@ -94,7 +94,7 @@ fn push_awaited(pairs: &mut Pairs, run: &Run, asker: &Member, asked: &[Use])
 }
 
 /// Puts in the pair of a member and another, where it waits for that one.
-fn push_pair(pairs: &mut Pairs, run: &Run, asker: &Member, asked: &[Use], other: &Member)
+fn push_pair(pairs: &mut Pairs, run: &Run, asker: &RunMember, asked: &[Use], other: &RunMember)
     requires { length pairs.old + 1 ≤ MOST_PAIRS }
     ensures pairs { pairs.new ≡ pairs.old ++ pair_if_awaited run.now asker.now asked.now other.now }
     ensures bound { length pairs.new ≤ length pairs.old + 1 }

@@ -12,7 +12,7 @@ ghost use Rattle.ent_waits.specs.Waits.{state_with};
 use crate::waiting::is_waiting;
 use ent_group::Tx;
 use ent_job::Job;
-use ent_members::{Member, SubmittedScript, next_form};
+use ent_members::{RunMember, SubmittedScript, next_form};
 use ent_run::Run;
 use ent_semantics::Statement;
 
@@ -21,7 +21,7 @@ pub(crate) fn is_free(
     run: &Run,
     submitted: &[SubmittedScript],
     lent: &[Job],
-    member: &Member,
+    member: &RunMember,
 ) -> bool
     ensures { (s : State) → IsTrue result ↔ IsFree (state_with run.now submitted.now lent.now s) member.now }
 {
@@ -29,7 +29,7 @@ pub(crate) fn is_free(
 }
 
 /// The least member that blocks what a member does next. It takes no memory.
-pub fn blocker_of(run: &Run, submitted: &[SubmittedScript], member: &Member) -> Option<Tx>
+pub fn blocker_of(run: &Run, submitted: &[SubmittedScript], member: &RunMember) -> Option<Tx>
     ensures { (s : State) → result ≡ blocker (with_run run.now s) member.now
         (next_uses (next_in (numbered submitted.now member.now.tx) member.now)) }
 {
@@ -40,7 +40,7 @@ pub fn blocker_of(run: &Run, submitted: &[SubmittedScript], member: &Member) -> 
 }
 
 /// Whether a member's next statement is an entangled one.
-pub(crate) fn is_posting(submitted: &[SubmittedScript], member: &Member) -> bool
+pub(crate) fn is_posting(submitted: &[SubmittedScript], member: &RunMember) -> bool
     ensures { result ≡ is_posting (next_in (numbered submitted.now member.now.tx) member.now) }
 {
     match next_form(submitted, member) {

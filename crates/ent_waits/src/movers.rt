@@ -19,7 +19,7 @@ use ent_group::Tx;
 use ent_job::Job;
 use ent_lock::lesser;
 use ent_match::{Pool, Posted};
-use ent_members::{Member, Next, SubmittedScript, next_of};
+use ent_members::{Next, RunMember, SubmittedScript, next_of};
 use ent_run::Run;
 use std::alloc::{AllocError, Global};
 
@@ -28,7 +28,7 @@ fn stays_safe(
     alloc: Global,
     submitted: &[SubmittedScript],
     pool: &Pool,
-    member: &Member,
+    member: &RunMember,
 ) -> Result<bool, AllocError>
     requires { HasNoneOf pool.now member.now.tx }
     ensures { IfOk result (λ safe. (s : State) (statement : Entangled Value)
@@ -56,7 +56,7 @@ fn mover_of(
     submitted: &[SubmittedScript],
     lent: &[Job],
     pool: &Pool,
-    member: &Member,
+    member: &RunMember,
 ) -> Result<Option<Tx>, AllocError>
     requires { member.now.posted ≡ false → HasNoneOf pool.now member.now.tx }
     ensures { IfOk result (λ mover. (s : State)

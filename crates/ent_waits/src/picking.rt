@@ -14,8 +14,8 @@ use ent_match::{Pool, Posted, component_at};
 use ent_value::Sequence;
 use std::alloc::{AllocError, Global};
 
-/// The component that is picked: of those that weren't tried, and no joint job of which is lent, the one with the least
-/// first member; none where there is none. Only its statements are shared.
+/// Of the components that weren't tried and have no job lent, the one with the least first member; None if there is
+/// none. Only its statements are shared.
 pub fn pick(
     alloc: Global,
     pool: &Pool,

@@ -12,7 +12,7 @@ use crate::changers::{ChangersRow, row_of_changer};
 use crate::waiting::is_waiting;
 use ent_group::{MOST_MEMBERS, Row, Tx, with_mark};
 use ent_job::Job;
-use ent_members::{Member, SubmittedScript, Use, exclusive_table, next_form, statement_uses};
+use ent_members::{RunMember, SubmittedScript, Use, exclusive_table, next_form, statement_uses};
 use ent_run::Run;
 use ent_semantics::{Known, Statement};
 
@@ -110,7 +110,7 @@ fn mark_over(marked: MarkedGroups, run: &Run, askers: Askers, tx: Tx) -> MarkedG
     }
 }
 
-/// A row with marks too at those for whom others wait who ask for a use: those who hold one in conflict block them.
+/// Adds marks at the members for whom a requester of this use waits: the holders of a conflicting use.
 fn mark_holders(row: Row, run: &Run, askers: Askers, asked: Use) -> Row
     ensures kept { HasMarksOf result row }
     ensures marked { MarksInConflict run.now askers asked result }
@@ -136,7 +136,7 @@ pub(crate) fn row_of_askers(run: &Run, askers: Askers, asked: &[Use]) -> Row
 }
 
 /// The row of a member that asks for uses: marks at those for whom it waits.
-pub(crate) fn row_of(run: &Run, asker: &Member, asked: &[Use]) -> Row
+pub(crate) fn row_of(run: &Run, asker: &RunMember, asked: &[Use]) -> Row
     ensures { MarksAll run.now.active (is_awaited (with_run run.now nothing) asker.now asked.now) result }
 {
     let group = asker.group();
@@ -145,7 +145,7 @@ pub(crate) fn row_of(run: &Run, asker: &Member, asked: &[Use]) -> Row
 }
 
 /// The row of a member that asks for the uses of a statement, which are put together.
-fn row_of_uses(run: &Run, asker: &Member, form: &Statement<Known>) -> Row
+fn row_of_uses(run: &Run, asker: &RunMember, form: &Statement<Known>) -> Row
     ensures { MarksAll run.now.active (is_awaited (with_run run.now nothing) asker.now (statement_uses form.now))
         result }
 {
@@ -155,7 +155,7 @@ fn row_of_uses(run: &Run, asker: &Member, form: &Statement<Known>) -> Row
 /// The row of a member that asks for the uses of a statement.
 fn row_of_form(
     run: &Run,
-    asker: &Member,
+    asker: &RunMember,
     place: usize,
     form: &Statement<Known>,
     known: &mut Option<ChangersRow>,
@@ -177,7 +177,7 @@ fn row_while_waiting(
     run: &Run,
     submitted: &[SubmittedScript],
     lent: &[Job],
-    asker: &Member,
+    asker: &RunMember,
     place: usize,
     known: &mut Option<ChangersRow>,
 ) -> Row

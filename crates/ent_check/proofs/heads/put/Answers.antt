@@ -1,10 +1,10 @@
 use Rattle.std.proofs.Common.{◌||◌, ◌<◌, Bool, length, take, sym, ap, ◌∙◌, arith, rules}
 use Rattle.std.proofs.lemmas.List.Folds.{list_any_more}
+use Rattle.std.proofs.Math.Bool.{or_assoc}
 use Rattle.ent_history.specs.Alike.{same_fact}
 use Rattle.ent_history.specs.Post.{is_offered}
 use Rattle.ent_check.specs.Heads.{has}
 use Rattle.ent_check.proofs.HeadsPut.{one_more}
-use Rattle.ent_check.proofs.Lists.{or_assoc}
 use Rattle.ent_check.proofs.heads.put.Goals as goal
 
 pub loop-fact-preserved : goal.loop-fact-preserved

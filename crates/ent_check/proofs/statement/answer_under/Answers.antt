@@ -1,7 +1,7 @@
 use Rattle.std.proofs.Common.{ap, ◌∙◌}
 use Rattle.ent_closing.specs.Environment.{environment_of}
 use Rattle.ent_semantics.specs.Database.{nothing_bound, with_values}
-use Rattle.ent_check.proofs.Ordinary.{values_joined}
+use Rattle.ent_semantics.proofs.Environments.{values_joined}
 use Rattle.ent_check.proofs.statement.answer_under.Goals as goal
 
 pub returns-clause-bound : goal.returns-clause-bound

@@ -1,4 +1,5 @@
-use Rattle.std.proofs.Common.{◌≡◌, ◌↔◌, ℕ, List, [], ◌∷◌, refl, ap, inl, inr, None}
+use Rattle.std.proofs.Common.{◌≡◌, ◌↔◌, ℕ, List, [], ap, inl, inr}
+use Rattle.ent_check.proofs.Seated.{nothing_found}
 use Rattle.ent_check_report.specs.Verdicts.{IsVerdict}
 use Rattle.ent_check_report.specs.declared.verdict.Verdict.{Verdict}
 use Rattle.ent_check_report.specs.declared.verdict.Verdict.TheVariants.{Yes, No}
@@ -8,14 +9,9 @@ use Rattle.ent_history.specs.Stands.{Tells}
 use Rattle.ent_history.specs.Findings.{findings}
 use Rattle.ent_history.specs.Formed.{IsFormed}
 use Rattle.ent_history.specs.Verdict.{first_of}
-use Rattle.ent_history.specs.declared.finding.Finding.{Finding}
 use Rattle.ent_history.specs.declared.finding.Rule.TheVariants.{Form}
 use Rattle.ent_semantics.specs.Book.{IsLegal}
 use Rattle.ent_check_report.proofs.law.reports_that_are_right_tell_of_legal_books.Goals as goal
-
-none_found : (found : List Finding) → first_of found ≡ None → found ≡ []
-none_found [] e = refl
-none_found (finding ∷ more) e = cc (e)
 
 yes_is_no : {A : Type 0} (line : ℕ) → Yes ≡ No line Form → A
 yes_is_no line e = cc (e)
@@ -28,7 +24,7 @@ returns c text = (
       w.0,
       w.1,
       w.2,
-      (nothing w.1 (formed text w.1 w.2)).0 (none_found (findings w.1) w.3),
+      (nothing w.1 (formed text w.1 w.2)).0 (nothing_found (findings w.1) w.3),
     )
   ],
   λ w. inr (w.0, w.1, w.2, ap first_of ((nothing w.1 (formed text w.1 w.2)).1 w.3)),

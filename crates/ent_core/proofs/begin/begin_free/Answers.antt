@@ -70,3 +70,9 @@ roll_back-requires-clause-within c =
 pub roll_back-requires-clause-once : goal.roll_back-requires-clause-once
 roll_back-requires-clause-once c =
     c.transactions_stand_once.ensures.once resolved_forms c.args.store.now c.requires.kept.reached
+
+pub commit-requires-clause-few : goal.commit-requires-clause-few
+commit-requires-clause-few c = c.scripts_are_few.ensures resolved_forms c.args.store.now c.requires.kept.reached
+
+pub roll_back-requires-clause-few : goal.roll_back-requires-clause-few
+roll_back-requires-clause-few c = c.scripts_are_few.ensures resolved_forms c.args.store.now c.requires.kept.reached

@@ -1,9 +1,10 @@
 use Rattle.std.proofs.Common.{◌∙◌, ◌<◌, ap, length, refl, subst, sym}
+use Rattle.std.proofs.lemmas.Option.{same_Some}
 use Rattle.ent_protocol.specs.Member.{next_of}
 use Rattle.ent_protocol.specs.State.{State, Member}
 use Rattle.ent_protocol.specs.Uses.{blocker}
 use Rattle.ent_protocol.specs.Waits.{next_uses}
-use Rattle.ent_core.proofs.Begun.{begun_blocked, one_member, stands_at}
+use Rattle.ent_core.proofs.Begun.{begun_blocked, stands_at}
 use Rattle.ent_core.proofs.begin.free_member.Goals as goal
 
 pub at-requires : goal.at-requires
@@ -35,6 +36,6 @@ returns-in-None-clause-free c =
       free = λ other found. record {
         idle = c.in_ok-place.ensures.idle other found;
         unblocked = ap (λ (m : Member). blocker now m (next_uses (next_of now m)))
-            (sym (one_member member other (sym there ∙ found))) ∙ sym c.in-None.ensures;
+            (sym (same_Some member other (sym there ∙ found))) ∙ sym c.in-None.ensures;
       };
     }

@@ -1,9 +1,10 @@
 use Rattle.std.proofs.Common.{◌∙◌, ◌||◌, Bool, ap, refl, subst, sym}
+use Rattle.std.proofs.lemmas.Option.{same_Some}
 use Rattle.ent_protocol.specs.Member.{active_member, is_lent, is_prepared}
 use Rattle.ent_protocol.specs.State.{State}
 use Rattle.ent_core.specs.contracts.store.Store.{the_view}
 use Rattle.ent_waits.specs.Free.{IsIdle}
-use Rattle.ent_core.proofs.Begun.{either, idle_by, neither, one_member, refused_absent, refused_out, refused_prepared}
+use Rattle.ent_core.proofs.Begun.{either, idle_by, or_false, refused_absent, refused_out, refused_prepared}
 use Rattle.ent_core.proofs.Begun.{stands_at}
 use Rattle.ent_core.proofs.begin.place_at_turn.Goals as goal
 
@@ -54,8 +55,8 @@ returns-clause-idle c = λ other found.
     let member = c.at.result in
     let there = ap (λ (x : State). active_member x c.args.tx) (sym c.store.view_is)
     ∙ stands_at s s.active c.args.tx c.in-Some.place member refl c.in-Some.ensures.some c.at.ensures in
-    subst (IsIdle now) (one_member member other (sym there ∙ found))
+    subst (IsIdle now) (same_Some member other (sym there ∙ found))
     (idle_by now c.args.tx member there
-    (neither member.posted (is_lent now c.args.tx) (sym c.is_posted.ensures ∙ c.if-is_posted.false)
+    (or_false member.posted (is_lent now c.args.tx) (sym c.is_posted.ensures ∙ c.if-is_posted.false)
     (ap (λ (x : State). is_lent x c.args.tx) (sym c.store.view_is)
     ∙ sym (c.is_lent.ensures.state s refl) ∙ c.if-is_lent.false)))

@@ -1,6 +1,10 @@
-use Rattle.std.proofs.Common.{◌≡◌, ◌+◌, ◌<◌, ◌++◌, ◌∙◌, ℕ, suc, List, Some, ap, arith, length, map, refl, subst, sym}
+use Rattle.std.proofs.Common.{◌≡◌, ◌≤◌, ◌+◌, ◌<◌, ◌++◌, ◌∷◌, ◌∙◌, ℕ, suc, List, [], Some, ap, arith, length, map}
+use Rattle.std.proofs.Common.{refl, subst, sym}
 use Rattle.std.specs.List.{AllByRecursion}
-use Rattle.std.specs.Prelude.{filter, is_some}
+use Rattle.std.specs.Prelude.{All, filter, is_some}
+use Rattle.std.proofs.lemmas.List.{length-append}
+use Rattle.std.proofs.lemmas.Option.{same_Some}
+use Rattle.ent_tree.specs.declared.limits.TheConstants.{MOST_SCRIPTS}
 use Rattle.ent_form.specs.declared.fault.FormFault.{FormFault}
 use Rattle.ent_run.specs.Places.{IsAt, found}
 use Rattle.ent_members.specs.Order.{tx_of}
@@ -19,12 +23,13 @@ use Rattle.ent_core.specs.Store.{IsKept}
 use Rattle.ent_core.specs.contracts.store.Store.{the_view}
 use Rattle.ent_waits.specs.Pooled.{IsPoolOf}
 use Rattle.ent_core.specs.Begin.{IsUnposted}
-use Rattle.ent_core.proofs.Begun.{found_at, kept_changed, kept_with, one_member}
+use Rattle.ent_core.proofs.Begun.{found_at, kept_changed, kept_with}
 use Rattle.ent_core.proofs.Committing.{commits, committed_all, committed_few, first_part, last_part, parts_numbered}
 use Rattle.ent_core.proofs.Committing.{same_all, same_fates, same_length, same_numbers, waits}
 use Rattle.ent_semantics.specs.declared.book.Fated.{Fated}
 use Rattle.ent_protocol.specs.Member.{is_of}
 use Rattle.ent_members.specs.ByNumber.{IsNumbered}
+use Rattle.ent_core.proofs.Packing.{IsPackable, members_packed}
 use Rattle.ent_core.proofs.Pooled.{kept_prepared}
 use Rattle.ent_core.proofs.Settled.{settled_on}
 use Rattle.ent_core.proofs.commit.commit.Goals as goal
@@ -45,7 +50,7 @@ returns-in_default-clause-ok c = λ member there.
     let tx = c.args.found.tx in
     let here : active_member s tx ≡ Some member = ap (λ (x : State). active_member x tx) c.store.view_is ∙ there in
     let one : c.member.result ≡ member =
-    one_member c.member.result member (sym c.member.ensures.there ∙ there) in
+    same_Some c.member.result member (sym c.member.ensures.there ∙ there) in
     let at = subst (λ (x : State). IsAt x.active tx c.args.found.place) (sym c.store.view_is) c.requires.free.at in
     let own : c.group-group.result ≡ member.group = c.group-group.ensures ∙ ap (λ (m : Member). m.group) one in
     let P : State → Type 0 = λ new. BeginsCommit {F = FormFault} (preparing now member) member.group
@@ -74,6 +79,24 @@ invariant_of-store-in_default c =
     )
 
 -- ---- its group commits
+
+-- one more is prepared than before
+pub commit-requires-clause-room : goal.commit-requires-clause-room
+commit-requires-clause-room c =
+    let s : State = the_view c.store.inside in
+    let run : Run = c.store.inside.run in
+    let tx = c.args.found.tx in
+    let at = subst (λ (x : State). IsAt x.active tx c.args.found.place) (sym c.store.view_is) c.requires.free.at in
+    let there : found run.active tx ≡ Some c.member.result =
+    ap (λ (x : State). active_member x tx) c.store.view_is ∙ c.member.ensures.there in
+    let prepares = c.in_ok-prepare_at.ensures.ok tx at c.member.result there in
+    omega (
+      arith,
+      c.prepared_len-most.ensures.len,
+      c.in_ok-room.ensures.capacity,
+      ap length prepares.prepared,
+      length-append run.prepared (c.member.result ∷ []),
+    )
 
 pub commit-requires-2-clause-room : goal.commit-requires-2-clause-room
 commit-requires-2-clause-room c =
@@ -112,6 +135,29 @@ commit-requires-2-clause-numbers c =
     (same_all c.in-Some.committed.items gone (c.in-Some.ensures.attempts s) (IsNumbered known)
     (parts_numbered s.submitted known gone c.store.invariant.0.known among))
 
+pub of-members-requires : goal.of-members-requires
+of-members-requires c =
+    let s : State = the_view c.store.inside in
+    let run : Run = c.store.inside.run in
+    let P : Member → Type 0 = MayTakePart s.submitted in
+    let F : State → Type 0 = λ x. length x.submitted ≤ MOST_SCRIPTS in
+    let all : AllByRecursion P (run.prepared ++ run.active) =
+    (subst StayWithin (sym c.store.view_is) c.requires.within).members in
+    let tx = c.args.found.tx in
+    let at = subst (λ (x : State). IsAt x.active tx c.args.found.place) (sym c.store.view_is) c.requires.free.at in
+    let there : found run.active tx ≡ Some c.member.result =
+    ap (λ (x : State). active_member x tx) c.store.view_is ∙ c.member.ensures.there in
+    let gone : List Member = filter (is_of c.group-group.result) c.prepare_at.new.self.prepared in
+    let among : AllByRecursion P gone =
+    committed_all P run c.prepare_at.new.self tx c.group-group.result c.member.result gone there
+    (c.in_ok-prepare_at.ensures.ok tx at c.member.result there) refl (first_part P run.prepared run.active all)
+    (last_part P run.prepared run.active all) in
+    let are : c.member_numbers-numbers.result ≡ map tx_of gone =
+    c.member_numbers-numbers.ensures ∙ ap (map tx_of) c.as_slice.ensures.value
+    ∙ same_numbers c.in-Some.committed.items gone (c.in-Some.ensures.attempts s) in
+    subst (All IsPackable) (sym are)
+    (members_packed s.submitted (subst F (sym c.store.view_is) c.requires.few) gone among)
+
 pub returns-clause-ok : goal.returns-clause-ok
 returns-clause-ok c = λ member there.
     let s : State = the_view c.store.inside in
@@ -121,17 +167,18 @@ returns-clause-ok c = λ member there.
     let committed : List Member = c.in-Some.committed.items in
     let gone : List Member = filter (is_of c.group-group.result) mid.prepared in
     let attempts = c.in-Some.ensures.attempts s in
-    let numbers : List ℕ = c.member_numbers-members.result in
+    let numbers : List ℕ = c.of-members.result in
     let first : ℕ = c.len.result + 1 in
     let tx = c.args.found.tx in
     let here : active_member s tx ≡ Some member = ap (λ (x : State). active_member x tx) c.store.view_is ∙ there in
     let one : c.member.result ≡ member =
-    one_member c.member.result member (sym c.member.ensures.there ∙ there) in
+    same_Some c.member.result member (sym c.member.ensures.there ∙ there) in
     let at = subst (λ (x : State). IsAt x.active tx c.args.found.place) (sym c.store.view_is) c.requires.free.at in
     let own : c.group-group.result ≡ member.group = c.group-group.ensures ∙ ap (λ (m : Member). m.group) one in
-    let numbers_are : numbers ≡ map tx_of gone =
-    c.member_numbers-members.ensures ∙ ap (map tx_of) c.as_slice.ensures.value
+    let listed : c.member_numbers-numbers.result ≡ map tx_of gone =
+    c.member_numbers-numbers.ensures ∙ ap (map tx_of) c.as_slice.ensures.value
     ∙ same_numbers committed gone attempts in
+    let numbers_are : numbers ≡ map tx_of gone = c.of-members.ensures ∙ listed in
     let first_is : first ≡ suc (length s.journal) =
     omega (arith, c.len.ensures, c.reserve.new.self.ok.0, ap length c.reserve.ensures.items) in
     let entered = c.enter.ensures.entries
@@ -140,7 +187,7 @@ returns-clause-ok c = λ member there.
     let fated = ap (λ (transaction_table : TransactionTable). transaction_table.fates) c.commit-2.ensures
     ∙ ap (λ (all : List Member). s.fates ++ commit_fates first all) c.as_slice-2.ensures.value
     ∙ ap (λ (fates : List Fated). s.fates ++ fates) (same_fates committed gone attempts first) in
-    let settled = c.settle.ensures.members gone numbers_are in
+    let settled = c.settle.ensures.members gone listed in
     let P : State → Type 0 = λ new. BeginsCommit {F = FormFault} (preparing now member) member.group
     (is_ready (preparing now member) member.group) (replies.Committed (numbered_from first numbers)) new in
     let mark : State = record s {

@@ -1,7 +1,10 @@
 use Rattle.std.proofs.Common.{◌≡◌, true, Option, sym, ap, subst, ◌∙◌}
 use Rattle.std.specs.List.{AllByRecursion}
 use Rattle.ent_protocol.specs.State.{State}
-use Rattle.ent_waits.specs.Quiet.{IsReasonIfAny}
+use Rattle.ent_form.specs.declared.fault.FormFault.{FormFault}
+use Rattle.ent_protocol.specs.Event as replies
+use Rattle.ent_protocol.specs.Run.{Ends}
+use Rattle.ent_waits.specs.Quiet.{IsReasonIfAny, reason_seen}
 use Rattle.ent_waits.specs.declared.reason.Reason.{Reason}
 use Rattle.ent_headline.specs.Resolved.{resolved_forms}
 use Rattle.ent_protocol_laws.specs.Attempts.{AsksForRun}
@@ -22,12 +25,17 @@ pub end-members-requires-clause-once : goal.end-members-requires-clause-once
 end-members-requires-clause-once c =
     c.transactions_stand_once.ensures.once resolved_forms c.args.store.now c.requires.kept.reached
 
-pub returns-in-Some-clause-ok : goal.returns-in-Some-clause-ok
-returns-in-Some-clause-ok c =
+pub end-members-requires-clause-few : goal.end-members-requires-clause-few
+end-members-requires-clause-few c = c.scripts_are_few.ensures resolved_forms c.args.store.now c.requires.kept.reached
+
+pub returns-in_ok-reason-in-Some-clause-ok : goal.returns-in_ok-reason-in-Some-clause-ok
+returns-in_ok-reason-in-Some-clause-ok c =
     let s : State = c.args.store.now in
     let on : s.running ≡ true = sym (ap (λ (x : State). x.running) c.store.view_is) ∙ c.if-not-store.false in
-    kept_busy s c.in-Some.why on
-    (subst (λ (why : Option Reason). IsReasonIfAny s why) c.in-Some.is c.in_ok-why.ensures)
+    let busy = kept_busy s c.in-Some.why on
+    (subst (λ (why : Option Reason). IsReasonIfAny s why) c.in-Some.is c.in_ok-why.ensures) in
+    subst (λ (why : Reason). Ends {F = FormFault} s (replies.Busy (reason_seen why)) s)
+    (sym c.in_ok-reason-in-Some.ensures) busy
 
 pub returns-in-None-clause-ok : goal.returns-in-None-clause-ok
 returns-in-None-clause-ok c =

@@ -1,5 +1,7 @@
-use Rattle.std.proofs.Common.{◌≡◌, ◌+◌, ◌∙◌, List, Some, None, ap, length, refl, subst, sym, slice_get}
+use Rattle.std.proofs.Common.{◌≡◌, ◌≤◌, ◌+◌, ◌∙◌, List, Some, None, ap, length, refl, subst, sym, slice_get}
 use Rattle.std.specs.List.{AllByRecursion}
+use Rattle.std.proofs.lemmas.Option.{same_Some}
+use Rattle.ent_tree.specs.declared.limits.TheConstants.{MOST_SCRIPTS}
 use Rattle.ent_form.specs.declared.fault.FormFault.{FormFault}
 use Rattle.ent_protocol.specs.Event as replies
 use Rattle.ent_protocol.specs.Finish.{FinishesBy, IsTaken}
@@ -10,7 +12,7 @@ use Rattle.ent_headline.specs.Resolved.{resolved_forms}
 use Rattle.ent_protocol_laws.specs.Attempts.{AsksForRun, StayWithin}
 use Rattle.ent_protocol_laws.specs.Standing.{StandOnce}
 use Rattle.ent_core.specs.contracts.store.Store.{the_view}
-use Rattle.ent_core.proofs.Begun.{number_found, one_member}
+use Rattle.ent_core.proofs.Begun.{number_found}
 use Rattle.ent_core.proofs.Finishing.{failed}
 use Rattle.ent_core.proofs.finish.fail.Goals as goal
 
@@ -44,6 +46,12 @@ roll_back-requires-clause-once c =
     (c.transactions_stand_once.ensures.once resolved_forms c.args.store.now c.requires.kept.reached) in
     record { distinct = w.distinct; submitted = w.submitted }
 
+pub roll_back-requires-clause-few : goal.roll_back-requires-clause-few
+roll_back-requires-clause-few c =
+    let F : State → Type 0 = λ s. length s.submitted ≤ MOST_SCRIPTS in
+    subst F (sym c.store.view_is)
+    (c.scripts_are_few.ensures resolved_forms c.args.store.now c.requires.kept.reached)
+
 pub returns : goal.returns
 returns c = λ job member at there.
     let v : State = the_view c.store.inside in
@@ -55,7 +63,7 @@ returns c = λ job member at there.
     c.in-Some.ensures v ∙ ap (active_member v) c.tx-tx.ensures
     ∙ ap (λ (x : State). active_member x single.tx) c.store.view_is ∙ there in
     let group : member.group ≡ c.group-group.result =
-    sym (c.group-group.ensures ∙ ap (λ (m : Member). m.group) (one_member c.in-Some.member member same)) in
+    sym (c.group-group.ensures ∙ ap (λ (m : Member). m.group) (same_Some c.in-Some.member member same)) in
     let own : member.tx ≡ c.tx-tx.result =
     number_found single.tx c.args.store.now.active member there ∙ sym c.tx-tx.ensures in
     let taken : IsTaken job v.lent left =

@@ -1,7 +1,7 @@
 use Rattle.std.proofs.Common.{◌∙◌, List, ap, sym, subst, slice_get}
 use Rattle.ent_protocol.specs.Job.{Job}
 use Rattle.ent_protocol.specs.PoolEvents.{IsPresentComponent}
-use Rattle.ent_core.proofs.Outstanding.{same_asked}
+use Rattle.ent_protocol_laws.proofs.Determined.{same_asked}
 use Rattle.ent_core.proofs.join_answer.join_answer_at_once.Goals as goal
 
 pub settle-requires-clause-lent : goal.settle-requires-clause-lent

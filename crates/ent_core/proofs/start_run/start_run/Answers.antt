@@ -1,5 +1,7 @@
 use Rattle.std.proofs.Common.{◌≡◌, ◌<◌, ◌∙◌, ℕ, ap, arith, length, nat_eq, subst, sym, List, map, min, take}
+use Rattle.std.specs.Prelude.{All}
 use Rattle.std.specs.List.{IsDistinct}
+use Rattle.ent_headline.specs.Resolved.{resolved_forms}
 use Rattle.ent_form.specs.declared.fault.FormFault.{FormFault}
 use Rattle.ent_group.specs.declared.members.TheConstants.{MOST_MEMBERS}
 use Rattle.ent_protocol.specs.State.{State, Dormant, by_number}
@@ -10,6 +12,7 @@ use Rattle.ent_core.specs.Kept.{IsKeptState}
 use Rattle.ent_core.specs.Settled.{AreSettled}
 use Rattle.ent_core.specs.contracts.store.Store.{the_view}
 use Rattle.ent_members.specs.TransactionTable.{TransactionTable}
+use Rattle.ent_core.proofs.Packing.{IsPackable, started_packed}
 use Rattle.ent_core.proofs.Pooled.{kept_fresh}
 use Rattle.ent_core.proofs.Settled.{settled_at_rest}
 use Rattle.ent_core.proofs.Starting.{distinct_taken, kept_started, started}
@@ -47,6 +50,19 @@ invariant_of-store c =
           (sym (ap (λ (r : TransactionTable). r.fates) c.take_first.ensures)) settled),
     )
 
+pub of-members-requires : goal.of-members-requires
+of-members-requires c =
+    let inside = c.store.inside in
+    let s : State = the_view inside in
+    let kept = subst IsKeptState (sym c.store.view_is) c.requires.kept in
+    let few = c.scripts_are_few.ensures resolved_forms s kept.reached in
+    subst (All IsPackable) (sym (c.numbers-numbers.ensures s))
+    (started_packed s.submitted few c.min-count.result inside.transaction_table.dormant c.in_ok-run.run'.prepared
+    c.in_ok-run.run'.active c.store.invariant.0.arrived c.in_ok-run.ensures.prepared
+    (c.in_ok-run.ensures.active
+    ∙ ap (λ (all : List Dormant). by_number tx_of (map fresh all)) (c.as_slice.ensures.value
+    ∙ c.in_ok-entrants.ensures)))
+
 pub returns-clause-ok : goal.returns-clause-ok
 returns-clause-ok c =
     let s : State = the_view c.store.inside in
@@ -56,7 +72,7 @@ returns-clause-ok c =
     c.min-count.ensures
     ∙ ap (λ n. min n 64) waiting in
     started FormFault s c.args.store.now c.min-count.result c.take_first.new.self.dormant c.take_first.new.self.fates
-    c.in_ok-run.run'.prepared c.in_ok-run.run'.active c.numbers-members.result c.clear.new.self.items
+    c.in_ok-run.run'.prepared c.in_ok-run.run'.active c.of-members.result c.clear.new.self.items
     c.store.view_is c.if-store.false c.clear.ensures.items (c.store.invariant.0.idle_prepared c.if-store.false) some
     least c.in_ok-run.ensures.prepared
     (c.in_ok-run.ensures.active
@@ -64,4 +80,4 @@ returns-clause-ok c =
     ∙ c.in_ok-entrants.ensures))
     (ap (λ (r : TransactionTable). r.dormant) c.take_first.ensures)
     (ap (λ (r : TransactionTable). r.fates) c.take_first.ensures)
-    (c.numbers-members.ensures s)
+    (c.of-members.ensures ∙ c.numbers-numbers.ensures s)

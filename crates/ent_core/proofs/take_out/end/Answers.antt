@@ -1,4 +1,6 @@
 use Rattle.std.proofs.Common.{◌≡◌, ◌∙◌, None, ap, arith, false, sym, subst, List}
+use Rattle.std.specs.Prelude.{All}
+use Rattle.ent_core.proofs.Packing.{IsPackable, run_packed}
 use Rattle.ent_core.proofs.TakenOut.{kept_ended, may_leave, no_active_left, no_prepared_left, numbers_leaving, room_for}
 use Rattle.ent_core.specs.TakeOut.{MayLeave}
 use Rattle.ent_core.specs.contracts.store.Store.{the_view}
@@ -35,10 +37,18 @@ invariant_of-store c =
       c.store.invariant.1,
     )
 
+pub of-requires : goal.of-requires
+of-requires c =
+    let s : State = c.args.store.now in
+    subst (All IsPackable) (sym (numbers_leaving c.take_out-members.result (run_attempts_in None (members s))
+    (by_number tx_of (members s)) c.take_out-members.ensures.members (every_run_attempt (members s))))
+    (run_packed s.submitted c.requires.few (members s) c.requires.within.members)
+
 pub returns-clause-members : goal.returns-clause-members
 returns-clause-members c =
     let s : State = c.args.store.now in
-    numbers_leaving c.take_out-members.result (run_attempts_in None (members s)) (by_number tx_of (members s))
+    c.of.ensures
+    ∙ numbers_leaving c.take_out-members.result (run_attempts_in None (members s)) (by_number tx_of (members s))
     c.take_out-members.ensures.members (every_run_attempt (members s))
 
 pub returns-clause-state : goal.returns-clause-state

@@ -1,9 +1,10 @@
 use Rattle.std.proofs.Common.{◌≡◌, ◌∙◌, ap, arith, length, subst, sym}
 use Rattle.ent_protocol.specs.Reached.{IsGatheredState}
 use Rattle.ent_core.specs.Passed.{resolved_forms}
+use Rattle.ent_core.proofs.Playing.{as_many_submitted}
 use Rattle.ent_desk.specs.Opened.{tickets_from}
 use Rattle.ent_desk.proofs.Closed.{length_tickets}
-use Rattle.ent_desk.proofs.Opened.{as_many, none_committed}
+use Rattle.ent_desk.proofs.Opened.{none_committed}
 use Rattle.ent_desk.proofs.opening.opened_over.Goals as goal
 
 pub returns-clause-made : goal.returns-clause-made
@@ -20,7 +21,7 @@ returns-clause-counted c =
     let scripts = c.args.input.scripts in
     let items = c.in_ok-tickets.ensures ∙ ap (tickets_from 1) (c.as_slice.ensures ∙ c.deref.ensures) in
     let own : c.len.result ≡ length c.in_ok-tickets.tickets.items = omega arith in
-    let many = as_many c.args.input.opening scripts c.in_ok-core.core c.in_ok-core.ensures.submitted in
+    let many = as_many_submitted c.args.input.opening scripts c.in_ok-core.core c.in_ok-core.ensures.submitted in
     own ∙ ap length items ∙ length_tickets 1 scripts ∙ sym many
 
 pub returns-clause-committed : goal.returns-clause-committed

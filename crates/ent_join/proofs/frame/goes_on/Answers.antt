@@ -1,7 +1,8 @@
 use Rattle.std.proofs.Common.{◌<◌, ◌∙◌, sym, subst, arith}
 use Rattle.std.specs.List.{AllByRecursion}
+use Rattle.ent_lists.proofs.Options.{none_there}
 use Rattle.ent_match.specs.Links.{IsMarked}
-use Rattle.ent_join.proofs.Read.{index_refuses, index_unread, none_there}
+use Rattle.ent_join.proofs.Read.{index_refuses, index_unread}
 use Rattle.ent_join.proofs.frame.goes_on.Goals as goal
 
 pub returns-then-is_none-clause-passes : goal.returns-then-is_none-clause-passes

@@ -2,9 +2,10 @@ use Rattle.std.proofs.Common.{◌≡◌, true, false, sym, ap, ◌∙◌}
 use Rattle.std.specs.FinSet as finite
 use Rattle.ent_lock.specs.Layout.{held_in}
 use Rattle.std.proofs.Common.{inl, inr}
+use Rattle.std.proofs.lemmas.Bool.{not-false}
 use Rattle.ent_lists.specs.Elements.{turned}
 use Rattle.ent_lock.specs.Use.{Uses}
-use Rattle.ent_lock.proofs.Held.{the_use, not_new, insert_again, remove_insert, on_err_then, no_err}
+use Rattle.ent_lock.proofs.Held.{the_use, insert_again, remove_insert, on_err_then, no_err}
 use Rattle.ent_lock.proofs.table_uses.+add_all.Goals as goal
 
 pub returns-then-is_new-clause-err : goal.returns-then-is_new-clause-err
@@ -27,7 +28,7 @@ returns-else-is_err-clause-err g t c =
     elim c.else-is_err.either [
       | inl both ↦
           let there : finite.contains old u ≡ true =
-          not_new (finite.contains old u) (sym c.in_ok-is_new.ensures.is_new ∙ both.1) in
+          not-false (finite.contains old u) (sym c.in_ok-is_new.ensures.is_new ∙ both.1) in
           on_err_then c.add_all-added.result
           (held_in g.T.TableKey.key c.add_all-added.new.tables.items ≡ held_in g.T.TableKey.key
           c.add_use.new.tables.items) (held_in g.T.TableKey.key c.add_all-added.new.tables.items ≡ old)

@@ -1,12 +1,13 @@
 use Rattle.std.proofs.Common.{◌≡◌, ◌<◌, ◌≤◌, ◌+◌, ℕ, List, [], ◌∷◌, ◌++◌, length, take, get_or, Some, All, sym, ap, subst, ◌∙◌, inl, inr, arith}
 use Rattle.std.proofs.lemmas.List.{take_all, take_more}
 use Rattle.ent_lists.specs.Elements.{In, clash, contains_in, in_either, nth_in, to_flat}
+use Rattle.ent_lists.proofs.Lists.{of_index, index_all}
 use Rattle.ent_meetings.specs.declared.party.Party.{Party}
 use Rattle.ent_meetings.specs.declared.pattern.Pattern.{Pattern}
 use Rattle.ent_meetings.specs.Lack.{IsOffered, IsUnoffered}
 use Rattle.ent_meetings.specs.Meeting.{IsLonely}
 use Rattle.ent_meetings.specs.Waiting.{Waiting, named, offers_at, party_at}
-use Rattle.ent_meetings.proofs.Waiters.{all_in, closed_meets, giver_of, in_all, to_named}
+use Rattle.ent_meetings.proofs.Waiters.{closed_meets, giver_of, to_named}
 use Rattle.ent_meetings.proofs.lack.unoffered.Goals as goal
 
 -- who demands what nobody may offer stands in no closed set
@@ -28,9 +29,9 @@ module _ (demands slice : List Pattern) (place : ℕ) (demand : Pattern) (same :
       → All (IsOffered waiting) (take (place + 1) demands)
   one_more waiting offered before =
       subst (All (IsOffered waiting)) (sym (ap (take (place + 1)) (sym same) ∙ take_more slice place demand low))
-      (all_in (IsOffered waiting) (take place slice ++ get_or slice place demand ∷ []) (λ d there.
+      (index_all (IsOffered waiting) (take place slice ++ get_or slice place demand ∷ []) (λ d there.
       elim (in_either (take place slice) (get_or slice place demand ∷ []) d there) [
-        | inl a ↦ in_all (IsOffered waiting) (take place demands) d before
+        | inl a ↦ of_index (IsOffered waiting) (take place demands) d before
             (subst (λ (xs : List Pattern). In d (take place xs)) same a)
         | inr b ↦ elim b [
           | inl this ↦ subst (IsOffered waiting) (is ∙ sym this) offered

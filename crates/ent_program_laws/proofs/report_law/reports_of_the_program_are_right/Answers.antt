@@ -1,14 +1,10 @@
-use Rattle.std.proofs.Common.{◌≡◌, refl, None, Some}
-use Rattle.ent_form.specs.OpeningFault.{Check, ◌before◌, opening_fault}
+use Rattle.ent_form.specs.OpeningFault.{opening_fault}
 use Rattle.ent_core.specs.Play.{scripts_fault}
+use Rattle.ent_form_laws.proofs.Steps.{nothing_first}
 use Rattle.ent_program_laws.proofs.report_law.reports_of_the_program_are_right.Goals as goal
-
-first_none : (first second : Check) → (first before second) ≡ None → first ≡ None
-first_none None second e = refl
-first_none (Some fault) second e = cc (e)
 
 pub returns : goal.returns
 returns c bytes input book is served short =
     c.reports_of_finished_books_are_right.ensures bytes input book is.read.reads is.read.text.1
-    (first_none (opening_fault input.opening) (scripts_fault input.opening input.scripts) is.formed) served.finished
+    (nothing_first (opening_fault input.opening) (scripts_fault input.opening input.scripts) is.formed) served.finished
     short

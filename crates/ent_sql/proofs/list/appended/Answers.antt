@@ -12,23 +12,23 @@ things-init g c =
     record {
       room = omega (arith, c.len-left.ensures.len, c.len-left.ensures.limit);
       whole = more_start (is (class_of c.args.divider)) (among (firsts t)) (reads t) c.args.end c.args.before
-          g.row.LIMIT _ c.args.tokens (ap (λ n. g.row.LIMIT - n) c.len-left.ensures.len);
+          g.row.LIMIT _ c.args.tokens.now (ap (λ n. g.row.LIMIT - n) c.len-left.ensures.len);
     }
 
 pub returns-then-is_start : goal.returns-then-is_start
 returns-then-is_start g c =
     let t = g.T.Item.grammar in
     rw c.too_many.ensures (more_too_many (is (class_of c.args.divider)) (among (firsts t)) (reads t) c.args.end
-    c.things.items c.things.left c.things.rest c.tail-next.result _ c.if-left-eq0.true
-    (sym c.begins_with_divider.ensures ∙ c.things-test.true) c.tail-next.ensures
+    c.things.items c.things.left c.things.tokens c.advance.new.self _ c.if-left-eq0.true
+    (sym c.begins_with_divider.ensures ∙ c.things-test.true) c.advance.ensures
     (sym c.is_start.ensures ∙ c.if-is_start.true) c.things.invariant.whole)
 
 pub returns-then-left-eq0 : goal.returns-then-left-eq0
 returns-then-left-eq0 g c =
     let t = g.T.Item.grammar in
     rw c.unexpected.ensures (more_unexpected (is (class_of c.args.divider)) (among (firsts t)) (reads t) c.args.end
-    c.things.items c.things.left c.things.rest c.tail-next.result _ c.if-left-eq0.true
-    (sym c.begins_with_divider.ensures ∙ c.things-test.true) c.tail-next.ensures
+    c.things.items c.things.left c.things.tokens c.advance.new.self _ c.if-left-eq0.true
+    (sym c.begins_with_divider.ensures ∙ c.things-test.true) c.advance.ensures
     (sym c.is_start.ensures ∙ c.if-is_start.false) c.things.invariant.whole)
 
 pub returns-in_err-item : goal.returns-in_err-item
@@ -36,8 +36,8 @@ returns-in_err-item g c =
     let t = g.T.Item.grammar in
     let p = err_from_is_err_and c.from_residual.result c.from_residual.ensures.1 in
     rw (p.1, p.2) (more_fault (is (class_of c.args.divider)) (among (firsts t)) (reads t) c.args.end
-    c.in_err-item.field-0.0 c.things.items c.things.left c.things.rest c.tail-next.result _
-    (sym c.begins_with_divider.ensures ∙ c.things-test.true) c.if-left-eq0.false c.tail-next.ensures
+    c.in_err-item.field-0.0 c.things.items c.things.left c.things.tokens c.advance.new.self _
+    (sym c.begins_with_divider.ensures ∙ c.things-test.true) c.if-left-eq0.false c.advance.ensures
     c.in_err-item.ensures c.things.invariant.whole)
 
 pub push-requires : goal.push-requires
@@ -55,8 +55,8 @@ things-preserved g c =
             (c.in_ok-item.item ∷ []),
       );
       whole = more_on (is (class_of c.args.divider)) (among (firsts t)) (reads t) c.args.end c.things.items
-          c.push.new.self c.things.left c.things.rest c.tail-next.result c.in_ok-item.after c.in_ok-item.item _
-          (sym c.begins_with_divider.ensures ∙ c.things-test.true) c.if-left-eq0.false c.tail-next.ensures
+          c.push.new.self c.things.left c.things.tokens c.advance.new.self c.read.new.tokens c.in_ok-item.item _
+          (sym c.begins_with_divider.ensures ∙ c.things-test.true) c.if-left-eq0.false c.advance.ensures
           c.in_ok-item.ensures c.in_ok-push.ensures.ok c.things.invariant.whole;
     }
 
@@ -64,4 +64,4 @@ pub returns : goal.returns
 returns g c =
     let t = g.T.Item.grammar in
     more_done (is (class_of c.args.divider)) (among (firsts t)) (reads t) c.args.end c.things.items c.things.left
-    c.things.rest _ (sym c.begins_with_divider.ensures ∙ c.things-test.false) c.things.invariant.whole
+    c.things.tokens _ (sym c.begins_with_divider.ensures ∙ c.things-test.false) c.things.invariant.whole

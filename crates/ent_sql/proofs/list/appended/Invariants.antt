@@ -8,7 +8,7 @@ use Rattle.ent_sql.proofs.list.appended.Given as goal
 abbrev pub invariant-things : goal.invariant-things
 invariant-things g l = let t = g.T.Item.grammar in record {
   room : l.left + length l.items ≡ g.row.LIMIT;
-  whole : More (is (class_of l.divider)) (among (firsts t)) (reads t) l.end l.items l.left l.rest
+  whole : More (is (class_of l.divider)) (among (firsts t)) (reads t) l.end l.items l.left l.tokens
       (reads (chain (more (g.row.LIMIT - length l.fn.before) l.divider t) (λ xs. give (l.fn.before ++ xs))) l.end
       l.fn.tokens);
 }

@@ -11,7 +11,7 @@ things-init g c =
     let t = g.T.Item.grammar in
     record {
       room = omega (arith, ap length c.new-items.ensures);
-      whole = many_first (among (firsts t)) (reads t) c.args.end c.new-items.result g.row.LIMIT c.args.tokens
+      whole = many_first (among (firsts t)) (reads t) c.args.end c.new-items.result g.row.LIMIT c.args.tokens.now
           c.new-items.ensures;
     }
 
@@ -19,7 +19,7 @@ pub returns-then-left-eq0 : goal.returns-then-left-eq0
 returns-then-left-eq0 g c =
     let t = g.T.Item.grammar in
     rw c.too_many.ensures (many_too_many (among (firsts t)) (reads t) c.args.end c.things.items c.things.left
-    c.things.rest _ c.if-left-eq0.true
+    c.things.tokens _ c.if-left-eq0.true
     (sym c.is_start.ensures ∙ c.things-test.true) c.things.invariant.whole)
 
 pub returns-in_err-item : goal.returns-in_err-item
@@ -27,7 +27,7 @@ returns-in_err-item g c =
     let t = g.T.Item.grammar in
     let p = err_from_is_err_and c.from_residual.result c.from_residual.ensures.1 in
     rw (p.1, p.2) (many_fault (among (firsts t)) (reads t) c.args.end c.in_err-item.field-0.0 c.things.items
-    c.things.left c.things.rest _
+    c.things.left c.things.tokens _
     (sym c.is_start.ensures ∙ c.things-test.true) c.if-left-eq0.false c.in_err-item.ensures c.things.invariant.whole)
 
 pub push-requires : goal.push-requires
@@ -44,8 +44,8 @@ things-preserved g c =
         length-append c.things.items
             (c.in_ok-item.item ∷ []),
       );
-      whole = many_on (among (firsts t)) (reads t) c.args.end c.things.items c.push.new.self c.things.left c.things.rest
-          c.in_ok-item.after c.in_ok-item.item _
+      whole = many_on (among (firsts t)) (reads t) c.args.end c.things.items c.push.new.self c.things.left c.things.tokens
+          c.read.new.tokens c.in_ok-item.item _
           (sym c.is_start.ensures ∙ c.things-test.true) c.if-left-eq0.false c.in_ok-item.ensures c.in_ok-push.ensures.ok
           c.things.invariant.whole;
     }
@@ -53,5 +53,5 @@ things-preserved g c =
 pub returns : goal.returns
 returns g c =
     let t = g.T.Item.grammar in
-    many_done (among (firsts t)) (reads t) c.args.end c.things.items c.things.left c.things.rest _
+    many_done (among (firsts t)) (reads t) c.args.end c.things.items c.things.left c.things.tokens _
     (sym c.is_start.ensures ∙ c.things-test.false) c.things.invariant.whole

@@ -5,5 +5,6 @@ pub returns : goal.returns
 returns c = one_verdict (record {
   told_once = c.texts_tell_of_one_history.ensures;
   is_report = c.told_texts_of_characters_are_reports.ensures;
+  stands_once = c.things_stand_at_one_line.ensures;
   stops_once = c.texts_stop_at_one_line.ensures;
 })

@@ -1,8 +1,9 @@
 use Rattle.std.proofs.Common.{refl, sym, ◌∙◌, true≢false}
+use Rattle.ent_lists.specs.Elements.{neither}
 use Rattle.ent_protocol.specs.Member.{is_lent, next_of}
 use Rattle.ent_waits.specs.Waits.{nothing, state_with}
 use Rattle.ent_waits.proofs.Moving.{free_asks, free_moves, mover_is_unblocked}
-use Rattle.ent_waits.proofs.WouldMove.{idle_is_unposted, mover}
+use Rattle.ent_waits.proofs.WouldMove.{mover}
 use Rattle.ent_waits.proofs.movers.mover_of.Goals as goal
 
 pub returns-then-not-is_free : goal.returns-then-not-is_free
@@ -28,8 +29,8 @@ stays_safe-requires c =
     let here = state_with c.args.run.now c.args.submitted.now c.args.lent.now nothing in
     let member = c.args.member.now in
     c.requires
-    (idle_is_unposted member.posted (is_lent here member.tx)
-    ((c.is_free.ensures nothing).0 c.if-not-is_free.false).idle)
+    (neither member.posted (is_lent here member.tx)
+    ((c.is_free.ensures nothing).0 c.if-not-is_free.false).idle).0
 
 pub returns-then-branch : goal.returns-then-branch
 returns-then-branch c = λ s same.

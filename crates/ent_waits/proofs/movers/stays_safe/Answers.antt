@@ -6,7 +6,8 @@ use Rattle.ent_members.specs.Next.{next_seen}
 use Rattle.ent_protocol.specs.Member.{Asks, next_in, posted_as}
 use Rattle.ent_protocol.specs.State.{Submitted}
 use Rattle.ent_semantics.specs.Serial.{numbered}
-use Rattle.ent_waits.proofs.Posting.{asks_same, fault_tells, has_none, pool_is}
+use Rattle.ent_protocol_laws.proofs.Asked.{same_asks}
+use Rattle.ent_waits.proofs.Posting.{fault_tells, has_none, pool_is}
 use Rattle.ent_waits.proofs.movers.stays_safe.Goals as goal
 
 pub post_fault-requires : goal.post_fault-requires
@@ -30,7 +31,7 @@ returns-in-Asks c = λ s statement same posted next.
       tx = c.tx.ensures i;
       attempt = c.attempt.ensures i;
       place = c.place-place.ensures i;
-      statement = asks_same (arc_value c.in-Asks.statement) statement asks i;
+      statement = same_asks (arc_value c.in-Asks.statement) statement asks i;
     }) in
     subst (λ (pool : List Posted). IsTrue c.is_none.result ↔ IsSafe pool)
     (pool_is s c.args.pool.now query member statement posted is)

@@ -2,9 +2,10 @@ use Rattle.std.proofs.Common.{◌≡◌, ◌∙◌, ℕ, [], List, Option, lengt
 use Rattle.ent_lock.specs.Use.{IsLeast}
 use Rattle.ent_coordination.specs.Pool.{Posted, first_tx}
 use Rattle.ent_match.specs.Components.{AreFirstPlaces, component_at}
+use Rattle.ent_match.proofs.Beginning.{some_within}
 use Rattle.ent_protocol.specs.Quiet.{IsUntried}
 use Rattle.ent_waits.specs.Open.{IsFirstOpen, NoneIsOpen}
-use Rattle.ent_waits.proofs.Picked.{first_at, least_untried, no_untried, picked_at, picked_none, within_posted}
+use Rattle.ent_waits.proofs.Picked.{first_at, least_untried, no_untried, picked_at, picked_none}
 use Rattle.ent_waits.proofs.picking.first_untried.Goals as goal
 
 pub first_open-requires : goal.first_open-requires
@@ -20,7 +21,7 @@ bounds-members-place c =
     let firsts = c.in_ok-firsts.firsts.items in
     let begins = subst (λ (fs : List (Option ℕ)). IsFirstOpen c.members-members.result.now fs c.args.tried.now [] place)
     c.as_slice.ensures.value c.in-Some.ensures in
-    let below = within_posted firsts place place begins.is_open.begins in
+    let below = some_within firsts place place begins.is_open.begins in
     let room = c.in_ok-firsts.ensures.room in
     let same = ap (λ (xs : List Posted). length xs) c.members-members.ensures.members in
     omega arith

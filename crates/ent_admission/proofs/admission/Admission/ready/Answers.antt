@@ -2,7 +2,7 @@ use Rattle.std.proofs.Common.{◌≡◌, ◌∙◌, ℕ, true, refl, ap, subst}
 use Rattle.std.specs.BTreeSet.{contains}
 use Rattle.std.specs.Ordering.{nat_cmp}
 use Rattle.ent_waiting.specs.WaitingList.{StandsAt}
-use Rattle.ent_waiting.specs.declared.waiter.Place.TheVariants.{Chosen}
+use Rattle.ent_waiting.specs.declared.waiter.WaitingPlace.TheVariants.{Chosen}
 use Rattle.ent_admission.specs.Admission.{Admission}
 use Rattle.ent_admission.specs.contracts.admission.Admission.{the_view}
 use Rattle.ent_admission.proofs.Calls.{kept_moved, stands_ready}

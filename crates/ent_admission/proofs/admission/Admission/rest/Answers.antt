@@ -1,5 +1,5 @@
 use Rattle.std.proofs.Common.{refl, subst}
-use Rattle.ent_waiting.specs.declared.waiter.Place.TheVariants.{Resting}
+use Rattle.ent_waiting.specs.declared.waiter.WaitingPlace.TheVariants.{Resting}
 use Rattle.ent_admission.specs.Acts.{OnlyShifts}
 use Rattle.ent_admission.specs.Admission.{Admission}
 use Rattle.ent_admission.specs.contracts.admission.Admission.{the_view}

@@ -1,9 +1,10 @@
 use Rattle.std.proofs.Common.{◌≡◌, ◌∙◌, ◌++◌, ℕ, Option, Some, false, true, sym, ap, subst}
 use Rattle.std.specs.BTreeSet.{contains}
 use Rattle.std.specs.Ordering.{nat_cmp}
+use Rattle.std.proofs.lemmas.Option.{same_Some}
 use Rattle.ent_waiting.specs.WaitingList.{StandsAt, is_stationed, waiter_of}
 use Rattle.ent_waiting.specs.declared.queues.Station.TheVariants.{Batch}
-use Rattle.ent_waiting.specs.declared.waiter.Place.TheVariants.{Submitted}
+use Rattle.ent_waiting.specs.declared.waiter.WaitingPlace.TheVariants.{Submitted}
 use Rattle.ent_waiting.specs.declared.waiter.Submission.{Submission}
 use Rattle.ent_epoch.specs.Epoch.{fate_at}
 use Rattle.ent_protocol.specs.Lookup.{standing}
@@ -13,9 +14,6 @@ use Rattle.ent_admission.specs.Admission.{Admission}
 use Rattle.ent_admission.specs.contracts.admission.Admission.{the_view}
 use Rattle.ent_admission.proofs.Calls.{back_others, back_settled, batch_submitted, submission_of}
 use Rattle.ent_admission.proofs.admission.Admission.settle.Goals as goal
-
-same_some : {X : Type 0} (x y : X) → Some x ≡ Some y → x ≡ y
-same_some x y e = cc
 
 pub unreachable-requires : goal.unreachable-requires
 unreachable-requires c =
@@ -46,7 +44,7 @@ returns-in_ok-end-in-Some-ending_of-clause-ok c =
     ∙ ap (λ (k : ℕ). submission_at (waiter_of c.args.self.now.list k)) c.new-own.ensures
     ∙ submission_of c.args.self.now.list c.args.ticket own.0 stands in
     let s = c.in-Some.submission in
-    let same : own.0 ≡ s = same_some own.0 s (sym found ∙ c.in-Some.is) in
+    let same : own.0 ≡ s = same_Some own.0 s (sym found ∙ c.in-Some.is) in
     let there = subst (λ (x : Submission). StandsAt c.args.self.now.list c.args.ticket (Submitted x)) same stands in
     let told : ending_with s.epoch (fate_at (standing c.args.self.now.epoch.core s.tx)) ≡ c.ending_of.result =
     sym (c.ending_of.ensures ∙ ap (ending_with s.epoch) (c.fate.ensures
@@ -85,7 +83,7 @@ returns-in_ok-wait_again-in-None-clause-ok c =
     ∙ ap (λ (k : ℕ). submission_at (waiter_of c.args.self.now.list k)) c.new-own.ensures
     ∙ submission_of c.args.self.now.list c.args.ticket own.0 stands in
     let s = c.in-Some.submission in
-    let same : own.0 ≡ s = same_some own.0 s (sym found ∙ c.in-Some.is) in
+    let same : own.0 ≡ s = same_Some own.0 s (sym found ∙ c.in-Some.is) in
     let there = subst (λ (x : Submission). StandsAt c.args.self.now.list c.args.ticket (Submitted x)) same stands in
     let told : ending_with s.epoch (fate_at (standing c.args.self.now.epoch.core s.tx)) ≡ c.ending_of.result =
     sym (c.ending_of.ensures ∙ ap (ending_with s.epoch) (c.fate.ensures

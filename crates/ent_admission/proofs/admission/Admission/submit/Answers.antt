@@ -2,18 +2,16 @@ use Rattle.std.proofs.Common.{◌≡◌, ◌∙◌, ◌+◌, ℕ, Bool, Some, tr
 use Rattle.std.specs.Prelude.{if◌then◌else◌}
 use Rattle.std.specs.BTreeSet.{contains}
 use Rattle.std.specs.Ordering.{nat_cmp}
+use Rattle.std.proofs.lemmas.Option.{same_Some}
 use Rattle.ent_epoch.specs.Epoch.{Takes}
 use Rattle.ent_waiting.specs.WaitingList.{StandsAt, UpdatesAt, changed, waiter_of}
-use Rattle.ent_waiting.specs.declared.waiter.Place.TheVariants.{Chosen, Submitted}
+use Rattle.ent_waiting.specs.declared.waiter.WaitingPlace.TheVariants.{Chosen, Submitted}
 use Rattle.ent_waiting.specs.declared.waiter.Waiter.{Waiter}
 use Rattle.ent_admission.specs.Moves.{Enters}
 use Rattle.ent_admission.specs.Admission.{Admission}
 use Rattle.ent_admission.specs.contracts.admission.Admission.{the_view}
 use Rattle.ent_admission.proofs.Calls.{kept_submitted}
 use Rattle.ent_admission.proofs.admission.Admission.submit.Goals as goal
-
-same_some : {X : Type 0} (x y : X) → Some x ≡ Some y → x ≡ y
-same_some x y e = cc
 
 pub invariant_of-self-2 : goal.invariant_of-self-2
 invariant_of-self-2 c =
@@ -32,7 +30,7 @@ invariant_of-self-2 c =
     ap (λ (k : ℕ). waiter_of a.list k) c.new-own.ensures ∙ waits in
     let comes : contains nat_cmp a.coming ticket ≡ true =
     ap (λ (x : Admission). contains nat_cmp x.coming ticket) c.self.view_is ∙ c.requires.comes in
-    let same : c.in-Some.waiter.now ≡ waiter = same_some c.in-Some.waiter.now waiter (c.in-Some.ensures ∙ waits_own) in
+    let same : c.in-Some.waiter.now ≡ waiter = same_Some c.in-Some.waiter.now waiter (c.in-Some.ensures ∙ waits_own) in
     let takes = subst (λ (w : Waiter). Takes a.epoch ticket w.script submission new.epoch) same
     (subst (λ (k : ℕ). Takes a.epoch k c.in-Some.waiter.now.script submission new.epoch) c.new-own.ensures
     c.in_ok-submission.ensures.ok) in
@@ -59,7 +57,7 @@ returns-clause-ok c =
     let waiter = stands.waiter in
     let waits_own : waiter_of a.list c.new-own.result ≡ Some waiter =
     ap (λ (k : ℕ). waiter_of a.list k) c.new-own.ensures ∙ stands.waits in
-    let same : c.in-Some.waiter.now ≡ waiter = same_some c.in-Some.waiter.now waiter (c.in-Some.ensures ∙ waits_own) in
+    let same : c.in-Some.waiter.now ≡ waiter = same_Some c.in-Some.waiter.now waiter (c.in-Some.ensures ∙ waits_own) in
     subst (λ (x : Admission). Enters x new) c.self.view_is
     (record {
       ticket = ticket;

@@ -1,5 +1,5 @@
 use Rattle.ent_protocol.specs.Reached.{table_names}
-use Rattle.ent_epoch.proofs.Turned.{found_by_name}
+use Rattle.ent_renewal.proofs.Under.{found_by_name}
 use Rattle.ent_epoch.proofs.turn.PresentTablesTablesByName.table_named.Goals as goal
 
 pub returns : goal.returns

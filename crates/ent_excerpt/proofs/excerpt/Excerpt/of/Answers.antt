@@ -1,4 +1,5 @@
-use Rattle.ent_excerpt.proofs.Parts.{end_is_shorter, beginning_is_shorter, in_turn, not_cut}
+use Rattle.ent_lists.proofs.Truth.{in_turn}
+use Rattle.ent_excerpt.proofs.Parts.{end_is_shorter, beginning_is_shorter, not_cut}
 use Rattle.ent_excerpt.proofs.excerpt.Excerpt.of.Goals as goal
 
 pub returns : goal.returns

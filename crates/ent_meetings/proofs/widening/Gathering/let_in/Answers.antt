@@ -1,6 +1,7 @@
 use Rattle.std.proofs.Common.{◌≡◌, ℕ, List, [], ◌∷◌, true, false, nat_eq, Option, None, Some, refl, subst, sym, ap, ◌∙◌, inl, inr, arith}
 use Rattle.std.specs.Borrow.{Bor}
 use Rattle.std.specs.List.{list_any}
+use Rattle.std.proofs.lemmas.Option.{same_Some}
 use Rattle.ent_lists.specs.Elements.{In, any_none, any_some, differ, in_second, same_number}
 use Rattle.ent_meetings.specs.declared.party.Party.{Party}
 use Rattle.ent_meetings.specs.Group.{may_come, seen}
@@ -23,9 +24,6 @@ among tickets slice ticket is some =
     let own = any_some (λ own. nat_eq own ticket) tickets
     (subst (λ (xs : List ℕ). list_any (λ own. nat_eq own ticket) xs ≡ true) is some) in
     subst (λ (n : ℕ). In n tickets) (same_number own.0 ticket own.2) own.1
-
-some_same : {X : Type 0} (x y : X) → Some x ≡ Some y → x ≡ y
-some_same x y is = cc
 
 none_some : {X : Type 0} (o : Option X) (y : X) → o ≡ None → o ≡ Some y → ⊥
 none_some o y none some = cc
@@ -71,7 +69,7 @@ returns-else-may_come-clause-ok c = grows_not c.args.index.now c.args.self.now c
 pub returns-else-may_come-clause-tried : goal.returns-else-may_come-clause-tried
 returns-else-may_come-clause-tried c low party waits =
     inr (subst (λ (p : Party). may_come (named c.args.index.now c.args.self.now.tickets.items) p ≡ false)
-    (some_same c.in-Some.party.now party (c.in-Some.ensures ∙ waits))
+    (same_Some c.in-Some.party.now party (c.in-Some.ensures ∙ waits))
     (ap (λ (ps : List Party). may_come ps c.in-Some.party.now) (sym c.requires)
     ∙ ap (λ (refs : List (Bor Party)). may_come (seen refs) c.in-Some.party.now) (sym c.as_slice-in-Some.ensures.value)
     ∙ sym c.may_come.ensures ∙ c.if-may_come.false))

@@ -1,18 +1,12 @@
-use Rattle.std.proofs.Common.{◌≡◌, ◌≤◌, ℕ, List, [], Option, None, Some, length, sym, ap, ◌∙◌, ⊎_elim, arith}
+use Rattle.std.proofs.Common.{◌≡◌, List, [], Some, sym, ap, ◌∙◌, arith}
 use Rattle.std.specs.List.{slice_get}
-use Rattle.std.proofs.lemmas.Option.{get_or_from_slice_get, slice_get_cases, slice_get_within}
+use Rattle.std.proofs.lemmas.Option.{get_or_from_slice_get, slice_get_within}
+use Rattle.ent_lists.proofs.Lists.{got_none}
 use Rattle.ent_meetings.specs.declared.party.Party.{Party}
 use Rattle.ent_meetings.specs.Waiting.{named}
 use Rattle.ent_meetings.proofs.Growing.{grows_both, grows_not, shorter}
 use Rattle.ent_meetings.proofs.Settled.{all_past, all_past_most, party_more, past_none}
 use Rattle.ent_meetings.proofs.widening.Gathering.widen.Goals as goal
-
-past_end : {X : Type 0} (xs : List X) (place : ℕ) → slice_get xs place ≡ None → length xs ≤ place
-past_end xs place none =
-    ⊎_elim (λ inside. absurd (clash' (slice_get xs place) inside.0 none inside.2)) (λ outside. outside.0) (slice_get_cases xs place).1
-  where
-    clash' : {Y : Type 0} (o : Option Y) (y : Y) → o ≡ None → o ≡ Some y → ⊥
-    clash' o y none some = cc
 
 pub loop-place-init : goal.loop-place-init
 loop-place-init c = record {
@@ -54,7 +48,7 @@ returns-in_default-clause-whole c some low =
     let before = c.loop-place.invariant in
     let mid = c.loop-place.self.tickets.items in
     all_past waiting mid c.loop-place.place
-    (past_end (named waiting mid) c.loop-place.place
+    (got_none (named waiting mid) c.loop-place.place
     (ap (λ (parties : List Party). slice_get parties c.loop-place.place) (sym before.grows.parties) ∙ sym c.in_default.ensures))
     (before.past some low)
 

@@ -1,7 +1,7 @@
 use Rattle.std.proofs.Common.{◌≡◌, ◌∙◌, Some, sym, subst, ap, ℕ}
 use Rattle.ent_waiting.specs.Queues.{stands_in}
 use Rattle.ent_waiting.specs.WaitingList.{WaitingList, Onward, waiter_of}
-use Rattle.ent_waiting.specs.declared.waiter.Place.TheVariants.{Submitted}
+use Rattle.ent_waiting.specs.declared.waiter.WaitingPlace.TheVariants.{Submitted}
 use Rattle.ent_waiting.specs.contracts.waiting_list.WaitingList.{the_view}
 use Rattle.ent_waiting.proofs.Keeping.{kept_over, like_chosen, onward_over, queued_over}
 use Rattle.ent_waiting.proofs.waiting_list.WaitingList.submitted.Goals as goal
