@@ -6,7 +6,7 @@ use crate::pace::{end_last_run, pace};
 use crate::report::append_report;
 use crate::text::{ANN, BOB, CLEO, DONALD, GOOFY, MICKEY, MINNIE, OPENING};
 use anyhow::{Context, Result};
-use ent_serve::{Blanks, Both, Manager, Naming, Open, Seats, Session};
+use ent_serve::{BlankLog, Blanks, Both, Manager, Naming, Open, Seats, Session};
 use ent_sql::parse_input;
 use std::alloc::{AllocError, Global};
 use std::marker::Brand;
@@ -66,7 +66,8 @@ fn report_of<L: Naming + Send + Sync, R: Threads + Wait + Clock + Sync>(
     alloc: Global,
     blank: Blanks,
 ) -> Result<Vec<u8>>
-    requires names { (blank.scripts.name ≡ L.Scripts.name) × (blank.entries.name ≡ L.Entries.name) }
+    requires names { (blank.scripts.name ≡ L.Scripts.name) × (blank.entries.name ≡ L.Entries.name)
+        × (blank.jobs ≡ L.Scripts.book) }
     requires blank { (blank.scripts.parts ≡ 7) × (blank.entries.parts ≡ 7) }
     requires scripts { (L.Scripts.seats ≡ 7) × (L.Scripts.parts ≡ 7) }
     requires entries { (L.Entries.seats ≡ 7) × (L.Entries.parts ≡ 7) }
@@ -100,7 +101,7 @@ fn report_by<S: Seats + Send + Sync, E: Seats + Send + Sync, R: Threads + Wait +
     alloc: Global,
     blank: Blanks,
 ) -> Result<Vec<u8>>
-    requires names { (blank.scripts.name ≡ S.name) × (blank.entries.name ≡ E.name) }
+    requires names { (blank.scripts.name ≡ S.name) × (blank.entries.name ≡ E.name) × (blank.jobs ≡ S.book) }
     requires blank { (blank.scripts.parts ≡ 7) × (blank.entries.parts ≡ 7) }
     requires scripts { (S.seats ≡ 7) × (S.parts ≡ 7) }
     requires entries { (E.seats ≡ 7) × (E.parts ≡ 7) }
@@ -116,6 +117,7 @@ pub(crate) fn report<R: Threads + Wait + Clock + Sync>(rt: &R, alloc: Global) ->
         Blanks {
             scripts: Blank::new(7),
             entries: Blank::new(7),
+            jobs: BlankLog::new(),
         },
     )
 }

@@ -19,30 +19,29 @@ use Rattle.ent_protocol.specs.Waits.{NoDeadlock}
 use Rattle.ent_protocol_laws.specs.ByNumber.{StandByNumber}
 use Rattle.ent_protocol_laws.specs.Standing.{StandOnce}
 use Rattle.ent_termination.specs.Fates.{HaveFates}
-use Rattle.ent_desk.specs.Advance.{Advances, AdvancesInRun, BeginsUnless, EndsRun, IsDone, IsNext}
+use Rattle.ent_desk.specs.Advance.{Told, Advances, AdvancesInRun, BeginsUnless, EndsRun, IsDone, IsNext}
 use Rattle.ent_desk.specs.Advance.{IsNextInRun, IsStill, Makes, MakesUnless, MovesInRun, MovesUnlessStill, RestsAs}
 use Rattle.ent_desk.specs.Advance.{StartsRun, advance_in, moved_unless}
 use Rattle.ent_desk.specs.Seen.{DeskState, LeadsOn}
-use Rattle.ent_desk.specs.declared.advance.Advance.{Advance}
 use Rattle.ent_desk.specs.declared.advance.Advance.TheVariants as advances
 use Rattle.ent_desk.proofs.Keeping.{advances_on, none_on}
 use Rattle.ent_desk.proofs.Standstill.{awaits, cannot_move}
 
 -- ---- what replies tell
 
-abbrev is_move : Advance → Bool
+abbrev is_move : Told → Bool
 is_move (advances.Lent job) = true
 is_move advances.Moved = true
 is_move advances.Idle = false
 is_move advances.Done = false
 
-some_move : (one other : Advance) → is_move one ≡ true → Some one ≡ Some other → is_move other ≡ true
-some_move one other is e = let same : one ≡ other = cc in subst (λ (told : Advance). is_move told ≡ true) same is
+some_move : (one other : Told) → is_move one ≡ true → Some one ≡ Some other → is_move other ≡ true
+some_move one other is e = let same : one ≡ other = cc in subst (λ (told : Told). is_move told ≡ true) same is
 
-not_none : (told : Advance) → None ≡ Some told → ⊥
+not_none : (told : Told) → None ≡ Some told → ⊥
 not_none told e = cc
 
-unless_moves : (idle : Bool) (told : Advance) → moved_unless idle ≡ Some told → is_move told ≡ true
+unless_moves : (idle : Bool) (told : Told) → moved_unless idle ≡ Some told → is_move told ≡ true
 unless_moves true told e = absurd (not_none told e)
 unless_moves false told e = some_move advances.Moved told refl e
 
@@ -52,7 +51,7 @@ unless_none false e = absurd (not_none advances.Moved (sym e))
 
 module _ {F : Type 0} where
   -- a reply tells of a move
-  pub moves_told : (reply : Reply F) (told : Advance) → advance_in reply ≡ Some told → is_move told ≡ true
+  pub moves_told : (reply : Reply F) (told : Told) → advance_in reply ≡ Some told → is_move told ≡ true
   moves_told (events.Submitted tx) told e = unless_moves false told e
   moves_told (events.Started members) told e = unless_moves false told e
   moves_told (events.Blocked holder) told e = unless_moves true told e
@@ -105,7 +104,7 @@ module _ {F : Type 0} where
   idle_told (events.Full script) e = unless_none true e
   idle_told (events.Faulty script fault) e = unless_none true e
 
-by_told : (event : Event) (before after : DeskState) (told : Advance) → is_move told ≡ true → IsNext before.core event
+by_told : (event : Event) (before after : DeskState) (told : Told) → is_move told ≡ true → IsNext before.core event
     → Makes event before (Some told) after → Advances before told after
 by_told event before after (advances.Lent job) move next makes = (event, next, makes)
 by_told event before after advances.Moved move next makes = (event, next, makes)
@@ -113,7 +112,7 @@ by_told event before after advances.Idle move next makes = clash false move refl
 by_told event before after advances.Done move next makes = clash false move refl
 
 -- the next event is made
-pub next_made : (event : Event) (before after : DeskState) (told : Advance) → IsNext before.core event
+pub next_made : (event : Event) (before after : DeskState) (told : Told) → IsNext before.core event
     → Makes event before (Some told) after → Advances before told after
 next_made event before after told next makes =
     by_told event before after told (moves_told makes.reply told makes.tells) next makes
@@ -133,11 +132,11 @@ abbrev pub desk : ℕ → State → DeskState
 desk count core = record { core = core; count = count }
 
 module _ (count : ℕ) (old new : State) (reply : Reply FormFault) where
-  makes : (event : Event) (told : Option Advance) → told ≡ advance_in reply
+  makes : (event : Event) (told : Option Told) → told ≡ advance_in reply
       → Step resolved_forms old event reply new → Makes event (desk count old) told (desk count new)
   makes event told is step = record { reply = reply; step = step; tells = sym is; count = refl }
 
-  told_some : (told : Advance) (other : Reply FormFault) → reply ≡ other → advance_in other ≡ Some told
+  told_some : (told : Told) (other : Reply FormFault) → reply ≡ other → advance_in other ≡ Some told
       → None ≡ advance_in reply → ⊥
   told_some told other is tells none =
       not_none told (none ∙ ap (λ (r : Reply FormFault). advance_in r) is ∙ tells)
@@ -148,7 +147,7 @@ module _ (count : ℕ) (old new : State) (reply : Reply FormFault) where
   none_picked (inl h) none = absurd (told_some (advances.Lent _) (events.Lent _) h.replies refl none)
   none_picked (inr h) none = (h.1.1, h.0)
 
-  pub pick_made : (told : Option Advance) → told ≡ advance_in reply → Picks old reply new
+  pub pick_made : (told : Option Told) → told ≡ advance_in reply → Picks old reply new
       → MakesUnless (NoneCanBePicked old) events.Pick (desk count old) told (desk count new)
   pick_made (Some told) is step = makes events.Pick (Some told) is step
   pick_made None is step = let h = none_picked step is in (ap (desk count) h.0, h.1)
@@ -159,14 +158,14 @@ module _ (count : ℕ) (old new : State) (reply : Reply FormFault) where
   none_broken (inl h) none = absurd (told_some advances.Moved (events.Broken _ _) h.replies refl none)
   none_broken (inr h) none = (h.1.1, h.0)
 
-  pub break_made : (told : Option Advance) → told ≡ advance_in reply → BreaksIfAny old reply new
+  pub break_made : (told : Option Told) → told ≡ advance_in reply → BreaksIfAny old reply new
       → MakesUnless (NoDeadlock old) events.BreakCycle (desk count old) told (desk count new)
   break_made (Some told) is step = makes events.BreakCycle (Some told) is step
   break_made None is step = let h = none_broken step is in (ap (desk count) h.0, h.1)
 
   -- ---- a begin
 
-  pub begin_made : (tx : ℕ) (told : Option Advance) → told ≡ advance_in reply → Begins old tx reply new
+  pub begin_made : (tx : ℕ) (told : Option Told) → told ≡ advance_in reply → Begins old tx reply new
       → StandByNumber old → StandOnce old → (is_idle reply ≡ true → new ≡ old)
       → MakesUnless (¬ CanMove old tx) (events.Begin tx) (desk count old) told (desk count new)
   begin_made tx (Some told) is step stand once stays = makes (events.Begin tx) (Some told) is step
@@ -182,18 +181,18 @@ module _ (count : ℕ) (old new : State) (reply : Reply FormFault) where
   why_busy true on (inl h) none = absurd (told_some advances.Moved (events.Ended _) h.1 refl none)
   why_busy true on (inr h) none = (h.2.1, (h.0, h.1))
 
-  ends_told : (told : Advance) (running : Bool) → running ≡ true → EndsWhileRunning old running reply new
+  ends_told : (told : Told) (running : Bool) → running ≡ true → EndsWhileRunning old running reply new
       → Some told ≡ advance_in reply → advances.Moved ≡ told
   ends_told told false on step is = clash false on refl
   ends_told told true on (inl h) is =
       let both : Some told ≡ Some advances.Moved = is ∙ ap (λ (r : Reply FormFault). advance_in r) h.1 in cc
   ends_told told true on (inr h) is = absurd (not_none told (sym (is ∙ ap (λ (r : Reply FormFault). advance_in r) h.2.0)))
 
-  pub ended : (told : Advance) → Some told ≡ advance_in reply → old.running ≡ true → Ends old reply new
+  pub ended : (told : Told) → Some told ≡ advance_in reply → old.running ≡ true → Ends old reply new
       → EndsRun (desk count old) told (desk count new)
   ended told is on step =
       let moved = ends_told told old.running on step is in
-      subst (λ (t : Advance). EndsRun (desk count old) t (desk count new)) moved
+      subst (λ (t : Told). EndsRun (desk count old) t (desk count new)) moved
       (makes events.EndRun (Some advances.Moved) (ap Some moved ∙ is) step)
 
   pub kept_busy : None ≡ advance_in reply → old.running ≡ true → Ends old reply new
@@ -211,7 +210,7 @@ module _ (count : ℕ) (old new : State) (reply : Reply FormFault) where
   none_started false (first ∷ more) off h none =
       absurd (told_some advances.Moved (events.Started _) h.0 refl none)
 
-  starts_told : (told : Advance) (running : Bool) (dormant : List Dormant) → running ≡ false
+  starts_told : (told : Told) (running : Bool) (dormant : List Dormant) → running ≡ false
       → StartsWith old running dormant reply new → Some told ≡ advance_in reply → advances.Moved ≡ told
   starts_told told true dormant off step is = clash true refl off
   starts_told told false [] off step is =
@@ -219,11 +218,11 @@ module _ (count : ℕ) (old new : State) (reply : Reply FormFault) where
   starts_told told false (first ∷ more) off step is =
       let both : Some told ≡ Some advances.Moved = is ∙ ap (λ (r : Reply FormFault). advance_in r) step.0 in cc
 
-  pub started : (told : Advance) → Some told ≡ advance_in reply → old.running ≡ false → Starts old reply new
+  pub started : (told : Told) → Some told ≡ advance_in reply → old.running ≡ false → Starts old reply new
       → StartsRun (desk count old) told (desk count new)
   started told is off step =
       let moved = starts_told told old.running old.dormant off step is in
-      subst (λ (t : Advance). StartsRun (desk count old) t (desk count new)) moved
+      subst (λ (t : Told). StartsRun (desk count old) t (desk count new)) moved
       (makes events.StartRun (Some advances.Moved) (ap Some moved ∙ is) step)
 
   pub all_done : None ≡ advance_in reply → old.running ≡ false → Starts old reply new → IsReached resolved_forms old
@@ -246,11 +245,11 @@ in_run_next s events.BreakCycle next = next
 in_run_next s events.EndRun next = absurd next
 in_run_next s events.Recall next = next
 
-pub moves_advance : (before after : DeskState) (told : Advance) → MovesInRun before told after
+pub moves_advance : (before after : DeskState) (told : Told) → MovesInRun before told after
     → Advances before told after
 moves_advance before after told h = next_made h.0 before after told (in_run_next before.core h.0 h.1) h.2
 
-pub moves_in_run : (before after : DeskState) (told : Advance) → MovesInRun before told after
+pub moves_in_run : (before after : DeskState) (told : Told) → MovesInRun before told after
     → AdvancesInRun before told after
 moves_in_run before after (advances.Lent job) h = h
 moves_in_run before after advances.Moved h = h
@@ -259,7 +258,7 @@ moves_in_run before after advances.Idle h =
 moves_in_run before after advances.Done h =
     clash false (moves_told h.2.reply advances.Done h.2.tells) refl
 
-pub rests_in_run : (before after : DeskState) (told : Advance) → after ≡ before → IsStill before.core
+pub rests_in_run : (before after : DeskState) (told : Told) → after ≡ before → IsStill before.core
     → RestsAs after.core told → AdvancesInRun before told after
 rests_in_run before after (advances.Lent job) same still h = absurd h
 rests_in_run before after advances.Moved same still h = absurd h
@@ -269,7 +268,7 @@ rests_in_run before after advances.Done same still h = (same, subst (λ (d : Des
 
 -- ---- runs
 
-pub ends_advance : {E : Type 0} (r : Result Advance E) (before after : DeskState) → before.core.running ≡ true
+pub ends_advance : {E : Type 0} (r : Result Told E) (before after : DeskState) → before.core.running ≡ true
     → IsStill before.core → IfOk r (λ told. EndsRun before told after) → IfOk r (λ told. Advances before told after)
 ends_advance (Ok (advances.Lent job)) before after on still h = absurd h
 ends_advance (Ok advances.Moved) before after on still h = (events.EndRun, still, h)
@@ -278,7 +277,7 @@ ends_advance (Ok advances.Idle) before after on still h =
 ends_advance (Ok advances.Done) before after on still h = h
 ends_advance (Err fault) before after on still h = tt
 
-pub starts_advance : {E : Type 0} (r : Result Advance E) (before after : DeskState) → before.core.running ≡ false
+pub starts_advance : {E : Type 0} (r : Result Told E) (before after : DeskState) → before.core.running ≡ false
     → IsStill before.core → IfOk r (λ told. StartsRun before told after)
     → IfOk r (λ told. Advances before told after)
 starts_advance (Ok (advances.Lent job)) before after off still h = absurd h
@@ -288,7 +287,7 @@ starts_advance (Ok advances.Done) before after off still h = h
 starts_advance (Err fault) before after off still h = tt
 
 -- a run can't end where none is on
-pub rests_as_ended : (s : DeskState) (told : Advance) → s.core.running ≡ false → RestsAs s.core told
+pub rests_as_ended : (s : DeskState) (told : Told) → s.core.running ≡ false → RestsAs s.core told
     → EndsRun s told s
 rests_as_ended s (advances.Lent job) off h = absurd h
 rests_as_ended s advances.Moved off h = absurd h
@@ -297,35 +296,35 @@ rests_as_ended s advances.Done off h = (refl, h)
 
 -- ---- one part of an advance after another
 
-pub moved_in_run : (fact : Type 0) (event : Event) (before after : DeskState) (told : Option Advance)
-    (advance : Advance) → IsNextInRun before.core event → told ≡ Some advance
+pub moved_in_run : (fact : Type 0) (event : Event) (before after : DeskState) (told : Option Told)
+    (advance : Told) → IsNextInRun before.core event → told ≡ Some advance
     → MakesUnless fact event before told after → MovesInRun before advance after
 moved_in_run fact event before after told advance next is h =
-    (event, next, subst (λ (t : Option Advance). MakesUnless fact event before t after) is h)
+    (event, next, subst (λ (t : Option Told). MakesUnless fact event before t after) is h)
 
-pub stayed : (fact : Type 0) (event : Event) (before after : DeskState) (told : Option Advance) → told ≡ None
+pub stayed : (fact : Type 0) (event : Event) (before after : DeskState) (told : Option Told) → told ≡ None
     → MakesUnless fact event before told after → (after ≡ before) × fact
-stayed fact event before after told is h = subst (λ (t : Option Advance). MakesUnless fact event before t after) is h
+stayed fact event before after told is h = subst (λ (t : Option Told). MakesUnless fact event before t after) is h
 
-pub begun_first : (before after : DeskState) (told : Option Advance) (advance : Advance) → told ≡ Some advance
+pub begun_first : (before after : DeskState) (told : Option Told) (advance : Told) → told ≡ Some advance
     → BeginsUnless before told after → MovesInRun before advance after
-begun_first before after told advance is h = subst (λ (t : Option Advance). BeginsUnless before t after) is h
+begun_first before after told advance is h = subst (λ (t : Option Told). BeginsUnless before t after) is h
 
-pub none_begun : (before after : DeskState) (told : Option Advance) → told ≡ None → BeginsUnless before told after
+pub none_begun : (before after : DeskState) (told : Option Told) → told ≡ None → BeginsUnless before told after
     → (after ≡ before) × NoneIs (CanMove before.core)
-none_begun before after told is h = subst (λ (t : Option Advance). BeginsUnless before t after) is h
+none_begun before after told is h = subst (λ (t : Option Told). BeginsUnless before t after) is h
 
-pub run_moved : (before after : DeskState) (told : Option Advance) (advance : Advance) → told ≡ Some advance
+pub run_moved : (before after : DeskState) (told : Option Told) (advance : Told) → told ≡ Some advance
     → MovesUnlessStill before told after → MovesInRun before advance after
 run_moved before after told advance is h =
-    subst (λ (t : Option Advance). MovesUnlessStill before t after) is h
+    subst (λ (t : Option Told). MovesUnlessStill before t after) is h
 
-pub run_still : (before after : DeskState) (told : Option Advance) → told ≡ None
+pub run_still : (before after : DeskState) (told : Option Told) → told ≡ None
     → MovesUnlessStill before told after → (after ≡ before) × IsStill before.core
-run_still before after told is h = subst (λ (t : Option Advance). MovesUnlessStill before t after) is h
+run_still before after told is h = subst (λ (t : Option Told). MovesUnlessStill before t after) is h
 
 -- a deadlock is broken, or there is none
-pub broken_or_still : (before mid after : DeskState) (told : Option Advance) → mid ≡ before
+pub broken_or_still : (before mid after : DeskState) (told : Option Told) → mid ≡ before
     → NoneIs (CanMove before.core) → NoneCanBePicked before.core
     → MakesUnless (NoDeadlock mid.core) events.BreakCycle mid told after → MovesUnlessStill before told after
 broken_or_still before mid after (Some told) is nobody none h =
@@ -340,16 +339,16 @@ broken_or_still before mid after None is nobody none h = (
 )
 
 -- what comes behind a part that changed nothing
-pub behind_still : {E : Type 0} (r : Result (Option Advance) E) (before mid after : DeskState) → mid ≡ before
+pub behind_still : {E : Type 0} (r : Result (Option Told) E) (before mid after : DeskState) → mid ≡ before
     → IfOk r (λ told. MovesUnlessStill mid told after) → IfOk r (λ told. MovesUnlessStill before told after)
 behind_still r before mid after is h =
     subst (λ (d : DeskState). IfOk r (λ told. MovesUnlessStill d told after)) is h
 
-pub behind : {E : Type 0} (r : Result Advance E) (before mid after : DeskState) → mid ≡ before
+pub behind : {E : Type 0} (r : Result Told E) (before mid after : DeskState) → mid ≡ before
     → IfOk r (λ advance. Advances mid advance after) → IfOk r (λ advance. Advances before advance after)
 behind r before mid after is h = subst (λ (d : DeskState). IfOk r (λ advance. Advances d advance after)) is h
 
-pub led_behind : {E : Type 0} (r : Result Advance E) (before mid after : DeskState) → mid ≡ before
+pub led_behind : {E : Type 0} (r : Result Told E) (before mid after : DeskState) → mid ≡ before
     → IfOk r (λ advance. Advances mid advance after) → OnErr r (after ≡ mid) → LeadsOn before after
 led_behind (Ok advance) before mid after is h other =
     advances_on advance before after (subst (λ (d : DeskState). Advances d advance after) is h)

@@ -14,7 +14,7 @@ use Rattle.ent_coordination.specs.Pool.{Posted}
 use Rattle.ent_protocol.specs.Begin.{Begins, BeginsMember, BeginsUnless, BeginsNext, BeginsOrdinary, BeginsEntangled}
 use Rattle.ent_protocol.specs.Begin.{BeginsCommit, Posts, lending, posting}
 use Rattle.ent_protocol.specs.Commit.{committing, is_ready, preparing}
-use Rattle.ent_protocol.specs.Event.{Event, Reply}
+use Rattle.ent_protocol.specs.Event.{Reply}
 use Rattle.ent_protocol.specs.Event as events
 use Rattle.ent_protocol.specs.Finish.{Finishes, FinishesBy}
 use Rattle.ent_protocol.specs.Job.{Done, Job, Outcome, Shown, Changed, Bound, Choice, Fault}

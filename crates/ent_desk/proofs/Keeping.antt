@@ -6,10 +6,9 @@ use Rattle.ent_protocol.specs.Event.{EndRun, Event, Reply, StartRun, Submit, Sub
 use Rattle.ent_protocol.specs.State.{State}
 use Rattle.ent_protocol.specs.Step.{Step}
 use Rattle.ent_core.specs.Passed.{resolved_forms}
-use Rattle.ent_desk.specs.Advance.{Advances, AdvancesInRun, EndsRun, Makes, StartsRun}
+use Rattle.ent_desk.specs.Advance.{Told, Advances, AdvancesInRun, EndsRun, Makes, StartsRun}
 use Rattle.ent_desk.specs.Kept.{IsKeptDesk}
 use Rattle.ent_desk.specs.Seen.{DeskState, GetsReceipts, LeadsOn, SessionState}
-use Rattle.ent_desk.specs.declared.advance.Advance.{Advance}
 use Rattle.ent_desk.specs.declared.advance.Advance.TheVariants as advances
 use Rattle.ent_tree.specs.declared.script.Script.{Script}
 use Rattle.ent_desk.proofs.Counting.{Adds, Keeps, adds_none, submits_one}
@@ -62,30 +61,30 @@ append_nil [] = refl
 append_nil (x ∷ xs) = ap (λ l. x ∷ l) (append_nil xs)
 
 -- what is made leads on
-pub makes_on : (event : Event) (told : Option Advance) (before after : DeskState) → Makes event before told after
+pub makes_on : (event : Event) (told : Option Told) (before after : DeskState) → Makes event before told after
     → LeadsOn before after
 makes_on event told before after h =
     record { events = 1; leads = (before.core, event, h.reply, refl, h.step); count = h.count }
 
-pub advances_on : (told : Advance) (before after : DeskState) → Advances before told after → LeadsOn before after
+pub advances_on : (told : Told) (before after : DeskState) → Advances before told after → LeadsOn before after
 advances_on (advances.Lent job) before after h = makes_on h.0 (Some (advances.Lent job)) before after h.2
 advances_on advances.Moved before after h = makes_on h.0 (Some advances.Moved) before after h.2
 advances_on advances.Idle before after h = none_on before after h.0
 advances_on advances.Done before after h = none_on before after h.0
 
-pub in_run_on : (told : Advance) (before after : DeskState) → AdvancesInRun before told after → LeadsOn before after
+pub in_run_on : (told : Told) (before after : DeskState) → AdvancesInRun before told after → LeadsOn before after
 in_run_on (advances.Lent job) before after h = makes_on h.0 (Some (advances.Lent job)) before after h.2
 in_run_on advances.Moved before after h = makes_on h.0 (Some advances.Moved) before after h.2
 in_run_on advances.Idle before after h = none_on before after h.0
 in_run_on advances.Done before after h = none_on before after h.0
 
-pub starts_on : (told : Advance) (before after : DeskState) → StartsRun before told after → LeadsOn before after
+pub starts_on : (told : Told) (before after : DeskState) → StartsRun before told after → LeadsOn before after
 starts_on (advances.Lent job) before after h = absurd h
 starts_on advances.Moved before after h = makes_on StartRun (Some advances.Moved) before after h
 starts_on advances.Idle before after h = none_on before after h.0
 starts_on advances.Done before after h = none_on before after h.0
 
-pub ends_on : (told : Advance) (before after : DeskState) → EndsRun before told after → LeadsOn before after
+pub ends_on : (told : Told) (before after : DeskState) → EndsRun before told after → LeadsOn before after
 ends_on (advances.Lent job) before after h = absurd h
 ends_on advances.Moved before after h = makes_on EndRun (Some advances.Moved) before after h
 ends_on advances.Idle before after h = none_on before after h.0

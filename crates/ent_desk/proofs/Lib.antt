@@ -11,3 +11,4 @@ pub mod Receiving
 pub mod InJournal
 pub mod Standstill
 pub mod Advancing
+pub mod Lent

@@ -4,6 +4,7 @@ pub mod Told
 pub mod Receipts
 pub mod Drafts
 pub mod Advance
+pub mod Lending
 pub mod Closed
 pub mod Opened
 pub mod Renewed

@@ -11,12 +11,12 @@ ghost use Rattle.ent_protocol.specs.Reached.{scripts_of};
 ghost use Rattle.ent_semantics.specs.declared.book.Fate.TheVariants.{Committed};
 ghost use Rattle.std.specs.List.{AllByRecursion};
 
-use crate::naming::Naming;
 use crate::session::Session;
 use crate::ticket::{First, Receipt, Ticket};
 use ent_core::{Core, Standing};
 use ent_group::Tx;
 use ent_semantics::{Entry, Fate};
+use ent_stamp::Naming;
 use ent_tree::{Opening, Same, Script};
 
 /// Whether this is what a manager was opened over.

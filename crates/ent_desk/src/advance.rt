@@ -1,17 +1,17 @@
 //! How far a session comes under the lock.
 ghost use Rattle.std.specs.Prelude.{◌≡◌};
 ghost use Rattle.ent_core.specs.Reply.{reply_seen};
-ghost use Rattle.ent_desk.specs.Advance.{advance_in, is_leaving, moved_unless};
+ghost use Rattle.ent_desk.specs.Advance.{is_leaving, moved_unless};
 ghost use Rattle.ent_protocol.specs.Play.{is_idle};
 
 use ent_core::Reply;
-use ent_eval::Job;
+use ent_stamp::{Naming, StampedJob};
 
-/// How far a session comes under the lock.
+/// How far a session comes under the lock, with a job that is lent.
 #[derive(Drop)]
-pub enum Advance {
+pub enum Advance<J> {
     /// A job is lent, which is to be done with no lock held.
-    Lent(Job),
+    Lent(J),
     /// Something moved.
     Moved,
     /// Nothing can move until another's job comes back.
@@ -54,20 +54,12 @@ pub(crate) fn is_leaving(reply: &Reply) -> bool
 }
 
 /// That something moved, unless a reply refuses or says that there is nothing to do.
-fn moved_unless_idle(reply: Reply) -> Option<Advance>
-    ensures { result ≡ moved_unless (is_idle (reply_seen reply)) }
+pub(crate) fn moved_unless_idle<L: Naming>(reply: &Reply) -> Option<Advance<StampedJob<L>>>
+    ensures { result ≡ moved_unless (is_idle (reply_seen reply.now)) }
 {
-    let idle = is_idle(&reply);
-    drop(reply);
-    if idle { None } else { Some(Advance::Moved) }
-}
-
-/// What a reply brings: a job to do, or that something moved; None if nothing did.
-pub(crate) fn advance_told(reply: Reply) -> Option<Advance>
-    ensures { result ≡ advance_in (reply_seen reply) }
-{
-    match reply {
-        Reply::Lent(job) => Some(Advance::Lent(job)),
-        other => moved_unless_idle(other),
+    if is_idle(reply) {
+        None
+    } else {
+        Some(Advance::Moved)
     }
 }

@@ -1,8 +1,8 @@
 //! What all sessions count is what the books count.
 ghost use Rattle.std.specs.Prelude.{◌≡◌, ◌+◌, ◌<◌, length, sum_by};
 
-use crate::naming::Naming;
 use crate::session::Session;
+use ent_stamp::Naming;
 use std::sync::ledger::{Book, Share};
 
 /// Lends what these sessions count, until all is lent. Then it is all that the books count.

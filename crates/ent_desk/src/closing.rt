@@ -10,12 +10,12 @@ ghost use Rattle.ent_value.specs.declared.refusal.Refusal.TheVariants.{Fault, Me
 use crate::account::hold_all;
 use crate::audit::audit_all;
 use crate::desk::Desk;
-use crate::naming::Naming;
 use crate::session::Session;
 use ent_book::NamedTable;
 use ent_core::{Core, resolved_runs_are_legal};
 use ent_form::FormFault;
 use ent_semantics::Book;
+use ent_stamp::{LentStamps, Naming};
 use ent_termination::finished_scripts_have_fates;
 use ent_value::{Refusal, Sequence};
 use std::sync::ledger::Book as LedgerBook;
@@ -42,12 +42,13 @@ pub struct UnclosedDesk<L: Naming> {
     pub refusal: Refusal<CloseFault>,
 }
 
-/// The book of a desk that is closed, and the books of both ledgers.
+/// The book of a desk that is closed, the books of both ledgers, and what gives out its stamps.
 #[derive(Drop)]
 pub(crate) struct Ended<L: Naming> {
     pub(crate) book: Book<Sequence<NamedTable>>,
     pub(crate) scripts: LedgerBook<L::Scripts>,
     pub(crate) entries: LedgerBook<L::Entries>,
+    pub(crate) known: LentStamps<L>,
 }
 
 /// Whether no run is on and nobody waits for one.
@@ -92,12 +93,14 @@ impl<L: Naming> Desk<L> {
                 refusal: Refusal::Fault(CloseFault::Differs),
             });
         }
-        let Ended { book, .. } = self.close_accounted(sessions)?;
-        Ok(book)
+        match self.close_accounted(sessions) {
+            Ok(Ended { book, .. }) => Ok(book),
+            Err(refused) => Err(refused),
+        }
     }
 
     /// The same, where no run is on, nobody waits for one, and the sessions hold a ticket or a receipt of all that the
-    /// core has: the ledgers show that they hold no more. The books of the ledgers are left.
+    /// core has: the ledgers show that they hold no more. The books of the ledgers are left, and the stamps.
     pub(crate) fn close_accounted(
         self,
         sessions: &mut [Session<L>],
@@ -125,6 +128,7 @@ impl<L: Naming> Desk<L> {
             mut scripts,
             mut entries,
             left,
+            known,
         } = self;
         core.is_reached();
         audit_all(sessions, &mut scripts, &mut entries);
@@ -133,6 +137,7 @@ impl<L: Naming> Desk<L> {
                 book,
                 scripts,
                 entries,
+                known,
             }),
             Err(refused) => Err(UnclosedDesk {
                 desk: Desk {
@@ -141,6 +146,7 @@ impl<L: Naming> Desk<L> {
                     scripts,
                     entries,
                     left,
+                    known,
                 },
                 refusal: Refusal::Memory,
             }),

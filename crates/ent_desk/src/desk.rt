@@ -1,9 +1,11 @@
 //! What stands behind the lock.
-ghost use Rattle.std.specs.Prelude.{◌≡◌, ◌≢◌, ◌↔◌, ◌<◌, ◌≤◌, [], None, IfErr, IfOk, OnErr, length, true, false};
+ghost use Rattle.std.specs.Prelude.{◌≡◌, ◌≢◌, ◌↔◌, ◌<◌, ◌≤◌, [], None, Some, Contains, IfErr, IfOk, IfSome, IsNone};
+ghost use Rattle.std.specs.Prelude.{OnErr, OnOk, length, slice_get, true, false};
 ghost use Rattle.ent_core.specs.Begin.{IsFreeMember};
 ghost use Rattle.ent_core.specs.Pick.{NoneCanBePicked};
 ghost use Rattle.ent_desk.specs.Advance.{Advances, BeginsUnless, IsStill, MakesUnless, MovesUnlessStill};
 ghost use Rattle.ent_desk.specs.Drafts.{AreDraftedFor};
+ghost use Rattle.ent_desk.specs.Lending.{TakesIn};
 ghost use Rattle.ent_desk.specs.Receipts.{Receives};
 ghost use Rattle.ent_desk.specs.Seen.{GetsReceipts, LeadsOn, with_ticket};
 ghost use Rattle.ent_desk.specs.Told.{fate_in};
@@ -20,18 +22,18 @@ ghost use Rattle.ent_semantics.specs.Book.{IsLegal};
 ghost use Rattle.ent_tree.specs.declared.limits.TheConstants.{MOST_SCRIPTS};
 ghost use Rattle.ent_value.specs.declared.refusal.Refusal.TheVariants.{Fault};
 
-use crate::advance::{Advance, advance_told, is_leaving};
+use crate::advance::{Advance, is_leaving};
 use crate::draft::{ReceiptDraft, drafts_for, fate_of, keep_receipts};
-use crate::naming::Naming;
+use crate::lending::{advance_told, keep_up, take_in};
 use crate::session::Session;
 use crate::ticket::Ticket;
 use ent_core::{Core, FreeMember, Reply, resolved_runs_are_legal};
-use ent_eval::{Done, Work};
 use ent_form::FormFault;
 use ent_group::{MOST_MEMBERS, Tx};
 use ent_protocol::refusals_change_nothing;
-use ent_protocol_laws::{members_stand_by_number, transactions_stand_once};
+use ent_protocol_laws::{lent_jobs_stand_once, members_stand_by_number, transactions_stand_once};
 use ent_semantics::Fate;
+use ent_stamp::{LentStamps, Naming, StampedDone, StampedJob};
 use ent_tree::{MOST_SCRIPTS, Script};
 use ent_value::Refusal;
 use std::alloc::{AllocError, AllocFailed, Global};
@@ -58,7 +60,7 @@ pub struct NotSubmitted {
 }
 
 /// A core, with how many scripts it was opened over, and the books of both ledgers: as many scripts and journal entries
-/// were counted as the core has.
+/// were counted as the core has. With it the stamps of the jobs that the core lends, as far as they are known.
 #[derive(Drop)]
 pub struct Desk<L: Naming> {
     pub(crate) core: Core,
@@ -67,6 +69,7 @@ pub struct Desk<L: Naming> {
     pub(crate) entries: Book<L::Entries>,
     /// Whether anybody left the run since that was last asked.
     pub(crate) left: bool,
+    pub(crate) known: LentStamps<L>,
 }
 
 impl<L: Naming> Model for Desk<L> {
@@ -79,10 +82,12 @@ impl<L: Naming> Model for Desk<L> {
     ghost coded = { Prim.hlevel (codes, coded_rows) };
 
     ghost use Rattle.ent_desk.specs.Kept.{IsKeptDesk};
+    ghost use Rattle.ent_stamp.specs.Stamps.{AreStampsBehind};
 
     ghost view = { λ d. record { core = d.core; count = d.count } };
 
-    ghost invariant = { λ d. IsKeptDesk d.core d.count d.scripts.total d.entries.total };
+    ghost invariant = { λ d. IsKeptDesk d.core d.count d.scripts.total d.entries.total
+        × AreStampsBehind d.known.older d.known.stamps.items d.core.lent };
 }
 
 fn not_submitted(script: Script, refusal: Refusal<SubmitFault>) -> NotSubmitted
@@ -117,33 +122,29 @@ fn submit_to(core: &mut Core, script: Script) -> Result<Tx, NotSubmitted>
     }
 }
 
-/// Whether a result is of the job of one statement, and not of a joint one.
-fn is_single(done: &Done) -> bool {
-    match done.job().work() {
-        Work::One(_) => true,
-        Work::Joint(_) => false,
-    }
-}
-
 impl<L: Naming> Desk<L> {
-    /// A desk with a core that submits alone made, which the books count.
+    /// A desk with a core that submits alone made, which the books count. Of the jobs that the core lends no stamp is
+    /// known, nor of any that another core lent.
     pub(crate) fn new(
         core: Core,
         count: usize,
         scripts: Book<L::Scripts>,
         entries: Book<L::Entries>,
+        mut known: LentStamps<L>,
     ) -> Self
         requires made { IsGatheredState resolved_forms count core }
         requires scripts { scripts.total ≡ length core.submitted }
         requires entries { (entries.total ≡ 0) × (core.journal ≡ []) }
         ensures { result ≡ record { core = core; count = count } }
     {
+        known.forget(core.lent_count());
         Desk {
             core,
             count,
             scripts,
             entries,
             left: false,
+            known,
         }
     }
 
@@ -202,7 +203,7 @@ impl<L: Naming> Desk<L> {
         &mut self,
         alloc: Global,
         session: &mut Session<L>,
-    ) -> Result<Advance, AllocError>
+    ) -> Result<Advance<StampedJob<L>>, AllocError>
         ensures ok { IfOk result (λ advance. Advances self.old advance self.new) }
         ensures events { LeadsOn self.old self.new }
         ensures session { GetsReceipts session.old session.new }
@@ -221,7 +222,7 @@ impl<L: Naming> Desk<L> {
         &mut self,
         alloc: Global,
         session: &mut Session<L>,
-    ) -> Result<Option<Advance>, AllocError>
+    ) -> Result<Option<Advance<StampedJob<L>>>, AllocError>
         ensures ok { IfOk result (λ told. MovesUnlessStill self.old told self.new) }
         ensures same { IfOk result (λ told. told ≡ None → session.new ≡ session.old) }
         ensures session { GetsReceipts session.old session.new }
@@ -235,7 +236,7 @@ impl<L: Naming> Desk<L> {
     }
 
     /// A component is picked; else a deadlock is broken.
-    fn pick_or_break(&mut self) -> Result<Option<Advance>, AllocError>
+    fn pick_or_break(&mut self) -> Result<Option<Advance<StampedJob<L>>>, AllocError>
         requires nobody_moves { NoneIs (CanMove self.old.core) }
         ensures ok { IfOk result (λ told. MovesUnlessStill self.old told self.new) }
         ensures journal { self.new.core.journal ≡ self.old.core.journal }
@@ -248,7 +249,7 @@ impl<L: Naming> Desk<L> {
     }
 
     /// The run ends; where none is on one starts.
-    fn end_or_start(&mut self) -> Result<Advance, AllocError>
+    fn end_or_start(&mut self) -> Result<Advance<StampedJob<L>>, AllocError>
         requires still { IsStill self.old.core }
         ensures ok { IfOk result (λ advance. Advances self.old advance self.new) }
         ensures journal { self.new.core.journal ≡ self.old.core.journal }
@@ -267,7 +268,7 @@ impl<L: Naming> Desk<L> {
         &mut self,
         alloc: Global,
         session: &mut Session<L>,
-    ) -> Result<Option<Advance>, AllocError>
+    ) -> Result<Option<Advance<StampedJob<L>>>, AllocError>
         ensures ok { IfOk result (λ told. BeginsUnless self.old told self.new) }
         ensures same { IfOk result (λ told. told ≡ None → session.new ≡ session.old) }
         ensures session { GetsReceipts session.old session.new }
@@ -290,7 +291,7 @@ impl<L: Naming> Desk<L> {
         alloc: Global,
         session: &mut Session<L>,
         tx: Tx,
-    ) -> Result<Option<Advance>, AllocError>
+    ) -> Result<Option<Advance<StampedJob<L>>>, AllocError>
         ensures ok { IfOk result (λ told.
             MakesUnless (¬ CanMove self.old.core tx) (Begin tx) self.old told self.new) }
         ensures same { IfOk result (λ told. told ≡ None → session.new ≡ session.old) }
@@ -317,7 +318,7 @@ impl<L: Naming> Desk<L> {
         session: &mut Session<L>,
         found: FreeMember,
         drafts: Vec<ReceiptDraft>,
-    ) -> Result<Option<Advance>, AllocError>
+    ) -> Result<Option<Advance<StampedJob<L>>>, AllocError>
         requires free { IsFreeMember self.old.core found }
         requires drafted { AreDraftedFor self.old.core found.tx drafts.items }
         ensures ok { IfOk result (λ told.
@@ -338,63 +339,80 @@ impl<L: Naming> Desk<L> {
         self.core.is_reached();
         let made = keep_receipts(&self.core, &mut session.receipts, before, drafts);
         self.entries.add(&mut session.committed, made as u64);
-        Ok(advance_told(reply))
+        Ok(advance_told(&self.core, &mut self.known, reply))
     }
 
     /// A component of what is posted is picked, and its job lent, where there is one.
-    fn pick(&mut self) -> Result<Option<Advance>, AllocError>
+    fn pick(&mut self) -> Result<Option<Advance<StampedJob<L>>>, AllocError>
         ensures ok { IfOk result (λ told. MakesUnless (NoneCanBePicked self.old.core) Pick self.old told self.new) }
         ensures journal { self.new.core.journal ≡ self.old.core.journal }
         ensures err { OnErr result (self.new ≡ self.old) }
     {
         let reply = self.core.pick()?;
-        Ok(advance_told(reply))
+        Ok(advance_told(&self.core, &mut self.known, reply))
     }
 
     /// A deadlock is broken, where there is one.
-    fn break_cycle(&mut self) -> Option<Advance>
+    fn break_cycle(&mut self) -> Option<Advance<StampedJob<L>>>
         ensures ok { MakesUnless (NoDeadlock self.old.core) BreakCycle self.old result self.new }
         ensures journal { self.new.core.journal ≡ self.old.core.journal }
     {
         let reply = self.core.break_cycle();
         self.left |= is_leaving(&reply);
-        advance_told(reply)
+        advance_told(&self.core, &mut self.known, reply)
     }
 
-    /// Takes the result of a job. One that isn't outstanding is dropped. Where memory runs out nothing changes, and the
-    /// result comes back.
-    pub fn hand_in(&mut self, done: Done) -> Result<(), AllocFailed<Done>>
+    /// Takes the result of a job, which is found by its stamp where that is known. One that isn't outstanding is dropped.
+    /// Where memory runs out nothing changes, and the result comes back.
+    pub fn hand_in(&mut self, done: StampedDone<L>) -> Result<(), AllocFailed<StampedDone<L>>>
+        ensures ok { OnOk result (TakesIn self.old.core done self.new.core) }
         ensures events { LeadsOn self.old self.new }
         ensures err { OnErr result (self.new ≡ self.old) }
         ensures returned { IfErr result (λ refused. refused.value ≡ done) }
     {
-        if is_single(&done) {
-            self.finish(done)
-        } else {
-            self.join_answer(done)
+        match self.index_of(&done) {
+            Some(index) => self.hand_in_at(index, done),
+            None => Ok(()),
         }
     }
 
-    /// Takes the result of one statement, or drops it where it is stale.
-    fn finish(&mut self, done: Done) -> Result<(), AllocFailed<Done>>
-        ensures events { LeadsOn self.old self.new }
-        ensures err { OnErr result (self.new ≡ self.old) }
-        ensures returned { IfErr result (λ refused. refused.value ≡ done) }
+    /// The index of the job of a result: by its stamp, where that is known; else by all that the jobs have, their tables
+    /// row by row. None where it isn't lent.
+    fn index_of(&self, done: &StampedDone<L>) -> Option<usize>
+        ensures some { IfSome result (λ index. slice_get self.now.core.lent index ≡ Some done.now.job) }
+        ensures none { IsNone result → Contains self.now.core.lent done.now.job → ⊥ }
     {
-        let reply = self.core.finish(done)?;
-        self.left |= is_leaving(&reply);
-        drop(reply);
-        Ok(())
+        match self.known.index_of(done.stamp()) {
+            Some(index) => Some(index),
+            None => self.core.lent_index(done.done().job()),
+        }
     }
 
-    /// Takes the result of a joint job, or drops it where it is stale.
-    fn join_answer(&mut self, done: Done) -> Result<(), AllocFailed<Done>>
+    /// Takes the result of a lent job, of which the index is known.
+    fn hand_in_at(
+        &mut self,
+        index: usize,
+        done: StampedDone<L>,
+    ) -> Result<(), AllocFailed<StampedDone<L>>>
+        requires { slice_get self.old.core.lent index ≡ Some done.job }
+        ensures ok { OnOk result (TakesIn self.old.core done self.new.core) }
         ensures events { LeadsOn self.old self.new }
         ensures err { OnErr result (self.new ≡ self.old) }
         ensures returned { IfErr result (λ refused. refused.value ≡ done) }
     {
-        drop(self.core.join_answer(done)?);
-        Ok(())
+        lent_jobs_stand_once::<FormFault>();
+        self.core.is_reached();
+        let (done, stamp) = done.into_parts();
+        match take_in(&mut self.core, index, done) {
+            Ok(reply) => {
+                keep_up(&self.core, &mut self.known, index, &reply);
+                self.left |= is_leaving(&reply);
+                Ok(())
+            }
+            Err(refused) => Err(AllocFailed {
+                value: StampedDone::new(refused.value, stamp),
+            }),
+        }
     }
 
     /// Whether anybody left the run since this was last asked, and so may have a fate. It is for who wakes those that

@@ -8,11 +8,11 @@ ghost use Rattle.ent_core.specs.Passed.{resolved_forms};
 ghost use Rattle.ent_value.specs.declared.refusal.Refusal.TheVariants.{Fault};
 
 use crate::desk::Desk;
-use crate::naming::{Blanks, Naming, Seats};
 use crate::session::Session;
 use crate::ticket::{First, Ticket};
 use ent_core::{Core, Played};
 use ent_form::FormFault;
+use ent_stamp::{Blanks, LentStamps, Naming, Seats};
 use ent_tree::{Duplicate, Input, Script};
 use ent_value::{Refusal, Sequence};
 use std::alloc::{AllocError, Global};
@@ -115,7 +115,8 @@ pub fn open<L: Naming>(
     count: usize,
 ) -> Result<(Desk<L>, Vec<Session<L>>), Refusal<FormFault>>
     requires nonempty { 0 < count }
-    requires names { (blank.scripts.name ≡ L.Scripts.name) × (blank.entries.name ≡ L.Entries.name) }
+    requires names { (blank.scripts.name ≡ L.Scripts.name) × (blank.entries.name ≡ L.Entries.name)
+        × (blank.jobs ≡ L.Scripts.book) }
     requires blank { (blank.scripts.parts ≡ count) × (blank.entries.parts ≡ count) }
     requires parts { (L.Scripts.parts ≡ count) × (L.Entries.parts ≡ count) }
     ensures sessions { IfOk result (λ opened. opened.1.items
@@ -128,6 +129,7 @@ pub fn open<L: Naming>(
     let Blanks {
         scripts: by_script,
         entries: by_entry,
+        jobs,
     } = blank;
     let (mut script_book, mut submitted) = by_script.open::<L::Scripts>();
     let (entry_book, mut committed) = by_entry.open::<L::Entries>();
@@ -142,5 +144,7 @@ pub fn open<L: Naming>(
     let also = committed.split_off(1, 0);
     let session = Session::new(alloc, tickets, Some(first), mine, also);
     let sessions = seat_all(alloc, session, submitted, committed, count)?;
-    Ok((Desk::new(core, made, script_book, entry_book), sessions))
+    let known = LentStamps::new(alloc, jobs);
+    let desk = Desk::new(core, made, script_book, entry_book, known);
+    Ok((desk, sessions))
 }

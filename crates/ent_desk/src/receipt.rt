@@ -3,13 +3,13 @@ ghost use Rattle.std.specs.Prelude.{◌≡◌, IfOk};
 ghost use Rattle.ent_desk.specs.Receipts.{IsInJournal};
 
 use crate::desk::Desk;
-use crate::naming::Naming;
 use crate::ticket::Receipt;
 use ent_core::{answers_copy, resolved_journals_fit_the_fates};
 use ent_form::FormFault;
 use ent_group::Tx;
 use ent_protocol_laws::transactions_stand_once;
 use ent_semantics::Fate;
+use ent_stamp::Naming;
 use std::alloc::{AllocError, Global};
 
 impl<L: Naming> Desk<L> {

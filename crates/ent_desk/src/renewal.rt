@@ -16,13 +16,13 @@ ghost use Rattle.ent_value.specs.declared.refusal.Refusal.TheVariants.{Fault, Me
 use crate::account::hold_all;
 use crate::closing::{CloseFault, Ended, can_close};
 use crate::desk::Desk;
-use crate::naming::Naming;
 use crate::next::{Next, next_of};
 use crate::seats::seat_again;
 use crate::session::Session;
 use ent_book::NamedTable;
 use ent_renewal::TooManyRows;
 use ent_semantics::Book;
+use ent_stamp::Naming;
 use ent_value::{Refusal, Sequence};
 use std::alloc::Global;
 use thiserror::Error;
@@ -144,10 +144,11 @@ impl<L: Naming> Desk<L> {
                     book,
                     mut scripts,
                     mut entries,
+                    known,
                 } = ended;
                 seat_again(sessions, next.first, &mut scripts, &mut entries);
                 Ok(Renewed {
-                    desk: Desk::new(next.core, 0, scripts, entries),
+                    desk: Desk::new(next.core, 0, scripts, entries, known),
                     book,
                 })
             }

@@ -7,12 +7,13 @@ ghost use Rattle.ent_core.specs.Passed.{resolved_forms};
 ghost use Rattle.ent_protocol.specs.Event.{Recall, Recalled};
 ghost use Rattle.ent_protocol.specs.Step.{Step};
 
-use crate::advance::{Advance, advance_told, is_leaving};
+use crate::advance::{Advance, is_leaving};
 use crate::closing::can_close;
 use crate::desk::Desk;
-use crate::naming::Naming;
+use crate::lending::advance_told;
 use crate::session::Session;
 use ent_form::FormFault;
+use ent_stamp::{Naming, StampedJob};
 use ent_termination::finished_scripts_have_fates;
 use std::alloc::{AllocError, Global};
 
@@ -24,7 +25,7 @@ impl<L: Naming> Desk<L> {
         &mut self,
         alloc: Global,
         session: &mut Session<L>,
-    ) -> Result<Advance, AllocError>
+    ) -> Result<Advance<StampedJob<L>>, AllocError>
         ensures ok { IfOk result (λ advance. AdvancesInRun self.old advance self.new) }
         ensures events { LeadsOn self.old self.new }
         ensures session { GetsReceipts session.old session.new }
@@ -39,7 +40,7 @@ impl<L: Naming> Desk<L> {
 
     /// A run starts: Moved. Idle: a run is on. Done: nobody waits for one, and each script has its fate. At both, and
     /// where memory runs out, nothing changes.
-    pub fn start_run(&mut self) -> Result<Advance, AllocError>
+    pub fn start_run(&mut self) -> Result<Advance<StampedJob<L>>, AllocError>
         ensures ok { IfOk result (λ advance. StartsRun self.old advance self.new) }
         ensures events { LeadsOn self.old self.new }
         ensures journal { self.new.core.journal ≡ self.old.core.journal }
@@ -51,7 +52,7 @@ impl<L: Naming> Desk<L> {
             return Ok(Advance::Idle);
         }
         let reply = self.core.start_run()?;
-        if let Some(started) = advance_told(reply) {
+        if let Some(started) = advance_told(&self.core, &mut self.known, reply) {
             return Ok(started);
         }
         Ok(Advance::Done)
@@ -60,7 +61,7 @@ impl<L: Naming> Desk<L> {
     /// The run ends, and each of its members waits for another one, or has its fate: Moved. Idle: something in the run
     /// must come first, or no run is on, and somebody waits for one. Done: each script has its fate. At both, and where
     /// memory runs out, nothing changes.
-    pub fn end_run(&mut self) -> Result<Advance, AllocError>
+    pub fn end_run(&mut self) -> Result<Advance<StampedJob<L>>, AllocError>
         ensures ok { IfOk result (λ advance. EndsRun self.old advance self.new) }
         ensures events { LeadsOn self.old self.new }
         ensures journal { self.new.core.journal ≡ self.old.core.journal }
@@ -71,7 +72,7 @@ impl<L: Naming> Desk<L> {
         }
         let reply = self.core.end_run()?;
         self.left |= is_leaving(&reply);
-        if let Some(ended) = advance_told(reply) {
+        if let Some(ended) = advance_told(&self.core, &mut self.known, reply) {
             return Ok(ended);
         }
         Ok(Advance::Idle)
@@ -84,10 +85,11 @@ impl<L: Naming> Desk<L> {
         ensures events { LeadsOn self.old self.new }
     {
         drop(self.core.recall());
+        self.known.forget(self.core.lent_count());
     }
 
     /// That nothing is made: Done, where no run is on and nobody waits for one; else Idle.
-    fn rest(&self) -> Advance
+    fn rest(&self) -> Advance<StampedJob<L>>
         ensures { RestsAs self.now.core result }
     {
         finished_scripts_have_fates::<FormFault>();

@@ -4,9 +4,9 @@ ghost use Rattle.ent_desk.specs.Opened.{first_over, other_session};
 ghost use Rattle.ent_desk.specs.Renewed.{seated_again};
 ghost use Rattle.ent_tree.specs.declared.declaration.Opening.{Opening};
 
-use crate::naming::Naming;
 use crate::session::Session;
 use crate::ticket::First;
+use ent_stamp::Naming;
 use std::sync::ledger::Book;
 
 /// Sessions hold nothing any more, and the books don't count what they held.

@@ -4,20 +4,19 @@ ghost use Rattle.std.specs.Option.{option_map};
 ghost use Rattle.ent_desk.specs.Opened.{other_session};
 ghost use Rattle.ent_desk.specs.Told.{fate_of};
 
-use crate::naming::Naming;
 use crate::ticket::{First, Receipt, Ticket};
-use ent_eval::{Done, Job};
 use ent_group::Tx;
 use ent_semantics::Fate;
+use ent_stamp::{Naming, StampedDone, StampedJob};
 use std::alloc::Global;
 use std::marker::Model;
 use std::sync::ledger::{Book, Share};
 
 /// What memory stopped on its way: a job that couldn't be done, or a result that couldn't be handed in.
 #[derive(Drop)]
-pub enum Stopped {
-    Job(Job),
-    Done(Done),
+pub enum Stopped<L: Naming> {
+    Job(StampedJob<L>),
+    Done(StampedDone<L>),
 }
 
 /// What one client holds: the tickets of the scripts that it submitted, the receipts of the commits that its steps
@@ -28,7 +27,7 @@ pub struct Session<L: Naming> {
     pub(crate) tickets: Vec<Ticket>,
     pub(crate) receipts: Vec<Receipt>,
     pub(crate) first: Option<First>,
-    pub(crate) stopped: Option<Stopped>,
+    pub(crate) stopped: Option<Stopped<L>>,
     pub(crate) submitted: Share<L::Scripts>,
     pub(crate) committed: Share<L::Entries>,
 }
@@ -123,14 +122,14 @@ impl<L: Naming> Session<L> {
     }
 
     /// Takes out what memory stopped.
-    pub fn take_stopped(&mut self) -> Option<Stopped>
+    pub fn take_stopped(&mut self) -> Option<Stopped<L>>
         ensures { self.new ≡ self.old }
     {
         self.stopped.take()
     }
 
     /// Keeps what memory stopped. What it kept before is dropped, so it is to be taken out first.
-    pub fn keep_stopped(&mut self, stopped: Stopped)
+    pub fn keep_stopped(&mut self, stopped: Stopped<L>)
         ensures { self.new ≡ self.old }
     {
         self.stopped = Some(stopped);

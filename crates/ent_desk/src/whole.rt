@@ -9,11 +9,11 @@ ghost use Rattle.ent_value.specs.declared.refusal.Refusal.TheVariants.{Fault, Me
 
 use crate::closing::{CloseFault, UnclosedDesk};
 use crate::desk::Desk;
-use crate::naming::Naming;
 use ent_book::NamedTable;
 use ent_core::{NotDone as Left, resolved_runs_are_legal};
 use ent_form::FormFault;
 use ent_semantics::Book;
+use ent_stamp::Naming;
 use ent_termination::finished_scripts_have_fates;
 use ent_value::{Refusal, Sequence};
 
@@ -47,6 +47,7 @@ impl<L: Naming> Desk<L> {
             scripts,
             entries,
             left,
+            known,
         } = self;
         core.is_reached();
         match core.close() {
@@ -58,6 +59,7 @@ impl<L: Naming> Desk<L> {
                     scripts,
                     entries,
                     left,
+                    known,
                 },
                 refusal: close_refusal(refused.refusal),
             }),

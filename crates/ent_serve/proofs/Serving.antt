@@ -1,5 +1,5 @@
 -- What a whole run gives, of sessions that hold the tickets that they were given.
-use Rattle.std.proofs.Common.{◌≡◌, ◌⊎◌, inl, inr, ℕ, zero, suc, ◌+◌, ◌<◌, List, [], ◌∷◌, ◌++◌, length, map, replicate}
+use Rattle.std.proofs.Common.{◌≡◌, inl, inr, ℕ, zero, suc, ◌+◌, ◌<◌, List, [], ◌∷◌, ◌++◌, length, map, replicate}
 use Rattle.std.proofs.Common.{get_or, slice_get, refl, ap, sym, subst, ◌∙◌, arith, Option, Some, None, Result, Ok, Err}
 use Rattle.std.proofs.Common.{◌==◌, IfOk, IfSome, append_assoc, find}
 use Rattle.std.specs.Prelude.{Contains, IsPermutation}
@@ -11,7 +11,7 @@ use Rattle.ent_tree.specs.declared.script.Script.{Script}
 use Rattle.ent_semantics.specs.Database.{Database}
 use Rattle.ent_semantics.specs.declared.book.Book.{Book}
 use Rattle.ent_semantics.specs.declared.book.Fate.{Fate}
-use Rattle.ent_protocol.specs.Reached.{IsGatheredAt, scripts_of}
+use Rattle.ent_protocol.specs.Reached.{IsGatheredAt}
 use Rattle.ent_protocol.specs.State.{State, Submitted}
 use Rattle.ent_desk.specs.Passed.{resolved_forms}
 use Rattle.ent_desk.specs.declared.ticket.First.{First}

@@ -22,8 +22,8 @@ mod waiting;
 mod workers;
 
 pub use ent_desk::{
-    Blanks, Both, CloseFault, Core, First, Naming, NotSubmitted, PlayFault, Receipt, RenewFault,
-    Seats, Session, SubmitFault, Ticket, core_over,
+    BlankLog, Blanks, Both, CloseFault, Core, First, Naming, NotSubmitted, PlayFault, Receipt,
+    RenewFault, Seats, Session, SubmitFault, Ticket, core_over,
 };
 pub use fault::ServeFault;
 pub use gate::{Gate, Open};

@@ -22,9 +22,8 @@ use crate::gate::Gate;
 use ent_book::NamedTable;
 use ent_desk::{
     Advance, Blanks, CloseFault, Core, Desk, Naming, NotSubmitted, PlayFault, Receipt, Seats,
-    Session, Stopped, open,
+    Session, StampedDone, StampedJob, Stopped, open,
 };
-use ent_eval::{Done, Job, evaluate};
 use ent_group::Tx;
 use ent_semantics::{Book, Fate};
 use ent_tree::{Duplicate, Input, Script};
@@ -77,7 +76,7 @@ pub struct NoBook<L: Naming, G: Gate> {
 impl<L: Naming, G: Gate> Manager<L, G> {
     /// Opens a manager over an input: its scripts are submitted in order, and the first of so many sessions, 1 to
     /// [`MOST_SESSIONS`], has their tickets. Else the input's first fault of form. Each ledger of `blank` has a part
-    /// for each session. It waits for nobody.
+    /// for each session, and its log is the manager's. It waits for nobody.
     pub fn open(
         alloc: Global,
         blank: Blanks,
@@ -87,7 +86,8 @@ impl<L: Naming, G: Gate> Manager<L, G> {
     ) -> Result<(Self, Vec<Session<L>>), PlayFault>
         requires nonempty { 0 < sessions }
         requires bound { sessions ≤ MOST_SESSIONS }
-        requires names { (blank.scripts.name ≡ L.Scripts.name) × (blank.entries.name ≡ L.Entries.name) }
+        requires names { (blank.scripts.name ≡ L.Scripts.name) × (blank.entries.name ≡ L.Entries.name)
+            × (blank.jobs ≡ L.Scripts.book) }
         requires blank { (blank.scripts.parts ≡ sessions) × (blank.entries.parts ≡ sessions) }
         requires scripts { (L.Scripts.seats ≡ sessions) × (L.Scripts.parts ≡ sessions) }
         requires entries { (L.Entries.seats ≡ sessions) × (L.Entries.parts ≡ sessions) }
@@ -124,7 +124,9 @@ impl<L: Naming, G: Gate> Manager<L, G> {
     {
         match script.copy(self.alloc) {
             Ok(copy) => {
+                self.bell.begin_submit();
                 let submitted = self.desk.lock(rt).submit(session, script, copy);
+                self.bell.end_submit();
                 if submitted.is_ok() {
                     self.bell.ring(rt);
                 }
@@ -155,7 +157,7 @@ impl<L: Naming, G: Gate> Manager<L, G> {
         &self,
         rt: &R,
         session: &mut Session<L>,
-        stopped: Stopped,
+        stopped: Stopped<L>,
     ) -> Result<Headway, AllocError>
         ensures { session.new ≡ session.old }
     {
@@ -169,6 +171,7 @@ impl<L: Naming, G: Gate> Manager<L, G> {
     fn advance<R: Wait>(&self, rt: &R, session: &mut Session<L>) -> Result<Headway, AllocError>
         ensures { GetsReceipts session.old session.new }
     {
+        self.bell.give_way();
         let mut desk = self.desk.lock(rt);
         let advance = desk.advance(self.alloc, session)?;
         let left = desk.take_left();
@@ -190,7 +193,7 @@ impl<L: Naming, G: Gate> Manager<L, G> {
         &self,
         rt: &R,
         session: &mut Session<L>,
-        advance: Advance,
+        advance: Advance<StampedJob<L>>,
         left: bool,
     ) -> Result<Headway, AllocError>
         ensures { session.new ≡ session.old }
@@ -214,15 +217,18 @@ impl<L: Naming, G: Gate> Manager<L, G> {
         &self,
         rt: &R,
         session: &mut Session<L>,
-        job: Job,
+        job: StampedJob<L>,
     ) -> Result<Headway, AllocError>
         ensures { session.new ≡ session.old }
     {
-        self.gate.before(&job);
-        match evaluate(self.alloc, job) {
+        if self.gate.takes_long(job.job()) {
+            self.bell.pass_baton(rt);
+        }
+        self.gate.before(job.job());
+        match job.evaluate(self.alloc) {
             Ok(done) => self.hand_in(rt, session, done),
             Err(refused) => {
-                session.keep_stopped(Stopped::Job(refused.job));
+                session.keep_stopped(Stopped::Job(refused.value));
                 Err(AllocError)
             }
         }
@@ -233,10 +239,11 @@ impl<L: Naming, G: Gate> Manager<L, G> {
         &self,
         rt: &R,
         session: &mut Session<L>,
-        done: Done,
+        done: StampedDone<L>,
     ) -> Result<Headway, AllocError>
         ensures { session.new ≡ session.old }
     {
+        self.bell.give_way();
         let mut desk = self.desk.lock(rt);
         let handed = desk.hand_in(done);
         let left = desk.take_left();

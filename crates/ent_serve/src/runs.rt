@@ -8,7 +8,7 @@ use std::alloc::AllocError;
 use std::sync::Wait;
 
 /// What an advance that lends no job tells.
-fn headway_of(advance: &Advance) -> Headway {
+fn headway_of<J>(advance: &Advance<J>) -> Headway {
     match advance {
         Advance::Lent(_) | Advance::Moved => Headway::Moved,
         Advance::Idle => Headway::Idle,
@@ -40,6 +40,7 @@ impl<L: Naming, G: Gate> Manager<L, G> {
     ) -> Result<Headway, AllocError>
         ensures { GetsReceipts session.old session.new }
     {
+        self.bell.give_way();
         let mut desk = self.desk.lock(rt);
         let advance = desk.advance_in_run(self.alloc, session)?;
         let left = desk.take_left();
@@ -76,7 +77,7 @@ impl<L: Naming, G: Gate> Manager<L, G> {
     }
 
     /// Rings where something moved, and tells it.
-    fn told<R: Wait>(&self, rt: &R, advance: &Advance, left: bool) -> Headway {
+    fn told<J, R: Wait>(&self, rt: &R, advance: &Advance<J>, left: bool) -> Headway {
         let headway = headway_of(advance);
         if headway == Headway::Moved {
             self.tell(rt, left);

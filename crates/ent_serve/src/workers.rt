@@ -15,7 +15,7 @@ use crate::fault::ServeFault;
 use crate::gate::Gate;
 use crate::manager::{Headway, Manager, UnclosedManager};
 use ent_book::NamedTable;
-use ent_desk::{Blanks, Both, CloseFault, Naming, Seats, Session};
+use ent_desk::{BlankLog, Blanks, Both, CloseFault, Naming, Seats, Session};
 use ent_form::FormFault;
 use ent_semantics::Book;
 use ent_tree::Input;
@@ -28,7 +28,9 @@ use std::sync::ledger::Blank;
 use std::thread;
 use std::thread::Threads;
 
-/// Works until every transaction has its fate, or somebody stops all. An idle worker waits for what others do.
+/// Works until every transaction has its fate, or somebody stops all. Workers pass a baton on, so that one makes steps
+/// that are short, and the others sleep; while a job takes long another one goes on. An idle worker waits for what
+/// others do.
 fn work_on<L: Naming, G: Gate, R: Wait>(
     rt: &R,
     manager: &Manager<L, G>,
@@ -37,8 +39,10 @@ fn work_on<L: Naming, G: Gate, R: Wait>(
 ) -> Session<L>
     ensures { KeepsSeats session result }
 {
+    let mut had = None;
     for _ in rt.forever() {
-        let seen = manager.bell.count(rt);
+        let baton = manager.bell.take_baton(rt, had);
+        had = Some(baton);
         if stopped.load(Ordering::SeqCst) {
             break;
         }
@@ -48,7 +52,7 @@ fn work_on<L: Naming, G: Gate, R: Wait>(
                 manager.bell.ring_out(rt);
                 break;
             }
-            Ok(Headway::Idle) => manager.bell.wait_past(rt, seen),
+            Ok(Headway::Idle) => manager.bell.rest(rt, baton),
             Err(AllocError) => {
                 stopped.store(true, Ordering::SeqCst);
                 manager.bell.ring_out(rt);
@@ -168,7 +172,8 @@ pub fn serve<L: Naming + Send + Sync, G: Gate + Sync, R: Threads + Wait + Sync>(
 ) -> Result<Book<Sequence<NamedTable>>, Refusal<ServeFault>>
     requires nonempty { 0 < workers }
     requires bound { workers ≤ MOST_SESSIONS }
-    requires names { (blank.scripts.name ≡ L.Scripts.name) × (blank.entries.name ≡ L.Entries.name) }
+    requires names { (blank.scripts.name ≡ L.Scripts.name) × (blank.entries.name ≡ L.Entries.name)
+        × (blank.jobs ≡ L.Scripts.book) }
     requires blank { (blank.scripts.parts ≡ workers) × (blank.entries.parts ≡ workers) }
     requires scripts { (L.Scripts.seats ≡ workers) × (L.Scripts.parts ≡ workers) }
     requires entries { (L.Entries.seats ≡ workers) × (L.Entries.parts ≡ workers) }
@@ -191,7 +196,7 @@ pub fn serve<L: Naming + Send + Sync, G: Gate + Sync, R: Threads + Wait + Sync>(
     close_all(rt, manager, worked)
 }
 
-/// [`serve`] by any two ledgers.
+/// [`serve`] by any two ledgers, and a log.
 fn serve_by<
     S: Seats + Send + Sync,
     E: Seats + Send + Sync,
@@ -207,7 +212,7 @@ fn serve_by<
 ) -> Result<Book<Sequence<NamedTable>>, Refusal<ServeFault>>
     requires nonempty { 0 < workers }
     requires bound { workers ≤ MOST_SESSIONS }
-    requires names { (blank.scripts.name ≡ S.name) × (blank.entries.name ≡ E.name) }
+    requires names { (blank.scripts.name ≡ S.name) × (blank.entries.name ≡ E.name) × (blank.jobs ≡ S.book) }
     requires blank { (blank.scripts.parts ≡ workers) × (blank.entries.parts ≡ workers) }
     requires scripts { (S.seats ≡ workers) × (S.parts ≡ workers) }
     requires entries { (E.seats ≡ workers) × (E.parts ≡ workers) }
@@ -220,7 +225,7 @@ fn serve_by<
     serve::<Both<S, E>, G, R>(rt, alloc, blank, input, workers, gate)
 }
 
-/// [`serve`] for a caller who needs no session: with two ledgers of its own.
+/// [`serve`] for a caller who needs no session: with two ledgers and a log of its own.
 pub fn serve_input<G: Gate + Sync, R: Threads + Wait + Sync>(
     rt: &R,
     alloc: Global,
@@ -242,6 +247,7 @@ pub fn serve_input<G: Gate + Sync, R: Threads + Wait + Sync>(
         Blanks {
             scripts: Blank::new(workers as u64),
             entries: Blank::new(workers as u64),
+            jobs: BlankLog::new(),
         },
         input,
         workers,

@@ -3,7 +3,7 @@ ghost use Rattle.std.specs.Prelude.{◌≡◌};
 
 use anyhow::{Context, Result, ensure};
 use ent_semantics::Fate;
-use ent_serve::{Blanks, Both, Core, Headway, Manager, Naming, Open, Seats, Session};
+use ent_serve::{BlankLog, Blanks, Both, Core, Headway, Manager, Naming, Open, Seats, Session};
 use ent_sql::parse_input;
 use ent_tree::Script;
 use std::alloc::Global;
@@ -154,7 +154,8 @@ fn check_of<L: Naming + Send + Sync, R: Threads + Wait + Clock + Sync>(
     alloc: Global,
     blank: Blanks,
 ) -> Result<()>
-    requires names { (blank.scripts.name ≡ L.Scripts.name) × (blank.entries.name ≡ L.Entries.name) }
+    requires names { (blank.scripts.name ≡ L.Scripts.name) × (blank.entries.name ≡ L.Entries.name)
+        × (blank.jobs ≡ L.Scripts.book) }
     requires blank { (blank.scripts.parts ≡ 4) × (blank.entries.parts ≡ 4) }
     requires scripts { (L.Scripts.seats ≡ 4) × (L.Scripts.parts ≡ 4) }
     requires entries { (L.Entries.seats ≡ 4) × (L.Entries.parts ≡ 4) }
@@ -191,7 +192,7 @@ fn check_by<S: Seats + Send + Sync, E: Seats + Send + Sync, R: Threads + Wait + 
     alloc: Global,
     blank: Blanks,
 ) -> Result<()>
-    requires names { (blank.scripts.name ≡ S.name) × (blank.entries.name ≡ E.name) }
+    requires names { (blank.scripts.name ≡ S.name) × (blank.entries.name ≡ E.name) × (blank.jobs ≡ S.book) }
     requires blank { (blank.scripts.parts ≡ 4) × (blank.entries.parts ≡ 4) }
     requires scripts { (S.seats ≡ 4) × (S.parts ≡ 4) }
     requires entries { (E.seats ≡ 4) × (E.parts ≡ 4) }
@@ -206,6 +207,7 @@ pub(crate) fn check<R: Threads + Wait + Clock + Sync>(rt: &R, alloc: Global) -> 
         Blanks {
             scripts: Blank::new(4),
             entries: Blank::new(4),
+            jobs: BlankLog::new(),
         },
     )
 }

@@ -73,6 +73,10 @@ impl<'a> Gate for Hold<'a> {
             self.flags.wait();
         }
     }
+
+    fn takes_long(&self, _job: &Job) -> bool {
+        true
+    }
 }
 
 /// Holds the first transaction's job until the second one's has come.
@@ -90,6 +94,10 @@ impl<'a> Gate for Meet<'a> {
             self.flags.wait();
         }
     }
+
+    fn takes_long(&self, _job: &Job) -> bool {
+        true
+    }
 }
 
 /// Holds the first job until it is released, and no other.
@@ -103,5 +111,9 @@ impl<'a> Gate for HoldFirst<'a> {
         if self.flags.is_first() {
             self.flags.wait();
         }
+    }
+
+    fn takes_long(&self, _job: &Job) -> bool {
+        true
     }
 }

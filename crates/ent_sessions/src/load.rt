@@ -3,7 +3,7 @@ ghost use Rattle.std.specs.Prelude.{◌≡◌};
 
 use crate::client::{Client, Tally, serve};
 use anyhow::{Context, Result};
-use ent_serve::{Blanks, Both, Manager, Naming, Open, Seats, Session};
+use ent_serve::{BlankLog, Blanks, Both, Manager, Naming, Open, Seats, Session};
 use ent_sql::parse_input;
 use ent_tree::Script;
 use std::alloc::Global;
@@ -68,7 +68,8 @@ fn load_of<L: Naming + Send + Sync, R: Threads + Wait + Clock + Sync>(
     blank: Blanks,
     count: usize,
 ) -> Result<Load>
-    requires names { (blank.scripts.name ≡ L.Scripts.name) × (blank.entries.name ≡ L.Entries.name) }
+    requires names { (blank.scripts.name ≡ L.Scripts.name) × (blank.entries.name ≡ L.Entries.name)
+        × (blank.jobs ≡ L.Scripts.book) }
     requires blank { (blank.scripts.parts ≡ 8) × (blank.entries.parts ≡ 8) }
     requires scripts { (L.Scripts.seats ≡ 8) × (L.Scripts.parts ≡ 8) }
     requires entries { (L.Entries.seats ≡ 8) × (L.Entries.parts ≡ 8) }
@@ -106,7 +107,7 @@ fn load_by<S: Seats + Send + Sync, E: Seats + Send + Sync, R: Threads + Wait + C
     blank: Blanks,
     count: usize,
 ) -> Result<Load>
-    requires names { (blank.scripts.name ≡ S.name) × (blank.entries.name ≡ E.name) }
+    requires names { (blank.scripts.name ≡ S.name) × (blank.entries.name ≡ E.name) × (blank.jobs ≡ S.book) }
     requires blank { (blank.scripts.parts ≡ 8) × (blank.entries.parts ≡ 8) }
     requires scripts { (S.seats ≡ 8) × (S.parts ≡ 8) }
     requires entries { (E.seats ≡ 8) × (E.parts ≡ 8) }
@@ -126,6 +127,7 @@ pub(crate) fn run<R: Threads + Wait + Clock + Sync>(
         Blanks {
             scripts: Blank::new(8),
             entries: Blank::new(8),
+            jobs: BlankLog::new(),
         },
         count,
     )

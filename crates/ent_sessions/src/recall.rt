@@ -4,7 +4,7 @@ ghost use Rattle.std.specs.Prelude.{◌≡◌};
 use crate::gates::{Flags, HoldFirst};
 use anyhow::{Context, Result, ensure};
 use ent_semantics::Fate;
-use ent_serve::{Blanks, Both, Headway, Manager, Naming, Seats, Session};
+use ent_serve::{BlankLog, Blanks, Both, Headway, Manager, Naming, Seats, Session};
 use ent_sql::parse_input;
 use std::alloc::{AllocError, Global};
 use std::marker::Brand;
@@ -46,7 +46,8 @@ fn check_of<L: Naming + Send + Sync, R: Threads + Wait + Sync>(
     alloc: Global,
     blank: Blanks,
 ) -> Result<()>
-    requires names { (blank.scripts.name ≡ L.Scripts.name) × (blank.entries.name ≡ L.Entries.name) }
+    requires names { (blank.scripts.name ≡ L.Scripts.name) × (blank.entries.name ≡ L.Entries.name)
+        × (blank.jobs ≡ L.Scripts.book) }
     requires blank { (blank.scripts.parts ≡ 2) × (blank.entries.parts ≡ 2) }
     requires scripts { (L.Scripts.seats ≡ 2) × (L.Scripts.parts ≡ 2) }
     requires entries { (L.Entries.seats ≡ 2) × (L.Entries.parts ≡ 2) }
@@ -86,7 +87,7 @@ fn check_by<S: Seats + Send + Sync, E: Seats + Send + Sync, R: Threads + Wait + 
     alloc: Global,
     blank: Blanks,
 ) -> Result<()>
-    requires names { (blank.scripts.name ≡ S.name) × (blank.entries.name ≡ E.name) }
+    requires names { (blank.scripts.name ≡ S.name) × (blank.entries.name ≡ E.name) × (blank.jobs ≡ S.book) }
     requires blank { (blank.scripts.parts ≡ 2) × (blank.entries.parts ≡ 2) }
     requires scripts { (S.seats ≡ 2) × (S.parts ≡ 2) }
     requires entries { (E.seats ≡ 2) × (E.parts ≡ 2) }
@@ -101,6 +102,7 @@ pub(crate) fn check<R: Threads + Wait + Sync>(rt: &R, alloc: Global) -> Result<(
         Blanks {
             scripts: Blank::new(2),
             entries: Blank::new(2),
+            jobs: BlankLog::new(),
         },
     )
 }

@@ -5,7 +5,9 @@ use crate::again::{Again, Call};
 use anyhow::{Context, Result, bail, ensure};
 use ent_book::{NamedTable, write_report};
 use ent_semantics::Book;
-use ent_serve::{Blanks, Both, Headway, Manager, Naming, Open, Seats, Session, UnclosedManager};
+use ent_serve::{
+    BlankLog, Blanks, Both, Headway, Manager, Naming, Open, Seats, Session, UnclosedManager,
+};
 use ent_sql::parse_input;
 use ent_tree::{Input, Script};
 use ent_value::{Limited, Refusal, Sequence, Watched};
@@ -129,7 +131,8 @@ fn book_of<L: Naming, R: Wait>(
     again: &mut Again,
     way: Way,
 ) -> Result<Option<Book<Sequence<NamedTable>>>>
-    requires names { (blank.scripts.name ≡ L.Scripts.name) × (blank.entries.name ≡ L.Entries.name) }
+    requires names { (blank.scripts.name ≡ L.Scripts.name) × (blank.entries.name ≡ L.Entries.name)
+        × (blank.jobs ≡ L.Scripts.book) }
     requires blank { (blank.scripts.parts ≡ 1) × (blank.entries.parts ≡ 1) }
     requires scripts { (L.Scripts.seats ≡ 1) × (L.Scripts.parts ≡ 1) }
     requires entries { (L.Entries.seats ≡ 1) × (L.Entries.parts ≡ 1) }
@@ -158,7 +161,7 @@ fn book_by<S: Seats + Send + Sync, E: Seats + Send + Sync, R: Wait>(
     again: &mut Again,
     way: Way,
 ) -> Result<Option<Book<Sequence<NamedTable>>>>
-    requires names { (blank.scripts.name ≡ S.name) × (blank.entries.name ≡ E.name) }
+    requires names { (blank.scripts.name ≡ S.name) × (blank.entries.name ≡ E.name) × (blank.jobs ≡ S.book) }
     requires blank { (blank.scripts.parts ≡ 1) × (blank.entries.parts ≡ 1) }
     requires scripts { (S.seats ≡ 1) × (S.parts ≡ 1) }
     requires entries { (E.seats ≡ 1) × (E.parts ≡ 1) }
@@ -179,6 +182,7 @@ fn run_once<R: Wait>(
         Blanks {
             scripts: Blank::new(1),
             entries: Blank::new(1),
+            jobs: BlankLog::new(),
         },
         again,
         way,

@@ -4,8 +4,8 @@ ghost use Rattle.std.specs.Prelude.{◌≡◌};
 use anyhow::{Context, Result, bail, ensure};
 use ent_semantics::Fate;
 use ent_serve::{
-    Blanks, Both, CloseFault, Headway, Manager, Naming, NotRenewed, Open, RenewFault, Renewed,
-    Seats, Session,
+    BlankLog, Blanks, Both, CloseFault, Headway, Manager, Naming, NotRenewed, Open, RenewFault,
+    Renewed, Seats, Session,
 };
 use ent_sql::parse_input;
 use ent_tree::Script;
@@ -156,7 +156,8 @@ fn second_epoch<L: Naming, R: Wait>(
 }
 
 fn check_of<L: Naming, R: Wait>(rt: &R, alloc: Global, blank: Blanks) -> Result<()>
-    requires names { (blank.scripts.name ≡ L.Scripts.name) × (blank.entries.name ≡ L.Entries.name) }
+    requires names { (blank.scripts.name ≡ L.Scripts.name) × (blank.entries.name ≡ L.Entries.name)
+        × (blank.jobs ≡ L.Scripts.book) }
     requires blank { (blank.scripts.parts ≡ 2) × (blank.entries.parts ≡ 2) }
     requires scripts { (L.Scripts.seats ≡ 2) × (L.Scripts.parts ≡ 2) }
     requires entries { (L.Entries.seats ≡ 2) × (L.Entries.parts ≡ 2) }
@@ -186,7 +187,7 @@ fn check_by<S: Seats + Send + Sync, E: Seats + Send + Sync, R: Wait>(
     alloc: Global,
     blank: Blanks,
 ) -> Result<()>
-    requires names { (blank.scripts.name ≡ S.name) × (blank.entries.name ≡ E.name) }
+    requires names { (blank.scripts.name ≡ S.name) × (blank.entries.name ≡ E.name) × (blank.jobs ≡ S.book) }
     requires blank { (blank.scripts.parts ≡ 2) × (blank.entries.parts ≡ 2) }
     requires scripts { (S.seats ≡ 2) × (S.parts ≡ 2) }
     requires entries { (E.seats ≡ 2) × (E.parts ≡ 2) }
@@ -201,6 +202,7 @@ pub(crate) fn check<R: Wait>(rt: &R, alloc: Global) -> Result<()> {
         Blanks {
             scripts: Blank::new(2),
             entries: Blank::new(2),
+            jobs: BlankLog::new(),
         },
     )
 }

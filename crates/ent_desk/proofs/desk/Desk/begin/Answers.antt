@@ -10,6 +10,7 @@ use Rattle.ent_desk.specs.Seen.{DeskState, GetsReceipts, SessionState}
 use Rattle.ent_desk.specs.declared.ticket.Receipt.{Receipt}
 use Rattle.ent_desk.proofs.Advancing.{begin_made, stayed}
 use Rattle.ent_desk.proofs.Receiving.{are_of_group, grown_by, kept_begin, none_received, receives}
+use Rattle.ent_desk.proofs.Lent.{begins_lent}
 use Rattle.ent_desk.proofs.desk.Desk.begin.Goals as goal
 
 pub keep_receipts-made-requires-clause-of_group : goal.keep_receipts-made-requires-clause-of_group
@@ -41,9 +42,11 @@ invariant_of-self-2 g c =
     (c.transactions_stand_once.ensures.bound resolved_forms)
     (subst (λ (d : DeskState). AreDraftedFor d.core tx drafts) (sym c.self.view_is) c.requires.drafted) step in
     let before = length c.journal-before.result.now in
-    let long : before ≡ length i.core.journal = ap length c.journal-before.ensures in
-    kept_begin i.core drafts new grown before long i.count i.scripts.total i.entries.total c.add.new.self.total
-    c.keep_receipts-made.result tx reply c.self.invariant step c.keep_receipts-made.ensures.made c.add.ensures.total
+    let long : before ≡ length i.core.journal = ap length c.journal-before.ensures in (
+      kept_begin i.core drafts new grown before long i.count i.scripts.total i.entries.total c.add.new.self.total
+          c.keep_receipts-made.result tx reply c.self.invariant.0 step c.keep_receipts-made.ensures.made c.add.ensures.total,
+      c.advance_told.ensures.known i.core.lent (begins_lent i.core new reply tx step) c.self.invariant.1,
+    )
 
 pub returns-clause-ok : goal.returns-clause-ok
 returns-clause-ok g c =
@@ -52,7 +55,7 @@ returns-clause-ok g c =
     let tx = c.args.found.tx in
     let reply = reply_seen c.in_ok-reply.reply in
     let step = c.in_ok-reply.ensures.ok in
-    let moved = begin_made i.count i.core new reply tx c.advance_told.result c.advance_told.ensures step
+    let moved = begin_made i.count i.core new reply tx c.advance_told.result c.advance_told.ensures.tells step
     (c.members_stand_by_number.ensures resolved_forms i.core c.is_reached.ensures.reached)
     (c.transactions_stand_once.ensures.once resolved_forms i.core c.is_reached.ensures.reached)
     (c.refusals_change_nothing.ensures resolved_forms i.core (Begin tx) reply new step) in
@@ -124,7 +127,7 @@ returns-clause-same g c = λ none.
     let got = receives i.core drafts new grown before long s.receipts.items kept
     (subst (λ (l : List Receipt). AreReceived new (suc before) (drop before new.journal) l kept) c.reserve.ensures.items
     c.keep_receipts-made.ensures.received) in
-    let moved = begin_made i.count i.core new reply tx c.advance_told.result c.advance_told.ensures step
+    let moved = begin_made i.count i.core new reply tx c.advance_told.result c.advance_told.ensures.tells step
     (c.members_stand_by_number.ensures resolved_forms i.core c.is_reached.ensures.reached)
     (c.transactions_stand_once.ensures.once resolved_forms i.core c.is_reached.ensures.reached)
     (c.refusals_change_nothing.ensures resolved_forms i.core (Begin tx) reply new step) in

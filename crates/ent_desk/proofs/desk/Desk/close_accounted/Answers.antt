@@ -15,9 +15,9 @@ returns-in-Ok-clause-book g c =
     let accounted = subst (λ (d : DeskState). IsAccounted d.core d.count sessions) (sym c.self.view_is)
     c.requires.accounted in
     let done = subst (λ (d : DeskState). CanClose d.core) (sym c.self.view_is) c.requires.done in
-    closed i.core i.count sessions book accounted c.self.invariant.gathered c.is_reached.ensures.reached done
+    closed i.core i.count sessions book accounted c.self.invariant.0.gathered c.is_reached.ensures.reached done
     c.in-Ok.ensures.book
     (c.finished_scripts_have_fates.ensures.finished resolved_forms i.core.opening (scripts_of i.core) book
     c.in-Ok.ensures.finished)
-    c.in-Ok.ensures.legal (sym c.self.invariant.scripts ∙ c.audit_all.ensures.scripts)
-    (sym c.self.invariant.entries ∙ c.audit_all.ensures.entries)
+    c.in-Ok.ensures.legal (sym c.self.invariant.0.scripts ∙ c.audit_all.ensures.scripts)
+    (sym c.self.invariant.0.entries ∙ c.audit_all.ensures.entries)

@@ -7,23 +7,28 @@ use Rattle.ent_desk.specs.declared.advance.Advance.TheVariants.{Idle}
 use Rattle.ent_desk.proofs.Advancing.{kept_busy, ended, rests_as_ended}
 use Rattle.ent_desk.proofs.Counting.{ends_none}
 use Rattle.ent_desk.proofs.Keeping.{ends_on, kept_none}
+use Rattle.ent_desk.proofs.Lent.{ends_lent}
 use Rattle.ent_desk.proofs.desk.Desk.end_run.Goals as goal
 
 pub invariant_of-self-2 : goal.invariant_of-self-2
 invariant_of-self-2 g c =
     let i = c.self.inside in
     let reply = reply_seen c.in_ok-reply.reply in
-    let step = c.in_ok-reply.ensures.ok in
-    kept_none i.count i.scripts.total i.entries.total i.core c.end_run.new.self EndRun reply c.self.invariant step
-    (ends_none i.core c.end_run.new.self reply step)
+    let step = c.in_ok-reply.ensures.ok in (
+      kept_none i.count i.scripts.total i.entries.total i.core c.end_run.new.self EndRun reply c.self.invariant.0 step
+          (ends_none i.core c.end_run.new.self reply step),
+      c.advance_told.ensures.known i.core.lent (ends_lent i.core c.end_run.new.self reply step) c.self.invariant.1,
+    )
 
 pub invariant_of-self-in-Some : goal.invariant_of-self-in-Some
 invariant_of-self-in-Some g c =
     let i = c.self.inside in
     let reply = reply_seen c.in_ok-reply.reply in
-    let step = c.in_ok-reply.ensures.ok in
-    kept_none i.count i.scripts.total i.entries.total i.core c.end_run.new.self EndRun reply c.self.invariant step
-    (ends_none i.core c.end_run.new.self reply step)
+    let step = c.in_ok-reply.ensures.ok in (
+      kept_none i.count i.scripts.total i.entries.total i.core c.end_run.new.self EndRun reply c.self.invariant.0 step
+          (ends_none i.core c.end_run.new.self reply step),
+      c.advance_told.ensures.known i.core.lent (ends_lent i.core c.end_run.new.self reply step) c.self.invariant.1,
+    )
 
 pub returns-then-not-running-clause-ok : goal.returns-then-not-running-clause-ok
 returns-then-not-running-clause-ok g c =
@@ -46,7 +51,7 @@ returns-in-Some-clause-ok g c =
     let new : DeskState = record { core = c.end_run.new.self; count = i.count } in
     let on : i.core.running ≡ true = sym c.running.ensures ∙ c.if-not-running.false in
     subst (λ (old : DeskState). EndsRun old c.in-Some.ended new) c.self.view_is
-    (ended i.count i.core c.end_run.new.self reply c.in-Some.ended (sym c.in-Some.is ∙ c.advance_told.ensures) on
+    (ended i.count i.core c.end_run.new.self reply c.in-Some.ended (sym c.in-Some.is ∙ c.advance_told.ensures.tells) on
     c.in_ok-reply.ensures.ok)
 
 pub returns-in-Some-clause-events : goal.returns-in-Some-clause-events
@@ -58,7 +63,7 @@ returns-in-Some-clause-events g c =
     let on : i.core.running ≡ true = sym c.running.ensures ∙ c.if-not-running.false in
     subst (λ (old : DeskState). LeadsOn old new) c.self.view_is
     (ends_on c.in-Some.ended before new
-    (ended i.count i.core c.end_run.new.self reply c.in-Some.ended (sym c.in-Some.is ∙ c.advance_told.ensures) on
+    (ended i.count i.core c.end_run.new.self reply c.in-Some.ended (sym c.in-Some.is ∙ c.advance_told.ensures.tells) on
     c.in_ok-reply.ensures.ok))
 
 pub returns-clause-ok : goal.returns-clause-ok
@@ -68,7 +73,7 @@ returns-clause-ok g c =
     let new : DeskState = record { core = c.end_run.new.self; count = i.count } in
     let on : i.core.running ≡ true = sym c.running.ensures ∙ c.if-not-running.false in
     subst (λ (old : DeskState). EndsRun old Idle new) c.self.view_is
-    (kept_busy i.count i.core c.end_run.new.self reply (sym c.in_default.is ∙ c.advance_told.ensures) on
+    (kept_busy i.count i.core c.end_run.new.self reply (sym c.in_default.is ∙ c.advance_told.ensures.tells) on
     c.in_ok-reply.ensures.ok)
 
 pub returns-clause-events : goal.returns-clause-events
@@ -80,5 +85,5 @@ returns-clause-events g c =
     let on : i.core.running ≡ true = sym c.running.ensures ∙ c.if-not-running.false in
     subst (λ (old : DeskState). LeadsOn old new) c.self.view_is
     (ends_on Idle before new
-    (kept_busy i.count i.core c.end_run.new.self reply (sym c.in_default.is ∙ c.advance_told.ensures) on
+    (kept_busy i.count i.core c.end_run.new.self reply (sym c.in_default.is ∙ c.advance_told.ensures.tells) on
     c.in_ok-reply.ensures.ok))

@@ -8,7 +8,7 @@ pub returns-in-Ok-clause-book : goal.returns-in-Ok-clause-book
 returns-in-Ok-clause-book g c =
     let i = c.self.inside in
     let book = book_seen c.in-Ok.book in
-    whole i.core i.count book c.self.invariant.gathered c.is_reached.ensures.reached c.in-Ok.ensures.done
+    whole i.core i.count book c.self.invariant.0.gathered c.is_reached.ensures.reached c.in-Ok.ensures.done
     c.in-Ok.ensures.book
     (c.finished_scripts_have_fates.ensures.finished resolved_forms i.core.opening (scripts_of i.core) book
     c.in-Ok.ensures.finished)

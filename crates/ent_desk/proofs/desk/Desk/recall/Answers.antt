@@ -1,4 +1,4 @@
-use Rattle.std.proofs.Common.{refl, subst}
+use Rattle.std.proofs.Common.{refl, subst, sym}
 use Rattle.ent_core.specs.Reply.{reply_seen}
 use Rattle.ent_core.specs.Passed.{resolved_forms}
 use Rattle.ent_protocol.specs.Event.{Recall, Recalled}
@@ -12,9 +12,11 @@ pub invariant_of-self : goal.invariant_of-self
 invariant_of-self g c =
     let i = c.self.inside in
     let reply = reply_seen c.recall.result in
-    let step = c.recall.ensures.step in
-    kept_none i.count i.scripts.total i.entries.total i.core c.recall.new.self Recall reply c.self.invariant step
-    (recalls_none i.core c.recall.new.self reply step)
+    let step = c.recall.ensures.step in (
+      kept_none i.count i.scripts.total i.entries.total i.core c.recall.new.self Recall reply c.self.invariant.0 step
+          (recalls_none i.core c.recall.new.self reply step),
+      c.forget.ensures c.recall.new.self.lent (sym c.lent_count.ensures),
+    )
 
 pub returns : goal.returns
 returns g c =

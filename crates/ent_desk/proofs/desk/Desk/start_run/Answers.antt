@@ -8,23 +8,28 @@ use Rattle.ent_desk.specs.declared.advance.Advance.TheVariants.{Done}
 use Rattle.ent_desk.proofs.Advancing.{all_done, started}
 use Rattle.ent_desk.proofs.Counting.{starts_none}
 use Rattle.ent_desk.proofs.Keeping.{kept_none, starts_on}
+use Rattle.ent_desk.proofs.Lent.{starts_lent}
 use Rattle.ent_desk.proofs.desk.Desk.start_run.Goals as goal
 
 pub invariant_of-self-2 : goal.invariant_of-self-2
 invariant_of-self-2 g c =
     let i = c.self.inside in
     let reply = reply_seen c.in_ok-reply.reply in
-    let step = c.in_ok-reply.ensures.ok in
-    kept_none i.count i.scripts.total i.entries.total i.core c.start_run.new.self StartRun reply c.self.invariant step
-    (starts_none i.core c.start_run.new.self reply step)
+    let step = c.in_ok-reply.ensures.ok in (
+      kept_none i.count i.scripts.total i.entries.total i.core c.start_run.new.self StartRun reply c.self.invariant.0 step
+          (starts_none i.core c.start_run.new.self reply step),
+      c.advance_told.ensures.known i.core.lent (starts_lent i.core c.start_run.new.self reply step) c.self.invariant.1,
+    )
 
 pub invariant_of-self-in-Some : goal.invariant_of-self-in-Some
 invariant_of-self-in-Some g c =
     let i = c.self.inside in
     let reply = reply_seen c.in_ok-reply.reply in
-    let step = c.in_ok-reply.ensures.ok in
-    kept_none i.count i.scripts.total i.entries.total i.core c.start_run.new.self StartRun reply c.self.invariant step
-    (starts_none i.core c.start_run.new.self reply step)
+    let step = c.in_ok-reply.ensures.ok in (
+      kept_none i.count i.scripts.total i.entries.total i.core c.start_run.new.self StartRun reply c.self.invariant.0 step
+          (starts_none i.core c.start_run.new.self reply step),
+      c.advance_told.ensures.known i.core.lent (starts_lent i.core c.start_run.new.self reply step) c.self.invariant.1,
+    )
 
 pub returns-in-Some-clause-ok : goal.returns-in-Some-clause-ok
 returns-in-Some-clause-ok g c =
@@ -33,7 +38,7 @@ returns-in-Some-clause-ok g c =
     let new : DeskState = record { core = c.start_run.new.self; count = i.count } in
     let off : i.core.running ≡ false = sym c.running.ensures ∙ c.if-running.false in
     subst (λ (old : DeskState). StartsRun old c.in-Some.started new) c.self.view_is
-    (started i.count i.core c.start_run.new.self reply c.in-Some.started (sym c.in-Some.is ∙ c.advance_told.ensures)
+    (started i.count i.core c.start_run.new.self reply c.in-Some.started (sym c.in-Some.is ∙ c.advance_told.ensures.tells)
     off c.in_ok-reply.ensures.ok)
 
 pub returns-in-Some-clause-events : goal.returns-in-Some-clause-events
@@ -45,7 +50,7 @@ returns-in-Some-clause-events g c =
     let off : i.core.running ≡ false = sym c.running.ensures ∙ c.if-running.false in
     subst (λ (old : DeskState). LeadsOn old new) c.self.view_is
     (starts_on c.in-Some.started before new
-    (started i.count i.core c.start_run.new.self reply c.in-Some.started (sym c.in-Some.is ∙ c.advance_told.ensures)
+    (started i.count i.core c.start_run.new.self reply c.in-Some.started (sym c.in-Some.is ∙ c.advance_told.ensures.tells)
     off c.in_ok-reply.ensures.ok))
 
 pub returns-clause-ok : goal.returns-clause-ok
@@ -55,7 +60,7 @@ returns-clause-ok g c =
     let new : DeskState = record { core = c.start_run.new.self; count = i.count } in
     let off : i.core.running ≡ false = sym c.running.ensures ∙ c.if-running.false in
     subst (λ (old : DeskState). StartsRun old Done new) c.self.view_is
-    (all_done i.count i.core c.start_run.new.self reply (sym c.in_default.is ∙ c.advance_told.ensures) off
+    (all_done i.count i.core c.start_run.new.self reply (sym c.in_default.is ∙ c.advance_told.ensures.tells) off
     c.in_ok-reply.ensures.ok c.is_reached.ensures.reached (c.finished_scripts_have_fates.ensures.book resolved_forms))
 
 pub returns-clause-events : goal.returns-clause-events
@@ -67,5 +72,5 @@ returns-clause-events g c =
     let off : i.core.running ≡ false = sym c.running.ensures ∙ c.if-running.false in
     subst (λ (old : DeskState). LeadsOn old new) c.self.view_is
     (starts_on Done before new
-    (all_done i.count i.core c.start_run.new.self reply (sym c.in_default.is ∙ c.advance_told.ensures) off
+    (all_done i.count i.core c.start_run.new.self reply (sym c.in_default.is ∙ c.advance_told.ensures.tells) off
     c.in_ok-reply.ensures.ok c.is_reached.ensures.reached (c.finished_scripts_have_fates.ensures.book resolved_forms)))
