@@ -49,6 +49,12 @@ fn submit<L: Naming, G: Gate, R: Wait>(
     unreachable!()
 }
 
+/// A client goes without having asked for anything.
+pub(crate) fn leave<L: Naming>(client: Client<L>) -> Session<L> {
+    let Client { session, .. } = client;
+    session
+}
+
 /// A client comes, submits what is wanted, and waits for its fate. Then it has its session alone.
 pub(crate) fn visit<L: Naming, G: Gate, R: Wait + Clock>(
     rt: &R,

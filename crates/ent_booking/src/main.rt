@@ -7,6 +7,7 @@
 mod client;
 mod pace;
 mod report;
+mod roll;
 mod service;
 mod text;
 

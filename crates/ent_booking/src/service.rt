@@ -1,11 +1,12 @@
 //! The service: a manager, its clients in threads, and a thread that starts and ends the runs.
 ghost use Rattle.std.specs.Prelude.{◌≡◌};
 
-use crate::client::{Client, visit};
+use crate::client::{Client, leave, visit};
 use crate::pace::{end_last_run, pace};
 use crate::report::append_report;
+use crate::roll::Roll;
 use crate::text::{ANN, BOB, CLEO, DONALD, GOOFY, MICKEY, MINNIE, OPENING};
-use anyhow::{Context, Result};
+use anyhow::{Context, Result, ensure};
 use ent_serve::{BlankLog, Blanks, Both, Manager, Naming, Open, Seats, Session};
 use ent_sql::parse_input;
 use std::alloc::{AllocError, Global};
@@ -46,14 +47,24 @@ fn seated<L: Naming>(alloc: Global, sessions: Vec<Session<L>>) -> Option<Vec<Cli
     Some(clients)
 }
 
+/// How many threads there are: one for each client, and one that starts and ends the runs.
+const THREADS: usize = 8;
+
 /// All clients come, each in a thread of its own, and wait for their fates. When the last one goes the service closes.
 fn serve<L: Naming + Send + Sync, R: Threads + Wait + Clock + Sync>(
     rt: &R,
     manager: &Manager<L, Open>,
     clients: Vec<Client<L>>,
+    roll: &Roll,
     closed: &AtomicBool,
 ) -> Result<Vec<Session<L>>, AllocError> {
-    let come = |client: Client<L>| -> Session<L> { visit(rt, manager, client) };
+    let come = |client: Client<L>| -> Session<L> {
+        if roll.call(rt) {
+            visit(rt, manager, client)
+        } else {
+            leave(client)
+        }
+    };
     let sessions = thread::map_vec(rt, clients, &come);
     closed.store(true, Ordering::SeqCst);
     sessions
@@ -78,14 +89,19 @@ fn report_of<L: Naming + Send + Sync, R: Threads + Wait + Clock + Sync>(
     let opened = Manager::<L, Open>::open(alloc, blank, input, Open, 7).ok();
     let (manager, sessions) = opened.context("the manager can't be opened")?;
     let clients = seated(alloc, sessions).context("the clients' scripts can't be read")?;
-    let closed = AtomicBool::new(false);
-    let (shared, mark) = (&manager, &closed);
+    let (closed, roll) = (AtomicBool::new(false), Roll::new(THREADS));
+    let (shared, mark, all) = (&manager, &closed, &roll);
     let (served, ()) = thread::join(
         rt,
-        || serve(rt, shared, clients, mark),
-        || pace(rt, shared, mark),
+        || serve(rt, shared, clients, all, mark),
+        || {
+            if all.call(rt) {
+                pace(rt, shared, mark);
+            }
+        },
     );
     let sessions = served?;
+    ensure!(!roll.has_failed(), "a thread can't be made");
     end_last_run(rt, shared);
     let (book, sessions) = manager
         .close(sessions)
