@@ -1,6 +1,6 @@
 //! Links the archive of the proved core: `libent_c.a` and the kit's `liblibc_c.a`, which stand in the folder that
-//! `ENTANGLE_ARCHIVE` names; else in `../archive`, where `tools/archive` leaves them. An archive of another version than
-//! this crate's is refused.
+//! `ENTANGLE_ARCHIVE` names; else in `../archive`, where `tools/archive` leaves them. An archive of another version
+//! than this crate's is refused.
 
 use std::path::{Path, PathBuf};
 use std::{env, fs, process};

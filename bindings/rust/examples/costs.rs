@@ -1,6 +1,6 @@
 //! What calls cost: the least time of several calls, over inputs of more and more pairs of friends; of a room's calls,
-//! over more and more people who wait for somebody who doesn't come; and of a manager's calls, over more and more scripts
-//! that wait.
+//! over more and more people who wait for somebody who doesn't come; and of a manager's calls, over more and more
+//! scripts that wait.
 //!
 //! ```sh
 //! cargo run --offline --release --example costs

@@ -6,8 +6,8 @@ use std::process::abort;
 use std::ptr::NonNull;
 use std::sync::atomic::{AtomicUsize, Ordering, fence};
 
-/// A thing with several owners, as an [`Arc`](std::sync::Arc) has it: it goes with the last of them. But an Arc ends the
-/// process where there is no memory for it, and this doesn't.
+/// A thing with several owners, as an [`Arc`](std::sync::Arc) has it: it goes with the last of them. But an Arc ends
+/// the process where there is no memory for it, and this doesn't.
 pub(crate) struct Counted<T> {
     at: NonNull<Kept<T>>,
 }

@@ -45,7 +45,8 @@ pub enum RoomError {
     NoSuchTable,
     /// The ticket is in a batch that isn't over, or a batch is on, since memory ran out. The next step goes on with it.
     Busy,
-    /// The tables have more than 65,536 rows together (E407). If an epoch can't end for it, to drain tables is the cure.
+    /// The tables have more than 65,536 rows together (E407). If an epoch can't end for it, to drain tables is the
+    /// cure.
     TooManyRows,
     /// The epoch, or the next group, has the greatest number that there is.
     NoNumber,

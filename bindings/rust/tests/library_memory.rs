@@ -1,5 +1,5 @@
-//! Where memory runs out in the library: each of its allocations for a call of a room fails in turn. The call says E900,
-//! a step goes on where it stopped, and who waits is told once. (`memory.rs` has the allocations of this crate.)
+//! Where memory runs out in the library: each of its allocations for a call of a room fails in turn. The call says
+//! E900, a step goes on where it stopped, and who waits is told once. (`memory.rs` has the allocations of this crate.)
 
 use entangle::{Ending, Group, Patience, Room, RoomError, RoomOptions, Row, Stepped, TableChange, Ticket, TicketState};
 use entangle::{Value, Verdict, Version};
@@ -134,9 +134,9 @@ fn calls_that_find_no_memory_change_nothing() {
     }
 }
 
-/// Makes steps of a room in which two friends wait and one who is lonely, of which one allocation fails. Whether one did,
-/// whether the step told it, and whether that was in the midst of a batch. It isn't told of what a run notes for the
-/// feed: without it one group tells all that the run committed.
+/// Makes steps of a room in which two friends wait and one who is lonely, of which one allocation fails. Whether one
+/// did, whether the step told it, and whether that was in the midst of a batch. It isn't told of what a run notes for
+/// the feed: without it one group tells all that the run committed.
 fn stepped(count: usize) -> (bool, bool, bool) {
     let room = Room::open(TABLES).expect("the tables are right");
     let friends = [("Ann", "Bob"), ("Bob", "Ann"), ("Eve", "Finn")];

@@ -1,5 +1,6 @@
 -- Acts behind acts.
-use Rattle.std.proofs.Common.{◌≡◌, ◌∙◌, ℕ, zero, suc, refl, sym, ap, subst, inl, inr, Some, Bool, true, false, cond, Option}
+use Rattle.std.proofs.Common.{◌≡◌, ◌∙◌, ℕ, zero, suc, refl, sym, ap, subst, inl, inr, Some, Bool, true, false, cond}
+use Rattle.std.proofs.Common.{Option}
 use Rattle.std.proofs.Common.{◌<◌, ◌++◌, ◌∷◌, [], List, length, nat_lt, arith, ⊎_elim}
 use Rattle.std.proofs.lemmas.Bool.Decides.{nat_tests}
 use Rattle.std.proofs.lemmas.Bool.{cases_Bool}
@@ -54,7 +55,8 @@ advances_nowhere a =
       tables = refl;
     }
 
-pub advances_on : (first between last : Admission) → Advances first between → Advances between last → Advances first last
+pub advances_on : (first between last : Admission) → Advances first between → Advances between last
+    → Advances first last
 advances_on first between last one two =
     record {
       leads = leads_on first between last one.leads two.leads;

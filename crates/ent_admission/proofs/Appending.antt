@@ -6,7 +6,8 @@ use Rattle.ent_feed.specs.declared.group.Group.{Group}
 use Rattle.ent_feed.proofs.Numbers.{numbered_joined}
 use Rattle.ent_admission.specs.Admission.{Admission}
 use Rattle.ent_admission.specs.Groups.{Appends}
-use Rattle.ent_admission.specs.Moves.{Chain, Chooses, Enters, Goes, Moves, Runs, Settles, Tells, TellsCommits, TellsEndings}
+use Rattle.ent_admission.specs.Moves.{Chain, Chooses, Enters, Goes, Moves, Runs, Settles, Tells, TellsCommits}
+use Rattle.ent_admission.specs.Moves.{TellsEndings}
 use Rattle.ent_admission.specs.Moves.{endings_group}
 
 pub appends_nowhere : (feed : Feed) → Appends feed feed

@@ -1,5 +1,6 @@
 -- What an admission keeps through each kind of call.
-use Rattle.std.proofs.Common.{◌≡◌, ◌∙◌, ◌<◌, ◌≤◌, ◌+◌, ◌++◌, ◌∷◌, [], append-nil, ℕ, suc, Bool, true, false, cond, List, Option, Some, None, length}
+use Rattle.std.proofs.Common.{◌≡◌, ◌∙◌, ◌<◌, ◌≤◌, ◌+◌, ◌++◌, ◌∷◌, [], append-nil, ℕ, suc, Bool, true, false, cond, List}
+use Rattle.std.proofs.Common.{Option, Some, None, length}
 use Rattle.std.proofs.Common.{refl, sym, ap, subst, arith, IsSome, Ok, nat_lt, ⊎_elim, if◌then◌else◌}
 use Rattle.std.proofs.lemmas.Bool.{cases_Bool}
 use Rattle.std.proofs.lemmas.Grind.{common_steps}
@@ -19,14 +20,16 @@ use Rattle.ent_tree.specs.declared.declaration.Opening.{Opening}
 use Rattle.ent_tree.specs.declared.script.Script.{Script}
 use Rattle.ent_epoch.specs.Epoch.{AddsOne, Epoch, Takes, for_one_run}
 use Rattle.ent_waiting.specs.Waiter.{back_in, is_idle, is_over, newcomer, with_batch}
-use Rattle.ent_waiting.specs.WaitingList.{StandsAt, UpdatesAt, WaitingList, back_or_gone, changed, is_stationed, moved, moved_with, waiter_of, waits_idle}
+use Rattle.ent_waiting.specs.WaitingList.{StandsAt, UpdatesAt, WaitingList, back_or_gone, changed, is_stationed, moved}
+use Rattle.ent_waiting.specs.WaitingList.{moved_with, waiter_of, waits_idle}
 use Rattle.ent_waiting.specs.declared.queues.Rank.{Rank}
 use Rattle.ent_waiting.specs.declared.waiter.Patience.{Patience}
 use Rattle.ent_waiting.specs.declared.waiter.WaitingPlace.{WaitingPlace}
 use Rattle.ent_waiting.specs.declared.waiter.WaitingPlace.TheVariants.{Chosen, Queued, Resting, Submitted}
 use Rattle.ent_waiting.specs.declared.waiter.Submission.{Submission}
 use Rattle.ent_waiting.specs.declared.waiter.Waiter.{Waiter}
-use Rattle.ent_admission.specs.Admission.{Admission, HasRoomFor, IsFormed, IsIndexed, IsKept, fresh, is_before, parties_of, party_of_ticket}
+use Rattle.ent_admission.specs.Admission.{Admission, HasRoomFor, IsFormed, IsIndexed, IsKept, fresh, is_before}
+use Rattle.ent_admission.specs.Admission.{parties_of, party_of_ticket}
 use Rattle.ent_admission.specs.Admission.{is_chosen, waits_before}
 use Rattle.ent_admission.proofs.Keeping.{Changed, indexed_at, indexed_same, kept_changed, party_in}
 use Rattle.ent_admission.specs.Admission.{IsAtRest, IsBatch, waits_chosen}
@@ -335,7 +338,8 @@ module _ (a : Admission) (index : Waiting) (kept : IsKept a index) (list : Waiti
       (λ yes. record {
         waiter = record waiter { place = Chosen };
         waits = updates waiter waits yes ticket
-            ∙ ap (λ (b : Bool). cond b (Some (record waiter { place = Chosen })) (waiter_of a.list ticket)) (here ticket);
+            ∙ ap (λ (b : Bool). cond b (Some (record waiter { place = Chosen })) (waiter_of a.list ticket))
+            (here ticket);
         place_is = refl;
       })
       (λ no. let same : list ≡ a.list =
@@ -354,7 +358,8 @@ module _ (a : Admission) (index : Waiting) (kept : IsKept a index) (list : Waiti
 
 -- ---- who comes, and goes again
 
-none_left : (b : Bool) (found known : Option Party) (value : Option Party) → cond b None (cond b value known) ≡ cond b None known
+none_left : (b : Bool) (found known : Option Party) (value : Option Party) → cond b None (cond b value known)
+    ≡ cond b None known
 none_left true found known value = refl
 none_left false found known value = refl
 
@@ -400,7 +405,8 @@ by_found a index kept none ticket None is batch = absurd cc
 by_found a index kept none ticket (Some waiter) is batch =
     chosen_or a index kept none ticket waiter waiter.place is refl batch
 
-pub batch_submitted : (a : Admission) (index : Waiting) → IsKept a index → ((t : ℕ) → contains nat_cmp a.coming t ≡ false)
+pub batch_submitted : (a : Admission) (index : Waiting) → IsKept a index
+    → ((t : ℕ) → contains nat_cmp a.coming t ≡ false)
     → (ticket : ℕ) → is_stationed Batch (waiter_of a.list ticket) ≡ true
     → (submission : Submission) × StandsAt a.list ticket (Submitted submission)
 batch_submitted a index kept none ticket batch = by_found a index kept none ticket (waiter_of a.list ticket) refl batch
@@ -420,8 +426,10 @@ pub back_settled : (again : Again) (old new : WaitingList) (ticket : ℕ) (waite
 back_settled again old new ticket waiter waits =
     ap (is_stationed Batch)
     (waits.updates ticket
-    ∙ ap (λ (b : Bool). cond b (back_or_gone again.rank again.counts again.alone waiter) (waiter_of old ticket)) (here ticket))
-    ∙ back_by (is_over waiter.patience (with_batch again.counts waiter.batches)) again.rank again.counts again.alone waiter
+    ∙ ap (λ (b : Bool). cond b (back_or_gone again.rank again.counts again.alone waiter) (waiter_of old ticket))
+    (here ticket))
+    ∙ back_by (is_over waiter.patience (with_batch again.counts waiter.batches)) again.rank again.counts
+    again.alone waiter
 
 pub back_others : (again : Again) (old new : WaitingList) (ticket : ℕ) (waiter : Waiter)
     → WaitsAgain again ticket waiter old new → (other : ℕ) → is_at (nat_cmp ticket) other ≡ false
@@ -447,7 +455,8 @@ pub news_again : (old new : WaitingList) (ticket : ℕ) (again : Again) (waiter 
     → newer ≡ older ++ news_of ticket (ended_with None again waiter)
 news_again old new ticket again waiter older newer updates gone stays =
     let value = back_or_gone again.rank again.counts again.alone waiter in
-    news_by (is_over waiter.patience (with_batch again.counts waiter.batches)) ticket again waiter (waiter_of new ticket)
+    news_by (is_over waiter.patience (with_batch again.counts waiter.batches)) ticket again waiter
+    (waiter_of new ticket)
     older newer (updates ticket ∙ ap (λ (b : Bool). cond b value (waiter_of old ticket)) (here ticket)) gone stays
 
 -- ---- a batch is made up
@@ -472,7 +481,8 @@ chosen_busy (Some waiter) e = by waiter.place e
     by (Queued rank) e = absurd cc
     by (Submitted s) e = absurd cc
 
-pub kept_planned : (a : Admission) (index : Waiting) (set : BTreeSet ℕ) → IsKept a index → IsAtRest a → IsBatch a set.keys
+pub kept_planned : (a : Admission) (index : Waiting) (set : BTreeSet ℕ) → IsKept a index → IsAtRest a
+    → IsBatch a set.keys
     → length a.epoch.core.submitted + length set.keys ≤ MOST_SCRIPTS → (again : Again)
     → IsKept (record a { coming = set; again = again }) index
 kept_planned a index set kept rest batch room again =
@@ -481,7 +491,8 @@ kept_planned a index set kept rest batch room again =
       indexed = kept.indexed;
       linked = kept.linked;
       before = λ t h.
-          idle_before (waiter_of a.list t) (all_keys (λ (k : ℕ). waits_idle (waiter_of a.list k) ≡ true) set t batch.waits h);
+          idle_before (waiter_of a.list t) (all_keys (λ (k : ℕ). waits_idle (waiter_of a.list k) ≡ true) set t
+          batch.waits h);
       chosen = λ t h.
           absurd (let e = sym (rest.over.idle t) ∙ chosen_busy (waiter_of a.list t) h in cc);
       room = λ t h.
@@ -497,7 +508,8 @@ pub kept_turned : (a : Admission) (index : Waiting) (epoch : Epoch) → IsKept a
 kept_turned a index epoch kept rest same =
     record {
       formed = λ t waiter h.
-          subst (λ (ts : List Create). (plain : Plain) × (script_in (schemas_of ts) (for_one_run waiter.script) ≡ Ok plain))
+          subst (λ (ts : List Create). (plain : Plain) × (script_in (schemas_of ts) (for_one_run waiter.script)
+          ≡ Ok plain))
           (sym same) (kept.formed t waiter h);
       indexed = kept.indexed;
       linked = λ t waiter submission h place.

@@ -5,7 +5,11 @@ use Rattle.ent_waiting.specs.WaitingList.{Onward, WaitingList}
 
 pub onward_nowhere : (list : WaitingList) → Onward list list
 onward_nowhere list =
-    record { used = λ t used. used; gone = λ t used gone. gone; told = λ t used gone. inl (let e : ended_of t list.ended ≡ ended_of t list.ended = cc in e) }
+    record {
+      used = λ t used. used;
+      gone = λ t used gone. gone;
+      told = λ t used gone. inl (let e : ended_of t list.ended ≡ ended_of t list.ended = cc in e);
+    }
 
 pub onward_on : (first between last : WaitingList) → Onward first between → Onward between last → Onward first last
 onward_on first between last one two =

@@ -11,16 +11,19 @@ use Rattle.ent_lists.proofs.Lists.{got_last}
 use Rattle.ent_semantics.specs.Serial.{numbered}
 use Rattle.ent_waiting.proofs.Keeping.{at}
 
-get_kept : {X : Type 0} (xs : List X) (x : X) (i : ℕ) (y : X) → slice_get xs i ≡ Some y → slice_get (xs ++ x ∷ []) i ≡ Some y
+get_kept : {X : Type 0} (xs : List X) (x : X) (i : ℕ) (y : X) → slice_get xs i ≡ Some y
+    → slice_get (xs ++ x ∷ []) i ≡ Some y
 get_kept [] x i y e = absurd cc
 get_kept (z ∷ zs) x zero y e = e
 get_kept (z ∷ zs) x (suc i) y e = get_kept zs x i y e
 
-pub numbered_kept : {X : Type 0} (xs : List X) (x : X) (n : ℕ) (y : X) → numbered xs n ≡ Some y → numbered (xs ++ x ∷ []) n ≡ Some y
+pub numbered_kept : {X : Type 0} (xs : List X) (x : X) (n : ℕ) (y : X) → numbered xs n ≡ Some y
+    → numbered (xs ++ x ∷ []) n ≡ Some y
 numbered_kept xs x zero y e = absurd cc
 numbered_kept xs x (suc n) y e = get_kept xs x n y e
 
-pub numbered_last : {X : Type 0} (xs : List X) (x : X) (n : ℕ) → n ≡ suc (length xs) → numbered (xs ++ x ∷ []) n ≡ Some x
+pub numbered_last : {X : Type 0} (xs : List X) (x : X) (n : ℕ) → n ≡ suc (length xs)
+    → numbered (xs ++ x ∷ []) n ≡ Some x
 numbered_last xs x n e = ap (numbered (xs ++ x ∷ [])) e ∙ got_last xs x
 
 pub all_keys : (P : ℕ → Type 0) (set : BTreeSet ℕ) (t : ℕ) → All P set.keys → contains nat_cmp set t ≡ true → P t

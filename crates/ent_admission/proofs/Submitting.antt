@@ -51,7 +51,9 @@ module _ (s : State) (script : Script) where
 pub never : (s : State) (script : Script) → length s.submitted + 1 ≤ MOST_SCRIPTS → (plain : Plain)
     → script_in (schemas_of s.opening.tables) script ≡ Ok plain → (refused : NotSubmitted)
     → (refused ≡ refusals.Full → Step resolved_forms s (Submit script) (Full script) s)
-    → ((fault : FormFault) → refused ≡ refusals.Faulty fault → Step resolved_forms s (Submit script) (Faulty script fault) s)
+    → ((fault : FormFault) → refused ≡ refusals.Faulty fault → Step resolved_forms s (Submit script)
+    (Faulty script fault) s)
     → ⊥
 never s script room plain is refusals.Full full faulty = full_never s script room (full refl)
-never s script room plain is (refusals.Faulty fault) full faulty = faulty_never s script fault plain is (faulty fault refl)
+never s script room plain is (refusals.Faulty fault) full faulty = faulty_never s script fault plain is
+    (faulty fault refl)

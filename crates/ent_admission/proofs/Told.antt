@@ -161,7 +161,8 @@ module _ (laws : Laws) (start : Feed) where
       ((λ i. scripts_run opening.tables (sym none i) (opening_database opening))
       ∙ legal.runs.run)
 
-  at_first : (number : ℕ) (opening : Opening) → opening_fault opening ≡ None → TellsOf start (begun number opening) start
+  at_first : (number : ℕ) (opening : Opening) → opening_fault opening ≡ None
+      → TellsOf start (begun number opening) start
   at_first number opening formed =
       record {
         few = omega arith;
@@ -179,7 +180,8 @@ module _ (laws : Laws) (start : Feed) where
   still : (old new : Epoch) (before after : Feed) → new ≡ old → after ≡ before → TellsOf start old before
       → TellsOf start new after
   still old new before after same feed told =
-      subst (λ (e : Epoch). TellsOf start e after) (sym same) (subst (λ (f : Feed). TellsOf start old f) (sym feed) told)
+      subst (λ (e : Epoch). TellsOf start e after) (sym same)
+      (subst (λ (f : Feed). TellsOf start old f) (sym feed) told)
 
   asked : (old new : Admission) → Asks old new → TellsOf start old.epoch old.feed → TellsOf start new.epoch new.feed
   asked old new asks told =
@@ -246,7 +248,8 @@ module _ (laws : Laws) (start : Feed) where
       let grown = length-append core.journal on.added in
       let before = told.few in
       let same : told_journal new.epoch ≡ told_journal old.epoch =
-      (λ i. take (entries i) (on.journal i)) ∙ take-append-le old.epoch.telling.entries core.journal on.added told.few in
+      (λ i. take (entries i) (on.journal i)) ∙ take-append-le old.epoch.telling.entries core.journal on.added
+      told.few in
       subst (λ (f : Feed). TellsOf start new.epoch f) (sym runs.feed)
       (record {
         few = subst (λ (n : ℕ). n ≤ length after.journal) (sym entries) (omega (arith, longer, grown, before));
@@ -291,7 +294,8 @@ module _ (laws : Laws) (start : Feed) where
     abbrev present : Epoch
     present = record old { telling = telling_at old.core }
 
-    tables_on : after_groups (told.groups ++ published.groups) (opening_database old.core.opening) ≡ told_database present
+    tables_on : after_groups (told.groups ++ published.groups) (opening_database old.core.opening)
+        ≡ told_database present
     tables_on =
         groups_both told.groups published.groups (opening_database old.core.opening)
         ∙ ap (after_groups published.groups) (told.tables

@@ -16,7 +16,8 @@ use Rattle.ent_feed.specs.declared.group.Group.{Group}
 use Rattle.ent_feed.specs.declared.group.OtherEnding.{OtherEnding}
 use Rattle.ent_feed.specs.declared.group.OtherEnding.TheVariants as others
 use Rattle.ent_waiting.specs.Waiter.{is_over, with_batch}
-use Rattle.ent_waiting.specs.WaitingList.{WaitingList, StandsAt, UpdatesAt, back, back_or_gone, changed, ending_as, moved}
+use Rattle.ent_waiting.specs.WaitingList.{WaitingList, StandsAt, UpdatesAt, back, back_or_gone, changed, ending_as}
+use Rattle.ent_waiting.specs.WaitingList.{moved}
 use Rattle.ent_waiting.specs.declared.ended.Ending.{Ending}
 use Rattle.ent_waiting.specs.declared.ended.Ending.TheVariants.{Committed, Failed, GaveUp, RolledBack, Withdrawn}
 use Rattle.ent_waiting.specs.declared.waiter.WaitingPlace.{WaitingPlace}
@@ -57,7 +58,8 @@ pub record Enters (old new : Admission) : Type 0 where
 -- once all of the batch are submitted their run is made, or as much of it as there was memory for
 pub record Runs (old new : Admission) : Type 0 where
   pub all_in : (ticket : ℕ) → contains nat_cmp old.coming ticket ≡ false
-  pub made : MakesRun old.epoch.core new.epoch.core ⊎ ((count : ℕ) × LeadsOn resolved_forms count old.epoch.core new.epoch.core)
+  pub made : MakesRun old.epoch.core new.epoch.core ⊎ ((count : ℕ)
+      × LeadsOn resolved_forms count old.epoch.core new.epoch.core)
   pub epoch : new.epoch ≡ record old.epoch { core = new.epoch.core; telling = new.epoch.telling }
   pub telling : new.epoch.telling ≡ record old.epoch.telling { notes = new.epoch.telling.notes }
   pub list : new.list ≡ old.list

@@ -16,9 +16,9 @@ use std::alloc::Global;
 use std::collections::BTreeSet;
 use std::marker::Model;
 
-/// Who waits, the present epoch, the batch that is on, and the groups that tell what came of those before. Contracts see
-/// the list, the epoch, who of the batch wasn't submitted yet, how those of it wait again who have no fate, the feed, and
-/// who ended otherwise than by a commit and isn't told yet.
+/// Who waits, the present epoch, the batch that is on, and the groups that tell what came of those before. Contracts
+/// see the list, the epoch, who of the batch wasn't submitted yet, how those of it wait again who have no fate, the
+/// feed, and who ended otherwise than by a commit and isn't told yet.
 #[derive(Drop)]
 pub struct Admission {
     pub(crate) alloc: Global,

@@ -29,9 +29,9 @@ pub fn acts_go_on()
     ensures shifting { (old new : Admission) → OnlyShifts old new → Advances old new }
 {}
 
-/// Whatever happens within an epoch, by acts and by clients' calls, the groups that came to the feed since it began tell
-/// its journal and its settled tables, as far as they are told: their changes take the opening's tables to these, one
-/// group after the other, and their commits are the journal's entries in order, each exactly once.
+/// Whatever happens within an epoch, by acts and by clients' calls, the groups that came to the feed since it began
+/// tell its journal and its settled tables, as far as they are told: their changes take the opening's tables to these,
+/// one group after the other, and their commits are the journal's entries in order, each exactly once.
 pub fn feeds_tell_what_committed()
     ensures { (count : ℕ) (first last : Admission)
         → opening_fault first.epoch.core.opening ≡ None

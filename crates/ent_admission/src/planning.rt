@@ -92,8 +92,8 @@ impl Admission {
         Ok(None)
     }
 
-    /// Makes these the next batch. Those of them who have no fate of their own after it wait again as `again` says. At a
-    /// refusal nothing changes.
+    /// Makes these the next batch. Those of them who have no fate of their own after it wait again as `again` says. At
+    /// a refusal nothing changes.
     pub fn plan(&mut self, tickets: BTreeSet<u64>, again: Again) -> Result<(), Refusal<NotPlanned>>
         ensures batch { OnOk result (IsBatch self.old tickets.keys) }
         ensures at_rest { OnOk result (IsAtRest self.old) }

@@ -126,8 +126,8 @@ impl Admission {
         Ok(())
     }
 
-    /// One of a batch that is over waits again, or gives up where its patience is used up. Where memory runs out nothing
-    /// changes.
+    /// One of a batch that is over waits again, or gives up where its patience is used up. Where memory runs out
+    /// nothing changes.
     fn wait_again(&mut self, ticket: u64) -> Result<(), AllocError>
         requires all_in { (other : ℕ) → contains nat_cmp self.old.coming other ≡ false }
         requires submitted { IsSubmitted self.old.list ticket }
@@ -202,8 +202,8 @@ impl Admission {
         Ok(())
     }
 
-    /// Goes on with the batch to its end, up to what is told of it: all of it are submitted, their run is made, and each
-    /// of them ends or waits again. Where memory runs out, what was done stands.
+    /// Goes on with the batch to its end, up to what is told of it: all of it are submitted, their run is made, and
+    /// each of them ends or waits again. Where memory runs out, what was done stands.
     fn finish(&mut self) -> Result<(), AllocError>
         ensures goes { Goes self.old self.new }
         ensures over { OnOk result (IsOver self.new) }
@@ -218,8 +218,8 @@ impl Admission {
 
     /// Goes on with the batch to its end: all of it are submitted, their run is made, and each of them ends or waits
     /// again. The feed then tells it: each group that committed, and behind them, in one group, who ended otherwise.
-    /// Where no batch is on and all is told nothing happens. Where memory runs out, or the feed has no number left, what
-    /// was done stands, and the next call goes on there.
+    /// Where no batch is on and all is told nothing happens. Where memory runs out, or the feed has no number left,
+    /// what was done stands, and the next call goes on there.
     pub fn go_on(&mut self) -> Result<(), Refusal<NoNumber>>
         ensures goes { Goes self.old self.new }
         ensures ok { OnOk result (IsAtRest self.new) }

@@ -16,8 +16,8 @@ use ent_epoch::{FinishedBook, NotTurned};
 use ent_value::{Name, Refusal};
 
 impl Admission {
-    /// Ends the epoch, whose book it gives, and begins the next one over its tables, of which the drained ones are empty.
-    /// Who waits goes on waiting. At a refusal, and where memory runs out, nothing changes.
+    /// Ends the epoch, whose book it gives, and begins the next one over its tables, of which the drained ones are
+    /// empty. Who waits goes on waiting. At a refusal, and where memory runs out, nothing changes.
     pub fn turn(&mut self, drained: &[Name]) -> Result<FinishedBook, Refusal<NotTurned>>
         ensures book { IfOk result (λ book. book_seen book ≡ book_of self.old.epoch.core) }
         ensures legal { IfOk result (λ book. IsLegal (book_seen book)) }

@@ -33,7 +33,8 @@ use Rattle.ent_answer_laws.proofs.Entangling.{carry_entangled_behind, carry_enta
 use Rattle.ent_answer_laws.proofs.Lexed.{tokens_within}
 use Rattle.ent_answer_laws.proofs.Literals.{AreWhole, IsWhole, both_whole, carry_literal, carry_operand}
 use Rattle.ent_answer_laws.proofs.Literals.{commas_whole}
-use Rattle.ent_answer_laws.proofs.CharacterSelects.{carry_delete, carry_insert, carry_select_behind, carry_set, carry_update}
+use Rattle.ent_answer_laws.proofs.CharacterSelects.{carry_delete, carry_insert, carry_select_behind, carry_set}
+use Rattle.ent_answer_laws.proofs.CharacterSelects.{carry_update}
 
 -- ---- statements
 

@@ -65,7 +65,8 @@ module _ (law : Rereads) where
       texts : IsPermutation (map script_text input.scripts) (map script_text again.scripts)
       texts =
           picked_permutes [] (map script_text input.scripts) order (map script_text again.scripts)
-          (subst (λ (n : ℕ). IsPermutation (range_with_len 0 n) order) (sym (length-map input.scripts script_text)) once)
+          (subst (λ (n : ℕ). IsPermutation (range_with_len 0 n) order)
+          (sym (length-map input.scripts script_text)) once)
           picked
 
       moved : IsPermutation (map unplaced_script input.scripts) (map unplaced_script again.scripts)

@@ -18,8 +18,8 @@ const MOST_LOOKS: usize = 256;
 /// left out, and isn't come across again.
 const WEIGHT_OF_A_STOP: usize = 16;
 
-/// Once searches in vain weigh so much, as many are looked at for one script as a meeting has members: enough where each
-/// demand is met by the first who may.
+/// Once searches in vain weigh so much, as many are looked at for one script as a meeting has members: enough where
+/// each demand is met by the first who may.
 const MANY_IN_VAIN: usize = 16 * WEIGHT_OF_A_STOP;
 
 /// Once they weigh so much, [`FEWEST_LOOKS`] are.
@@ -128,8 +128,8 @@ impl Waiting {
         }
     }
 
-    /// Those who are in no meeting: the lonely ones, and the others, each in order. Whoever stands in no set of these in
-    /// which each demand may be met is lonely, as far as that was looked at.
+    /// Those who are in no meeting: the lonely ones, and the others, each in order. Whoever stands in no set of these
+    /// in which each demand may be met is lonely, as far as that was looked at.
     pub(crate) fn left(
         self,
         alloc: Global,

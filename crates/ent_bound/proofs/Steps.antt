@@ -1,5 +1,6 @@
 -- One part more, and one variable more.
-use Rattle.std.proofs.Common.{◌≡◌, ℕ, ◌+◌, ◌<◌, List, [], ◌∷◌, ◌++◌, map, take, drop, get_or, length, Option, sym, ap, ◌∙◌}
+use Rattle.std.proofs.Common.{◌≡◌, ℕ, ◌+◌, ◌<◌, List, [], ◌∷◌, ◌++◌, map, take, drop, get_or, length, Option, sym, ap}
+use Rattle.std.proofs.Common.{◌∙◌}
 use Rattle.std.proofs.Common.{Some, None, add-one, drop-cons}
 use Rattle.std.proofs.lemmas.List.{map_more, take_more}
 use Rattle.ent_tree.specs.declared.script.Script.{Script}

@@ -9,7 +9,8 @@ use Rattle.ent_semantics.specs.Book.{all_members}
 use Rattle.ent_semantics.specs.Serial.{is_entangled}
 use Rattle.ent_semantics.specs.declared.book.JointAnswer.{JointAnswer}
 use Rattle.ent_semantics.specs.declared.book.Member.{Member}
-use Rattle.ent_history.specs.Account.{Account, commit_count, commit_number, committed_as, has_committed, in_commit_order}
+use Rattle.ent_history.specs.Account.{Account, commit_count, commit_number, committed_as, has_committed}
+use Rattle.ent_history.specs.Account.{in_commit_order}
 use Rattle.ent_history.specs.Account.{is_number, numbers_from}
 use Rattle.ent_history.specs.Joint.{all_stand, left_out, left_out_findings, members_findings, stands_among}
 use Rattle.ent_history.specs.Placed.{Placed, member_at, placed, stands_at}

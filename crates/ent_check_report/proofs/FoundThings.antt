@@ -60,7 +60,8 @@ at_element count all front more x index is here =
     ((here ∙ sym (length-map front count)) i))
     ∙ at_middle (map count front) (map count more) (count x)
 
-length_behind : {X : Type 0} (front more : List X) (x : X) → length (front ++ x ∷ more) ≡ suc (length front + length more)
+length_behind : {X : Type 0} (front more : List X) (x : X) → length (front ++ x ∷ more)
+    ≡ suc (length front + length more)
 length_behind [] more x = omega arith
 length_behind (y ∷ front) more x = omega (arith, length_behind front more x)
 

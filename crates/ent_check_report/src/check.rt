@@ -85,9 +85,9 @@ fn judge(alloc: Global, text: &[u8]) -> Result<Verdict, AllocError>
     }
 }
 
-/// Judges a report in memory, of [`MOST_REPORT_BYTES`] at most: [`Verdict::Yes`] exactly where its text tells of a legal
-/// book, else the first rule that it breaks and the line of the text at which the thing stands that breaks it. It reads
-/// no stream, so no fault of one is answered.
+/// Judges a report in memory, of [`MOST_REPORT_BYTES`] at most: [`Verdict::Yes`] exactly where its text tells of a
+/// legal book, else the first rule that it breaks and the line of the text at which the thing stands that breaks it. It
+/// reads no stream, so no fault of one is answered.
 pub fn check_text(alloc: Global, text: &[u8]) -> Result<Verdict, CheckFault>
     ensures verdict { IfOk result (λ verdict. IsVerdict text.now verdict) }
     ensures limit { OnOk result (length text.now ≤ MOST_REPORT_BYTES) }

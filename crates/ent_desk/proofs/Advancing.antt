@@ -186,7 +186,8 @@ module _ (count : ℕ) (old new : State) (reply : Reply FormFault) where
   ends_told told false on step is = clash false on refl
   ends_told told true on (inl h) is =
       let both : Some told ≡ Some advances.Moved = is ∙ ap (λ (r : Reply FormFault). advance_in r) h.1 in cc
-  ends_told told true on (inr h) is = absurd (not_none told (sym (is ∙ ap (λ (r : Reply FormFault). advance_in r) h.2.0)))
+  ends_told told true on (inr h) is = absurd (not_none told (sym
+      (is ∙ ap (λ (r : Reply FormFault). advance_in r) h.2.0)))
 
   pub ended : (told : Told) → Some told ≡ advance_in reply → old.running ≡ true → Ends old reply new
       → EndsRun (desk count old) told (desk count new)

@@ -53,7 +53,8 @@ filter_short : {X : Type 0} (p : X → Bool) (xs : List X) → length (filter p 
 filter_short p [] = omega arith
 filter_short p (x ∷ xs) = by (p x) (filter_short p xs)
   where
-    by : (b : Bool) → length (filter p xs) ≤ length xs → length (cond b (x ∷ filter p xs) (filter p xs)) ≤ suc (length xs)
+    by : (b : Bool) → length (filter p xs) ≤ length xs → length (cond b (x ∷ filter p xs) (filter p xs)) ≤ suc
+        (length xs)
     by true low = omega (arith, low)
     by false low = omega (arith, low)
 
@@ -63,7 +64,8 @@ drop_front (x ∷ xs) ys = drop_front xs ys
 
 -- no two entries are of one transaction
 apart_drafted : (drafts : List ReceiptDraft) (entries : List Entry) → Pairs (Apart entry_tx) entries
-    → ((entry : Entry) → In entry entries → draft_among drafts entry.tx ≡ Some (draft_of entry)) → AreDrafted drafts entries
+    → ((entry : Entry) → In entry entries → draft_among drafts entry.tx ≡ Some (draft_of entry))
+    → AreDrafted drafts entries
 apart_drafted drafts [] apart there = tt
 apart_drafted drafts (entry ∷ more) apart there = (
   there entry (inl refl),
@@ -133,7 +135,8 @@ module _ (s : State) (tx : ℕ) (stand : StandByNumber s) (member : Member)
         elim (in_either s.prepared (member ∷ []) other r.0) [
           | inl a ↦ in_first s.prepared s.active other a
           | inr b ↦ elim b [
-            | inl same ↦ in_second s.prepared s.active other (subst (λ (m : Member). In m s.active) (sym same) in_active)
+            | inl same ↦ in_second s.prepared s.active other (subst (λ (m : Member). In m s.active) (sym same)
+                in_active)
             | inr bad ↦ absurd bad
           ]
         ],
@@ -383,7 +386,8 @@ none_of core next (_ ∷ _) h = absurd h
 pub none_received : (old new : State) (before after : List Receipt) → new ≡ old → Receives old new before after
     → after ≡ before
 none_received old new before after same h =
-    let none : h.entries ≡ [] = nil_behind old.journal h.entries (sym (ap (λ (s : State). s.journal) same) ∙ h.journal) in
+    let none : h.entries ≡ [] = nil_behind old.journal h.entries
+    (sym (ap (λ (s : State). s.journal) same) ∙ h.journal) in
     let r = h.received in
     let empty : r.got ≡ [] =
     none_of new (suc (length old.journal)) r.got

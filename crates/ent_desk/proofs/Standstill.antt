@@ -10,7 +10,8 @@ use Rattle.ent_coordination.specs.Component.{IsComponent}
 use Rattle.ent_coordination.specs.Pool.{IsSafe}
 use Rattle.ent_lists.specs.Elements.{In, clash, contains_in, in_second, neither, of_all}
 use Rattle.ent_lists.proofs.Lists.{all_behind}
-use Rattle.ent_protocol.specs.Begin.{Begins, BeginsCommit, BeginsEntangled, BeginsNext, BeginsOrdinary, Posts, pool_with}
+use Rattle.ent_protocol.specs.Begin.{Begins, BeginsCommit, BeginsEntangled, BeginsNext, BeginsOrdinary, Posts}
+use Rattle.ent_protocol.specs.Begin.{pool_with}
 use Rattle.ent_protocol.specs.Commit.{is_ready, preparing}
 use Rattle.ent_protocol.specs.Event.{Reason, Reply}
 use Rattle.ent_protocol.specs.Event as events

@@ -362,8 +362,8 @@ impl<L: Naming> Desk<L> {
         advance_told(&self.core, &mut self.known, reply)
     }
 
-    /// Takes the result of a job, which is found by its stamp where that is known. One that isn't outstanding is dropped.
-    /// Where memory runs out nothing changes, and the result comes back.
+    /// Takes the result of a job, which is found by its stamp where that is known. One that isn't outstanding is
+    /// dropped. Where memory runs out nothing changes, and the result comes back.
     pub fn hand_in(&mut self, done: StampedDone<L>) -> Result<(), AllocFailed<StampedDone<L>>>
         ensures ok { OnOk result (TakesIn self.old.core done self.new.core) }
         ensures events { LeadsOn self.old self.new }
@@ -376,8 +376,8 @@ impl<L: Naming> Desk<L> {
         }
     }
 
-    /// The index of the job of a result: by its stamp, where that is known; else by all that the jobs have, their tables
-    /// row by row. None where it isn't lent.
+    /// The index of the job of a result: by its stamp, where that is known; else by all that the jobs have, their
+    /// tables row by row. None where it isn't lent.
     fn index_of(&self, done: &StampedDone<L>) -> Option<usize>
         ensures some { IfSome result (λ index. slice_get self.now.core.lent index ≡ Some done.now.job) }
         ensures none { IsNone result → Contains self.now.core.lent done.now.job → ⊥ }

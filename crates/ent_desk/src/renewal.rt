@@ -75,9 +75,9 @@ fn refusal_of(refusal: Refusal<TooManyRows>) -> Refusal<RenewFault>
 
 impl<L: Naming> Desk<L> {
     /// Ends an epoch and begins the next one, where the desk could be closed: the book, as [`Desk::close`] gives it,
-    /// and a desk over the tables with which it ends. To that nothing is submitted, and the sessions are seated again: they
-    /// hold nothing, but the first one the new opening. Else, and where memory runs out, the desk comes back, and the
-    /// sessions are as they were.
+    /// and a desk over the tables with which it ends. To that nothing is submitted, and the sessions are seated again:
+    /// they hold nothing, but the first one the new opening. Else, and where memory runs out, the desk comes back, and
+    /// the sessions are as they were.
     pub fn renew(
         self,
         alloc: Global,

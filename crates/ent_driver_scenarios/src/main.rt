@@ -1,6 +1,6 @@
-//! Plays scenarios of a driver or of a room, which is a driver with a waiting room: an input, and lines of calls. Without
-//! a word it goes over the stored ones and stops at the first reply that differs; with the word `play` it reads one from
-//! standard input and writes the replies.
+//! Plays scenarios of a driver or of a room, which is a driver with a waiting room: an input, and lines of calls.
+//! Without a word it goes over the stored ones and stops at the first reply that differs; with the word `play` it reads
+//! one from standard input and writes the replies.
 #![tactic(auto)]
 
 mod call;

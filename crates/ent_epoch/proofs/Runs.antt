@@ -46,7 +46,11 @@ commits_there tickets front (entry ∷ added) rest journal is =
     subst (λ n. map (commit_at tickets journal) (numbered_from (suc n) added) ≡ commits_of tickets (suc n) added)
     longer (commits_there tickets (front ++ entry ∷ []) added rest journal next) in
     let first : ℕ → Option Entry → Commit =
-    λ number found. record { ticket = unwrap_or (numbered tickets entry.tx) 0; number = number; answers = entry_answers found } in
+    λ number found. record {
+      ticket = unwrap_or (numbered tickets entry.tx) 0;
+      number = number;
+      answers = entry_answers found;
+    } in
     λ i. first (suc (length front)) (here i) ∷ others i
 
 no_entries : (number : ℕ) (added : List Entry) → numbered_from number added ≡ [] → added ≡ []
@@ -163,7 +167,8 @@ module _ (forms : Forms FormFault) (tickets : List ℕ)
       → Step forms s event reply new → journal ≡ new.journal ++ rest → Behind new last journal notes
       → AreGroupsOf tickets mark.opening journal (settled mark) (noted_of reply (settled new) ++ notes) groups
       → Found mark last groups
-  behind_event mark s new last event (Committed entries) journal rest notes groups agrees faithful reached step is on of =
+  behind_event mark s new last event (Committed entries) journal rest notes groups agrees faithful reached step
+      is on of =
       behind_commit mark s new last event entries journal rest notes groups agrees step is on of
   behind_event mark s new last event other journal rest notes groups agrees faithful reached step is on of =
       on mark groups

@@ -208,7 +208,8 @@ module _
       ∙ ap (λ (commits : List Commit). commits ++ all_commits publishes.groups)
       (told.commits ∙ ap (λ (entries : List Entry). commits_of old.tickets 1 entries) told_then)
       ∙ ap (λ (commits : List Commit). commits_of old.tickets 1 first.journal ++ commits)
-      (since.2 ∙ ap (λ n. commits_of old.tickets n since.0) (let e : suc (length first.journal) ≡ 1 + length first.journal = omega arith in e))
+      (since.2 ∙ ap (λ n. commits_of old.tickets n since.0) (let e : suc (length first.journal)
+      ≡ 1 + length first.journal = omega arith in e))
       ∙ sym (commits-append old.tickets 1 first.journal since.0)
       ∙ ap (λ (entries : List Entry). commits_of old.tickets 1 entries) (sym grown ∙ sym (all_taken journal))
 

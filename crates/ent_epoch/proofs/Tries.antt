@@ -54,7 +54,8 @@ module _ (submitted : List Own) (once : AllByRecursion (λ (own : Own). own.scri
       omega (arith, none, rest, parts)
 
 -- only those who wait have a try left, one each; and the present run is one
-pub tries_counted : (s : State) → StayWithin s → AskForMost 1 s → tries_left s ≡ length s.dormant + present_run s.running
+pub tries_counted : (s : State) → StayWithin s → AskForMost 1 s → tries_left s
+    ≡ length s.dormant + present_run s.running
 tries_counted s within once =
     let waiting = one_each s.submitted once s.dormant within.dormant in
     let running = none_each s.submitted once (members s) within.members in
@@ -67,7 +68,8 @@ recalled_kept s new is kept =
     subst (λ (t : State). AreForOneRun t) (sym is)
     (let t : State = record s { lent = [] } in record { once = kept.once; fit = kept.fit; alone = kept.alone })
 
-starting_kept : (s : State) → s.running ≡ false → AreForOneRun s → AreForOneRun (starting s) × ((starting s).dormant ≡ [])
+starting_kept : (s : State) → s.running ≡ false → AreForOneRun s → AreForOneRun (starting s)
+    × ((starting s).dormant ≡ [])
 starting_kept s off kept =
     let none = drop_of_length-le s.dormant (kept.fit off) in
     (record { once = kept.once; fit = λ e. absurd cc; alone = λ e. none }, none)
@@ -116,7 +118,8 @@ module _ (s new : State) (none : s.dormant ≡ []) (submitted : new.submitted �
             nil_from_length new.dormant (omega (arith, one, none_counted, before, after, fewer, here));
       }
 
-  by_running : (running : Bool) → s.running ≡ running → new.running ≡ false → (¬ CanClose s → tries_left new < tries_left s)
+  by_running : (running : Bool) → s.running ≡ running → new.running ≡ false
+      → (¬ CanClose s → tries_left new < tries_left s)
       → (CanClose s → new ≡ s) → CanClose new
   by_running false off ended uses same = subst (λ (t : State). CanClose t) (sym (same (off, none))) (off, none)
   by_running true on ended uses same =

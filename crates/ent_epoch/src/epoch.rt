@@ -381,8 +381,8 @@ impl Epoch {
         }
     }
 
-    /// Ends the epoch, whose book it gives, and begins the next one. That has the next number and no ticket, and goes on
-    /// where the tables stand, but that the drained ones are empty. At a refusal, and where memory runs out, nothing
+    /// Ends the epoch, whose book it gives, and begins the next one. That has the next number and no ticket, and goes
+    /// on where the tables stand, but that the drained ones are empty. At a refusal, and where memory runs out, nothing
     /// changes.
     pub fn turn(
         &mut self,

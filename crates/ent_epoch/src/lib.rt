@@ -9,8 +9,8 @@
 //! An [`Epoch`] takes a batch of scripts, at most as many as a run has members, and makes one run of them, to its end.
 //! Then nobody waits in the core and no run is on. A caller may rely on it that an epoch submits nothing but what it is
 //! given, for one run each, that its book is legal at all times, and that it can be closed after each batch. It
-//! publishes its commits: the groups that it puts into a feed tell each of them once. A turn ends it and begins the next
-//! one, which goes on where its tables stand.
+//! publishes its commits: the groups that it puts into a feed tell each of them once. A turn ends it and begins the
+//! next one, which goes on where its tables stand.
 #![tactic(auto)]
 
 mod epoch;

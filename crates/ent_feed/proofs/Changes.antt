@@ -8,7 +8,8 @@ use Rattle.ent_lists.specs.Sets as set
 use Rattle.ent_lists.specs.Laws.{contains-ascending, contains-from_list, contains-insert_all, contains-retain}
 use Rattle.ent_lists.specs.Laws.{contains-without_all, from_list-ascending, from_list-filter, same_set}
 use Rattle.std.proofs.lemmas.Map.Views.{list_any-from_Contains, Contains-from_any}
-use Rattle.ent_lists.specs.Elements.{In, and_both, any_in, both_and, filter_empty, filter_same, of_filter, to_all, turned}
+use Rattle.ent_lists.specs.Elements.{In, and_both, any_in, both_and, filter_empty, filter_same, of_filter, to_all}
+use Rattle.ent_lists.specs.Elements.{turned}
 use Rattle.ent_value.specs.declared.value.Kind.{Kind}
 use Rattle.ent_value.specs.declared.value.Value.{Value}
 use Rattle.ent_value.specs.Value.{kinds_of, row_cmp}
@@ -20,7 +21,8 @@ use Rattle.ent_feed.specs.NetChange.{net_change, rows_without}
 use Rattle.ent_feed.specs.Walk.{rows_beside}
 
 -- what stands in one of two ascending lists alone is what stands in one of two sets alone
-pub beside_is_without : (rows others : RowSet) → rows_beside (set.ascending rows) (set.ascending others) ≡ rows_without rows others
+pub beside_is_without : (rows others : RowSet) → rows_beside (set.ascending rows) (set.ascending others)
+    ≡ rows_without rows others
 beside_is_without rows others =
     filter_same _ _ (set.ascending rows) (λ row at. ap not (sym (contains-ascending others row)))
 

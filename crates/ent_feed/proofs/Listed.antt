@@ -134,7 +134,8 @@ module _ {Z : Type 0} (creates : List Create) (before after : List (Arc Relation
       ++ changed_only (side_by_side (map (λ (create : Create). create.name.name) left) (rows_in (drop i before))
       (rows_in (drop i after)))) (sym (nothing_left creates i past))
       ∙ before_all
-      ∙ ap (λ (declared : List Create). changed_only (side_by_side (map (λ (create : Create). create.name.name) declared)
+      ∙ ap (λ (declared : List Create). changed_only (side_by_side
+      (map (λ (create : Create). create.name.name) declared)
       (rows_in before) (rows_in after))) same
       ∙ ap changed_only (side_is_between (table_names opening) (rows_in before) (rows_in after) distinct
       (length-map before (λ (table : Arc Relation Z). (arc_value table).rows) ∙ many

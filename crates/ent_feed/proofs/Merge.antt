@@ -59,19 +59,22 @@ absent row (first ∷ rows) below =
     ap (λ b. b || has rows row) (less_differs row first below.0) ∙ absent row rows below.1
 
 -- the first row of one list is below those of another, so it stands in the first list alone
-alone : (row : Row) (rows others : Rows) → IsBelow row others → rows_beside (row ∷ rows) others ≡ row ∷ rows_beside rows others
+alone : (row : Row) (rows others : Rows) → IsBelow row others → rows_beside (row ∷ rows) others
+    ≡ row ∷ rows_beside rows others
 alone row rows others below =
     ap (λ b. cond (not b) (row ∷ rows_beside rows others) (rows_beside rows others)) (absent row others below)
 
 -- and it takes nothing from the other list
-takes_nothing : (row : Row) (rows others : Rows) → IsBelow row others → rows_beside others (row ∷ rows) ≡ rows_beside others rows
+takes_nothing : (row : Row) (rows others : Rows) → IsBelow row others → rows_beside others (row ∷ rows)
+    ≡ rows_beside others rows
 takes_nothing row rows others below =
     filter_same (λ other. not (has (row ∷ rows) other)) (λ other. not (has rows other)) others
     (λ other at. ap (λ b. not (b || has rows other))
     (greater_differs row other (of_all (λ z. row_cmp row z ≡ Less) others other below at)))
 
 -- a row that stands first in both goes from both
-both : (row : Row) (rows others : Rows) → IsBelow row rows → rows_beside (row ∷ rows) (row ∷ others) ≡ rows_beside rows others
+both : (row : Row) (rows others : Rows) → IsBelow row rows → rows_beside (row ∷ rows) (row ∷ others)
+    ≡ rows_beside rows others
 both row rows others below =
     ap (λ b. cond (not (b || has others row)) (row ∷ rows_beside rows (row ∷ others)) (rows_beside rows (row ∷ others)))
     (rows_equal.refl row)
@@ -179,7 +182,8 @@ taken (Some row) old new is = ap (drop 1) (sym is)
 -- ---- the walk goes on
 
 module _ (noted other_noted olds news all other_all : Rows) (sorted : Ascends olds) (sorted_too : Ascends news)
-    (before : noted ++ rows_beside olds news ≡ all) (other_before : other_noted ++ rows_beside news olds ≡ other_all) where
+    (before : noted ++ rows_beside olds news ≡ all) (other_before : other_noted ++ rows_beside news olds
+    ≡ other_all) where
   pub goes_on_alone : (more ahead : Rows) → FirstAlone olds news → more ≡ noted ++ take 1 olds → ahead ≡ drop 1 olds
       → (more ++ rows_beside ahead news ≡ all) × (other_noted ++ rows_beside news ahead ≡ other_all) × Ascends ahead
   goes_on_alone more ahead first pushed passed = (

@@ -94,7 +94,8 @@ told_journal tickets first last (group ∷ more) told =
       tells.entries ++ rest.0,
       rest.1 ∙ ap (λ journal. journal ++ rest.0) tells.journal ∙ append_assoc first.journal tells.entries rest.0,
       (λ i. tells.commits i ++ rest.2 i)
-          ∙ ap (λ n. commits_of tickets (suc (length first.journal)) tells.entries ++ commits_of tickets n rest.0) longer
+          ∙ ap (λ n. commits_of tickets (suc (length first.journal)) tells.entries ++ commits_of tickets n
+          rest.0) longer
           ∙ sym (commits-append tickets (suc (length first.journal)) tells.entries rest.0),
     )
 

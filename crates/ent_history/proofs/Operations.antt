@@ -437,7 +437,8 @@ module _ (declared : List Create) (members : List Placed) where
       let meaning = statement_meaning declared x (told_valuation tx place x) d v in
       let more = told_operations members tx (suc place) sts in
       let on = goes_on meaning (run declared more) r runs in
-      let s = told_read_view tx (suc place) sts on.effect.database on.effect.environment on.rest on.rests k st at is in (
+      let s = told_read_view tx (suc place) sts on.effect.database on.effect.environment on.rest on.rests k st
+      at is in (
         s.0,
         in_second (seen tx place (record { statement = x; valuation = told_valuation tx place x }) d v)
             (seen_after meaning (read_views declared tx (suc place) more)) s.0

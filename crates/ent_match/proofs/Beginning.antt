@@ -1,5 +1,6 @@
 -- The places at which components begin.
-use Rattle.std.proofs.Common.{◌≡◌, ℕ, zero, suc, ◌+◌, ◌<◌, ◌≤◌, Bool, true, false, List, [], ◌∷◌, ◌++◌, length, map, get_or}
+use Rattle.std.proofs.Common.{◌≡◌, ℕ, zero, suc, ◌+◌, ◌<◌, ◌≤◌, Bool, true, false, List, [], ◌∷◌, ◌++◌, length, map}
+use Rattle.std.proofs.Common.{get_or}
 use Rattle.std.proofs.Common.{refl, sym, ◌∙◌, ap, subst, arith, inl, inr, true≢false, Option, Some, None}
 use Rattle.std.specs.Prelude.{Contains}
 use Rattle.std.proofs.lemmas.Bool.{cases_lt, cases_Bool, eq-eqb, eqb-true}
@@ -52,8 +53,11 @@ module _ (pool : List Posted) (joins : List Link) (removed : List Bool) (s : Are
       let room = are.room in
       let r = lowers.reached place (omega arith) in
       let below : r.first < length pool = (let w = r.within in omega arith) in
-      let first : label labels place ≡ r.first = r.label_is ∙ are.own r.first below in
-      (r.steps, subst (λ k. PathIn joins r.steps k place) (sym first) r.path, subst (λ k. k < length pool) (sym first) below)
+      let first : label labels place ≡ r.first = r.label_is ∙ are.own r.first below in (
+        r.steps,
+        subst (λ k. PathIn joins r.steps k place) (sym first) r.path,
+        subst (λ k. k < length pool) (sym first) below,
+      )
 
   no_greater : (place : ℕ) → place < length pool → label labels place ≤ place
   no_greater place within = let most = lowers.below place in let is = are.own place within in omega arith

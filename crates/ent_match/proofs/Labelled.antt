@@ -37,7 +37,8 @@ module _ (joins : List Link) (old cur : List ℕ) (join : Link) (inside : Contai
       record {
         room = length-set cur join.to (label cur join.from) ∙ lowers.room;
         below = λ place. elim (same_or_not join.to place) [
-          | inl same ↦ subst (λ k. label new k ≤ label old k) same (let most = lowers.below join.to in omega (arith, here))
+          | inl same ↦ subst (λ k. label new k ≤ label old k) same
+              (let most = lowers.below join.to in omega (arith, here))
           | inr other ↦ (let most = lowers.below place in omega (arith, elsewhere place other))
         ];
         reached = λ place within. elim (same_or_not join.to place) [

@@ -107,7 +107,8 @@ ends links n old cur all (same, closed) =
 
 -- ---- round after round
 
-pub path-append : (links : List Link) (n m : ℕ) (first mid last : ℕ) → PathIn links n first mid → PathIn links m mid last
+pub path-append : (links : List Link) (n m : ℕ) (first mid last : ℕ) → PathIn links n first mid
+    → PathIn links m mid last
     → (k : ℕ) × PathIn links k first last
 path-append links n zero first mid last front is = (n, subst (PathIn links n first) is front)
 path-append links n (suc m) first mid last front (link, inside, to, path) =

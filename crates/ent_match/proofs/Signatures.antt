@@ -69,7 +69,8 @@ signature_more atoms k old new atom within is step so_far =
 
 pub signature_all : (atoms : List (Atom Value)) (k row : ℕ) → length atoms ≤ k → IsSignature (take k atoms) row
     → IsSignature atoms row
-signature_all atoms k row past all = subst (λ (some : List (Atom Value)). IsSignature some row) (take_all k atoms past) all
+signature_all atoms k row past all = subst (λ (some : List (Atom Value)). IsSignature some row)
+    (take_all k atoms past) all
 
 -- ---- atoms that unify
 
@@ -94,7 +95,8 @@ share_left relation terms name (Known value ∷ others) none =
     let n = length (Known value ∷ others) in
     (mark_place name n value, mark_below name n value, inl none, inr refl)
 
-share : (relation : Name) (terms : List (Term Value)) (name : Name) (others : List (Term Value)) (values more : Valuation)
+share : (relation : Name) (terms : List (Term Value)) (name : Name) (others : List (Term Value))
+    (values more : Valuation)
     → relation ≡ name → map (worth values) terms ≡ map (worth more) others → Share relation terms name others
 share relation [] name others values more same equal = share_left relation [] name others refl
 share relation (Variable index ∷ terms) name others values more same equal =

@@ -66,7 +66,8 @@ module _ (book : Book Database) (legal : IsLegal book) where
       let place = placed.0 in
       let of_view = in_flat view_demands (view_at turn.script place) demand
       (contains_in (demands_at turn.script place) demand placed.1) in
-      let statement = asked (known_before turn.script place) (numbered turn.script.statements place) of_view.0 of_view.1 in
+      let statement = asked (known_before turn.script place) (numbered turn.script.statements place) of_view.0
+      of_view.1 in
       let seen = scripts_seen book.opening.tables legal.turns (opening_database book.opening)
       (record { database = book.database; answers = map (λ (entry : Entry). entry.answers) book.journal })
       turn place statement.0 legal.runs.run at statement.1 in

@@ -65,7 +65,8 @@ module _ {X : Type 0} (known : X → Option Value) (worth : X → Value) where
 
 -- ---- a statement
 
-module _ (view : TextView) (environment : Environment) (valuation : Valuation) (agrees : Agrees view.known environment) where
+module _ (view : TextView) (environment : Environment) (valuation : Valuation)
+    (agrees : Agrees view.known environment) where
   abbrev variables : Name → Value
   variables = variable_value (written_variables view.entangled) valuation
 
@@ -75,9 +76,11 @@ module _ (view : TextView) (environment : Environment) (valuation : Valuation) (
   relation_covered : (relation : Identifier) → Covers (offered_in view relation)
       (record { relation = relation.name; values = map worth (head_terms view.entangled) })
   relation_covered relation =
-      subst (λ (values : List Value). Covers (offered_in view relation) (record { relation = relation.name; values = values }))
+      subst (λ (values : List Value). Covers (offered_in view relation)
+      (record { relation = relation.name; values = values }))
       (sym (map-map worth (λ (item : EntangledItem). item.term) view.entangled.items))
-      (row_covered (λ (item : EntangledItem). known_term view.known item.term) (λ (item : EntangledItem). worth item.term)
+      (row_covered (λ (item : EntangledItem). known_term view.known item.term)
+      (λ (item : EntangledItem). worth item.term)
       relation.name (λ item value is. term_known view.known environment variables item.term value agrees is)
       view.entangled.items)
 
@@ -85,14 +88,20 @@ module _ (view : TextView) (environment : Environment) (valuation : Valuation) (
       → IsCovered (view_offers view) head
   head_covered head has =
       let names : List Name = map (λ (relation : Identifier). relation.name) view.entangled.relations in
-      let named = of_map (λ (relation : Name). record { relation = relation; values = map worth (head_terms view.entangled) })
+      let named = of_map (λ (relation : Name). record {
+        relation = relation;
+        values = map worth (head_terms view.entangled);
+      })
       names head (contains_in (heads environment view.entangled valuation) head has) in
       let written = of_map (λ (relation : Identifier). relation.name) view.entangled.relations named.0 named.1 in (
         offered_in view written.0,
         in_contains (view_offers view) (offered_in view written.0)
             (to_map (offered_in view) view.entangled.relations written.0 written.1),
         subst (Covers (offered_in view written.0))
-            (sym (named.2 ∙ ap (λ (relation : Name). record { relation = relation; values = map worth (head_terms view.entangled) }) written.2))
+            (sym (named.2 ∙ ap (λ (relation : Name). record {
+              relation = relation;
+              values = map worth (head_terms view.entangled);
+            }) written.2))
             (relation_covered written.0),
       )
 

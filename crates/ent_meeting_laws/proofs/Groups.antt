@@ -2,7 +2,8 @@
 use Rattle.std.proofs.Common.{◌≡◌, ◌⊎◌, ℕ, zero, suc, ◌==◌, ◌&&◌, true, List, [], ◌∷◌, ◌++◌, map, Option, Some}
 use Rattle.std.proofs.Common.{Bool, Contains, AllPairs, slice_get, refl, sym, ap, subst, ◌∙◌, inl, inr}
 use Rattle.std.specs.List.{AllByRecursion, filter, list_any}
-use Rattle.ent_lists.specs.Elements.{In, Pairs, and_both, any_in, any_some, contains_in, in_contains, in_either, in_flat}
+use Rattle.ent_lists.specs.Elements.{In, Pairs, and_both, any_in, any_some, contains_in, in_contains, in_either}
+use Rattle.ent_lists.specs.Elements.{in_flat}
 use Rattle.ent_lists.specs.Elements.{in_first, in_second, index_pairs, nth_in, number_itself, of_all, of_filter, of_map}
 use Rattle.ent_lists.specs.Elements.{same_number, to_filter, to_map}
 use Rattle.ent_lists.proofs.Lists.{of_filter_map, to_filter_map}
@@ -196,7 +197,8 @@ module _ (s : State) (good : AnswersAreGood s) (groups : HaveGroups s)
         let placed = of_place view_demands script demand demands in
         let of_view = in_flat view_demands (view_at script placed.0) demand
         (contains_in (demands_at script placed.0) demand placed.1) in
-        let statement = asked (known_before script placed.0) (numbered script.statements placed.0) of_view.0 of_view.1 in
+        let statement = asked (known_before script placed.0) (numbered script.statements placed.0) of_view.0
+        of_view.1 in
         let by = met_in_group own.0 script placed.0 demand
         (all own.0 script placed.0 (statements.Entangled statement.0) (in_contains (members s) own.0 own.1) own.2 own.3
         statement.1) own.3 placed.1 in

@@ -53,7 +53,8 @@ pub record IsOfScript (scripts : List Script) (read_view : ReadView) : Type 0 wh
   pub known : IsKnownThere script read_view
 
 -- a member of the joint answer that offers it, as the run has it, and its script
-pub record IsMetBy (run : List ReadView) (scripts : List Script) (members : List Member) (demand : Pattern) : Type 0 where
+pub record IsMetBy (run : List ReadView) (scripts : List Script) (members : List Member) (demand : Pattern) :
+    Type 0 where
   pub partner : ReadView
   pub seen : Contains run partner
   pub is_member : Contains members (member_of partner)

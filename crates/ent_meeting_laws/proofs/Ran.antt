@@ -1,5 +1,6 @@
 -- In a serial run that gives something each entangled statement is seen.
-use Rattle.std.proofs.Common.{◌≡◌, ℕ, zero, suc, ◌+◌, List, [], ◌∷◌, map, Option, Some, None, Result, Ok, Err, slice_get}
+use Rattle.std.proofs.Common.{◌≡◌, ℕ, zero, suc, ◌+◌, List, [], ◌∷◌, map, Option, Some, None, Result, Ok, Err}
+use Rattle.std.proofs.Common.{slice_get}
 use Rattle.std.proofs.Common.{refl, sym, ap, subst, ◌∙◌, inl, inr, arith}
 use Rattle.std.specs.Option.{option_and_then, option_map}
 use Rattle.ent_lists.specs.Elements.{In, in_first, in_second}
@@ -135,7 +136,8 @@ module _ (declared : List Create) where
   scripts_seen [] database runs turn place entangled is at there = absurd at
   scripts_seen (first ∷ more) database runs turn place entangled is (inl same) there =
       let given = parted (script_run declared first.script first.oracle database) (scripts_run declared more) runs is in
-      let rest = seen_from (script_run declared first.script first.oracle database) (scripts_read_views declared more) in
+      let rest = seen_from (script_run declared first.script first.oracle database)
+      (scripts_read_views declared more) in
       let r = script_seen first database given.0 place entangled given.1
       (subst (λ (t : Turn). numbered t.script.statements place ≡ Some (statements.Entangled entangled)) same there) in
       record {

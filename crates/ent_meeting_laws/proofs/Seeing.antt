@@ -21,13 +21,15 @@ use Rattle.ent_semantics.specs.declared.answer.Answer.{Answer}
 use Rattle.ent_semantics.specs.declared.answer.Answer.TheVariants as answers
 use Rattle.ent_semantics.specs.declared.answer.Failure.{Failure}
 use Rattle.ent_semantics.specs.declared.answer.Failure.TheVariants.{TableFull}
-use Rattle.ent_semantics.specs.Database.{Database, Environment, Name, Rows, Table, nothing_bound, same_name, table_named}
+use Rattle.ent_semantics.specs.Database.{Database, Environment, Name, Rows, Table, nothing_bound, same_name}
+use Rattle.ent_semantics.specs.Database.{table_named}
 use Rattle.ent_semantics.specs.Database.{with_value, with_values}
 use Rattle.ent_semantics.specs.Change.{image, matched, updated}
 use Rattle.ent_semantics.specs.Selection.{meets}
 use Rattle.ent_semantics.specs.Effect.{Effect, changed, or_overflow, replacement, setting}
 use Rattle.ent_semantics.specs.Entangled.{Valuation, bound_values, item_binds, term_worth}
-use Rattle.ent_semantics.specs.Serial.{Operation, ReadView, Turn, is_entangled, numbered, operation_first, operations_of}
+use Rattle.ent_semantics.specs.Serial.{Operation, ReadView, Turn, is_entangled, numbered, operation_first}
+use Rattle.ent_semantics.specs.Serial.{operations_of}
 use Rattle.ent_semantics.specs.Serial.{read_views, script_read_views, script_run, scripts_read_views, seen, seen_after}
 use Rattle.ent_semantics.specs.Serial.{Run, seen_from, with_answer}
 use Rattle.ent_semantics.specs.Statement.{statement_meaning, table_worth}
@@ -110,7 +112,8 @@ leaves_if false database environment answer failure effect is = cc (is)
 leaves_rows : (table : Table Database) (count : ℕ) (given : Option Rows) (database : Database)
     (environment : Environment) → Leaves environment (or_overflow given (changed table count) database environment)
 leaves_rows table count (Some rows) database environment =
-    leaves_if (nat_le (set.len rows) MOST_ROWS) (table.replaced database rows) environment (answers.Count count) TableFull
+    leaves_if (nat_le (set.len rows) MOST_ROWS) (table.replaced database rows) environment (answers.Count count)
+    TableFull
 leaves_rows table count None database environment = λ effect is. cc (is)
 
 leaves_replacement : (table : Table Database) (matches : List Value → Bool)
@@ -180,7 +183,8 @@ abbrev pub statement_of : Operation → Statement
 statement_of operation = operation.statement
 
 -- an entangled statement behind so many others, and what is known before it
-pub record IsSeenBehind (tx place : ℕ) (known : Environment) (texts : List Statement) (read_view : ReadView) : Type 0 where
+pub record IsSeenBehind (tx place : ℕ) (known : Environment) (texts : List Statement) (read_view : ReadView) :
+    Type 0 where
   pub own : read_view.tx ≡ tx
   pub earlier : ℕ
   pub at_place : read_view.place ≡ place + earlier
@@ -192,7 +196,8 @@ sees_here : (tx place : ℕ) (statement : Statement) (valuation : Valuation) (mo
     → In read_view (seen tx place (record { statement = statement; valuation = valuation }) database environment)
     → IsSeenBehind tx place known (statement ∷ more) read_view
 sees_here tx place (statements.Select select) valuation more database known environment read_view agrees at = absurd at
-sees_here tx place (statements.Entangled entangled) valuation more database known environment read_view agrees (inl same) =
+sees_here tx place (statements.Entangled entangled) valuation more database known environment read_view agrees
+    (inl same) =
     record {
       own = ap (λ (r : ReadView). r.tx) same;
       earlier = 0;
@@ -200,7 +205,8 @@ sees_here tx place (statements.Entangled entangled) valuation more database know
       statement = ap (λ (r : ReadView). Some (statements.Entangled r.entangled)) (sym same);
       agrees = subst (λ (r : ReadView). Agrees known r.environment) (sym same) agrees;
     }
-sees_here tx place (statements.Entangled entangled) valuation more database known environment read_view agrees (inr at) = absurd at
+sees_here tx place (statements.Entangled entangled) valuation more database known environment read_view agrees (inr at)
+    = absurd at
 sees_here tx place (statements.Insert insert) valuation more database known environment read_view agrees at = absurd at
 sees_here tx place (statements.Delete delete) valuation more database known environment read_view agrees at = absurd at
 sees_here tx place (statements.Update update) valuation more database known environment read_view agrees at = absurd at
@@ -250,7 +256,8 @@ put_first : (statement : Statement) (valuation : Valuation) (texts : List Statem
     → ((others : List Operation) → more ≡ Some others → map statement_of others ≡ texts)
     → operation_first statement valuation more ≡ Some operations → map statement_of operations ≡ statement ∷ texts
 put_first statement valuation texts (Some others) operations so is =
-    ap (map statement_of) (sym (one_list (record { statement = statement; valuation = valuation } ∷ others) operations is))
+    ap (map statement_of) (sym (one_list (record { statement = statement; valuation = valuation } ∷ others)
+    operations is))
     ∙ ap (λ (rest : List Statement). statement ∷ rest) (so others refl)
 put_first statement valuation texts None operations so is = cc (is)
 

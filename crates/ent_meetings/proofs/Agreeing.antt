@@ -13,7 +13,8 @@ module _ (postings : Postings) (pattern : Pattern) where
   abbrev pub NoneFrom : ℕ → Type 0
   NoneFrom from = (ticket : ℕ) → from ≤ ticket → Agrees postings pattern ticket → ⊥
 
-  module _ (place : ℕ) (asked : (ticket : ℕ) → Agrees postings pattern ticket → agrees_at postings pattern place ticket ≡ true)
+  module _ (place : ℕ) (asked : (ticket : ℕ) → Agrees postings pattern ticket
+      → agrees_at postings pattern place ticket ≡ true)
       (from mid : ℕ) (before : NoneAgrees from mid) where
     pub none_from : ((ticket : ℕ) → mid ≤ ticket → agrees_at postings pattern place ticket ≡ false) → NoneFrom from
     none_from none ticket low agrees =

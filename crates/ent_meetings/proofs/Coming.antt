@@ -1,12 +1,14 @@
 -- Somebody comes to a set.
-use Rattle.std.proofs.Common.{◌≡◌, ℕ, ◌+◌, Bool, true, false, not, ◌==◌, List, [], ◌∷◌, ◌++◌, Option, Some, All, refl, sym, ap, subst, ◌∙◌, inl, inr, arith, cond, count_by}
+use Rattle.std.proofs.Common.{◌≡◌, ℕ, ◌+◌, Bool, true, false, not, ◌==◌, List, [], ◌∷◌, ◌++◌, Option, Some, All, refl}
+use Rattle.std.proofs.Common.{sym, ap, subst, ◌∙◌, inl, inr, arith, cond, count_by}
 use Rattle.std.proofs.Common.{◌⊎◌, Contains, IfSome, IsSome}
 use Rattle.std.specs.List.{cons_option, flat_map, list_any}
 use Rattle.std.proofs.lemmas.Grind.{flat_map-append}
 use Rattle.std.proofs.lemmas.List.{append-nil}
 use Rattle.std.proofs.lemmas.List.Elements.{filter_map-append}
 use Rattle.std.proofs.lemmas.List.Sums.{AllPass-from_list_all, sum_by-append, sum_by-cons}
-use Rattle.ent_lists.specs.Elements.{In, and_both, any_none, in_contains, in_either, in_first, neither, same_number, turned}
+use Rattle.ent_lists.specs.Elements.{In, and_both, any_none, in_contains, in_either, in_first, neither, same_number}
+use Rattle.ent_lists.specs.Elements.{turned}
 use Rattle.ent_lists.proofs.Lists.{of_index, index_all}
 use Rattle.ent_meetings.specs.PartyMeeting.{offers, ways}
 use Rattle.ent_meetings.specs.Pattern.{may_meet}
@@ -35,7 +37,8 @@ none_counted p (x ∷ xs) none =
     let all = sum_by-cons (λ y. cond (p y) 1 0) x xs in
     omega arith
 
-module _ (waiting : Waiting) (tickets : List ℕ) (ticket : ℕ) (party : Party) (at : party_at waiting ticket ≡ Some party) where
+module _ (waiting : Waiting) (tickets : List ℕ) (ticket : ℕ) (party : Party)
+    (at : party_at waiting ticket ≡ Some party) where
   pub named_joined : named waiting (tickets ++ ticket ∷ []) ≡ named waiting tickets ++ party ∷ []
   named_joined =
       filter_map-append (party_at waiting) tickets (ticket ∷ [])
@@ -61,7 +64,8 @@ module _ (waiting : Waiting) (tickets : List ℕ) (ticket : ℕ) (party : Party)
         ap (λ (ps : List Party). ways ps demand) named_joined
         ∙ same_number (ways (named waiting tickets ++ party ∷ []) demand) 1
         (of_index (λ (d : Pattern). (ways (named waiting tickets ++ party ∷ []) d == 1) ≡ true) party.demands demand
-        (AllPass-from_list_all (λ (d : Pattern). ways (named waiting tickets ++ party ∷ []) d == 1) party.demands parts.0) there)
+        (AllPass-from_list_all (λ (d : Pattern). ways (named waiting tickets ++ party ∷ []) d == 1) party.demands
+        parts.0) there)
 
     served : IsServed waiting (tickets ++ ticket ∷ []) ticket
     served = record {

@@ -1,5 +1,6 @@
 -- The postings of an index after somebody comes or goes.
-use Rattle.std.proofs.Common.{◌≡◌, ℕ, Bool, true, false, not, ◌||◌, ◌&&◌, ◌==◌, cond, List, Option, None, Some, sym, ap, ◌∙◌}
+use Rattle.std.proofs.Common.{◌≡◌, ℕ, Bool, true, false, not, ◌||◌, ◌&&◌, ◌==◌, cond, List, Option, None, Some, sym, ap}
+use Rattle.std.proofs.Common.{◌∙◌}
 use Rattle.std.proofs.Common.{refl, ⊎_elim, eq-eqb, subst}
 use Rattle.std.specs.BTreeMap.{is_at}
 use Rattle.std.specs.Option.{option_map_or}
@@ -17,7 +18,8 @@ abbrev pub PartyAt : ℕ → Option Party → Waiting → Waiting → Type 0
 PartyAt ticket party before after =
     (other : ℕ) → party_at after other ≡ cond (is_at (nat_cmp ticket) other) party (party_at before other)
 
-module _ (patterns : Party → List Pattern) (before after : Waiting) (old new : Postings) (ticket : ℕ) (party : Party) where
+module _ (patterns : Party → List Pattern) (before after : Waiting) (old new : Postings) (ticket : ℕ)
+    (party : Party) where
   posted : ℕ → Option Party → Bool
   posted key who = option_map_or (λ own. have_key (patterns own) key) who false
 
@@ -34,7 +36,8 @@ module _ (patterns : Party → List Pattern) (before after : Waiting) (old new :
       ∙ ap (λ (b : Bool). cond b change (party_at before other))
       (cmp_equal ticket other ∙ ne_eqb ticket other apart)
 
-  pub posted_new : party_at before ticket ≡ None → PartyAt ticket (Some party) before after → IsPosted patterns before old
+  pub posted_new : party_at before ticket ≡ None → PartyAt ticket (Some party) before after
+      → IsPosted patterns before old
       → Posts ticket (have_key (patterns party)) old new → IsPosted patterns after new
   unfolding posted
   posted_new absent at was posts key other =
@@ -54,7 +57,8 @@ module _ (patterns : Party → List Pattern) (before after : Waiting) (old new :
       or_none true = refl
       or_none false = refl
 
-  pub posted_rest : party_at before ticket ≡ Some party → PartyAt ticket None before after → IsPosted patterns before old
+  pub posted_rest : party_at before ticket ≡ Some party → PartyAt ticket None before after
+      → IsPosted patterns before old
       → Unposts ticket (have_key (patterns party)) old new → IsPosted patterns after new
   unfolding posted
   posted_rest present at was gone key other =

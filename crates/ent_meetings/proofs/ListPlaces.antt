@@ -1,5 +1,6 @@
 -- Elements at places of lists.
-use Rattle.std.proofs.Common.{◌≡◌, ◌<◌, ◌≤◌, ◌+◌, ℕ, List, [], ◌∷◌, ◌++◌, length, take, get_or, map, Contains, sym, ap, subst, ◌∙◌, inl, inr}
+use Rattle.std.proofs.Common.{◌≡◌, ◌<◌, ◌≤◌, ◌+◌, ℕ, List, [], ◌∷◌, ◌++◌, length, take, get_or, map, Contains, sym, ap}
+use Rattle.std.proofs.Common.{subst, ◌∙◌, inl, inr}
 use Rattle.std.proofs.lemmas.List.{get_or-map, length-map, take_all, take_more}
 use Rattle.ent_lists.specs.Elements.{In, in_contains, in_either, nth_in}
 
@@ -25,7 +26,8 @@ module _ {X Y : Type 0} (f : X → Y) (xs : List X) (i : ℕ) (x : X) (low : i <
         | inr b ↦ elim b [ inl same ↦ apart (sym same) | inr bad ↦ bad ]
       ]
 
-pub images_all : {X Y : Type 0} (f : X → Y) (xs : List X) (n : ℕ) (y : Y) → length xs ≤ n → (In y (take n (map f xs)) → ⊥)
+pub images_all : {X Y : Type 0} (f : X → Y) (xs : List X) (n : ℕ) (y : Y) → length xs ≤ n
+    → (In y (take n (map f xs)) → ⊥)
     → In y (map f xs) → ⊥
 images_all f xs n y all none there =
     let long : length (map f xs) ≤ n = simp length-map all in

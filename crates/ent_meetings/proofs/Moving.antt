@@ -1,5 +1,6 @@
 -- The moves of a search.
-use Rattle.std.proofs.Common.{◌≡◌, ◌<◌, ◌≤◌, ◌++◌, ◌∷◌, [], ℕ, suc, Bool, true, false, List, length, Option, None, Some, IsSomeAnd, refl, sym, subst, arith}
+use Rattle.std.proofs.Common.{◌≡◌, ◌<◌, ◌≤◌, ◌++◌, ◌∷◌, [], ℕ, suc, Bool, true, false, List, length, Option, None, Some}
+use Rattle.std.proofs.Common.{IsSomeAnd, refl, sym, subst, arith}
 use Rattle.std.specs.Global.{Vec}
 use Rattle.std.specs.Cmp.Lexicographic.{slice_cmp}
 use Rattle.std.specs.Ordering.{nat_cmp}
@@ -25,7 +26,8 @@ module _ (waiting : Waiting) (old : Search) (right : IsStand waiting old) where
       root = right.root;
       meetings = right.meetings;
       stand = one_less waiting old.root (found_of old) old.is_clear old.is_cut chosen.items ticket old.last
-          (subst (λ (xs : List ℕ). Stand waiting old.root (found_of old) old.is_clear old.is_cut xs old.last) is right.stand)
+          (subst (λ (xs : List ℕ). Stand waiting old.root (found_of old) old.is_clear old.is_cut xs old.last) is
+          right.stand)
           (subst (IsPassed waiting old.root (found_of old) old.is_clear old.is_cut) is past);
       cleared = right.cleared;
     };
@@ -53,7 +55,8 @@ module _ (waiting : Waiting) (old : Search) (right : IsStand waiting old) where
     };
     root = refl;
     found = refl;
-    further = subst (λ (xs : List ℕ). slice_cmp nat_cmp (pass_of old.is_clear ∷ (old.chosen.items ++ next_of old.last ∷ []))
+    further = subst (λ (xs : List ℕ). slice_cmp nat_cmp (pass_of old.is_clear ∷
+        (old.chosen.items ++ next_of old.last ∷ []))
         (pass_of old.is_clear ∷ (xs ++ 0 ∷ [])) ≡ Less) (sym is)
         (place.further_more (pass_of old.is_clear) old.chosen.items old.last ticket after);
   }
@@ -86,7 +89,8 @@ module _ (waiting : Waiting) (old : Search) (right : IsStand waiting old) where
   pub past_all : (demand : Pattern) → first_unmet (named waiting old.chosen.items) ≡ Some demand
       → ((other : ℕ) → IsAfter old.last other → offers_at waiting demand other ≡ false) → IsPast waiting old
   past_all demand unmet none =
-      none_left waiting old.root (found_of old) old.is_clear old.is_cut old.chosen.items old.last demand right.stand unmet none
+      none_left waiting old.root (found_of old) old.is_clear old.is_cut old.chosen.items old.last demand right.stand
+      unmet none
 
   -- the pass for clear sets is over, and the one for all begins
   pub begins_again : (chosen : Vec ℕ) → chosen.items ≡ old.root ∷ [] → length old.chosen.items ≡ 0 → old.is_clear ≡ true
@@ -118,9 +122,11 @@ module _ (waiting : Waiting) (old : Search) (right : IsStand waiting old) where
     record {
       root = right.root;
       meetings = right.meetings;
-      stand = still waiting old.root (found_of old) (found_of old) old.is_clear old.is_cut true (λ one at. at) (λ cut. refl)
+      stand = still waiting old.root (found_of old) (found_of old) old.is_clear old.is_cut true (λ one at. at)
+          (λ cut. refl)
           old.chosen.items old.last right.stand;
       cleared = right.cleared;
     },
-    passed_full waiting old.root (found_of old) old.is_clear true old.chosen.items demand unmet right.stand.distinct full refl,
+    passed_full waiting old.root (found_of old) old.is_clear true old.chosen.items demand unmet right.stand.distinct
+        full refl,
   )

@@ -1,5 +1,6 @@
 -- The next ticket that passes, where some up to a last one were looked at.
-use Rattle.std.proofs.Common.{◌≡◌, ◌≤◌, ◌<◌, ◌↔◌, ℕ, Bool, true, false, ◌⊎◌, inl, Option, None, Some, ⊎_elim, arith, subst}
+use Rattle.std.proofs.Common.{◌≡◌, ◌≤◌, ◌<◌, ◌↔◌, ℕ, Bool, true, false, ◌⊎◌, inl, Option, None, Some, ⊎_elim, arith}
+use Rattle.std.proofs.Common.{subst}
 use Rattle.std.proofs.lemmas.Bool.{cases_lt, false_from_ne_true}
 use Rattle.ent_meetings.specs.Next.{IsAfter, IsUpTo}
 
@@ -13,13 +14,15 @@ module _ (passes : ℕ → Bool) (after last : Option ℕ)
   pub nobody : ((other : ℕ) → IsAfter last other → passes other ≡ true → ⊥)
       → (other : ℕ) → IsAfter after other → passes other ≡ false
   nobody rest other behind =
-      ⊎_elim (λ later. false_from_ne_true (passes other) (rest other later)) (none other behind) (after_or_up_to last other)
+      ⊎_elim (λ later. false_from_ne_true (passes other) (rest other later)) (none other behind)
+      (after_or_up_to last other)
 
   module _ (from ticket : ℕ) (begins : (other : ℕ) → IsAfter last other ↔ (from ≤ other))
       (between : (other : ℕ) → from ≤ other → other < ticket → passes other ≡ true → ⊥) where
     pub none_before : (other : ℕ) → IsAfter after other → other < ticket → passes other ≡ false
     none_before other behind low =
-        ⊎_elim (λ later. false_from_ne_true (passes other) (between other ((begins other).0 later) low)) (none other behind)
+        ⊎_elim (λ later. false_from_ne_true (passes other) (between other ((begins other).0 later) low))
+        (none other behind)
         (after_or_up_to last other)
 
     pub none_up_to : passes ticket ≡ false → (other : ℕ) → IsAfter after other → other ≤ ticket → passes other ≡ false

@@ -1,5 +1,6 @@
 -- Nobody else might come.
-use Rattle.std.proofs.Common.{◌≡◌, ◌+◌, ℕ, true, false, not, ◌==◌, List, [], ◌∷◌, ◌++◌, sym, ◌∙◌, inl, inr, arith, count_by}
+use Rattle.std.proofs.Common.{◌≡◌, ◌+◌, ℕ, true, false, not, ◌==◌, List, [], ◌∷◌, ◌++◌, sym, ◌∙◌, inl, inr, arith}
+use Rattle.std.proofs.Common.{count_by}
 use Rattle.std.specs.List.Sorted.{IsPermutation}
 use Rattle.std.proofs.lemmas.List.Sorted.{IsPermutation-sym}
 use Rattle.std.proofs.lemmas.List.Sums.{AllPass-from_list_all}
@@ -24,7 +25,8 @@ module _ (parties : List Party) (party : Party) (may : may_come parties party �
   parts : (is_served_once parties party ≡ true) × (not (serves parties party) ≡ true)
   parts = and_both (is_served_once parties party) (not (serves parties party)) may
 
-  once : (demand : Pattern) → In demand party.demands → ways parties demand + count_by (may_meet demand) party.offers ≡ 1
+  once : (demand : Pattern) → In demand party.demands → ways parties demand + count_by (may_meet demand)
+      party.offers ≡ 1
   once demand there =
       sym (ways_joined parties party demand)
       ∙ same_number (ways (parties ++ party ∷ []) demand) 1

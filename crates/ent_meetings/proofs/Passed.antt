@@ -15,7 +15,8 @@ use Rattle.ent_meetings.specs.Meeting.{HasOneOf, IsClosedWith, IsWithin}
 use Rattle.ent_meetings.specs.Stand.{IsPassed}
 use Rattle.ent_meetings.specs.Waiting.{Waiting, named, offers_at}
 use Rattle.ent_meetings.proofs.Ways.{clear_ways, ways_more}
-use Rattle.ent_meetings.proofs.Waiters.{closed_meets, demanded_more, found_in, giver_of, met_by, within, within_both, within_by}
+use Rattle.ent_meetings.proofs.Waiters.{closed_meets, demanded_more, found_in, giver_of, met_by, within, within_both}
+use Rattle.ent_meetings.proofs.Waiters.{within_by}
 
 -- distinct numbers of a list are no more than it has
 pub no_more : (xs ys : List ℕ) → Pairs (λ (one other : ℕ). one ≢ other) xs → IsWithin xs ys → length xs ≤ length ys
@@ -32,16 +33,21 @@ module _ (waiting : Waiting) (root : ℕ) (found : List (List ℕ)) (is_clear is
       → IsClosedWith waiting root others → IsWithin chosen others
       → (ticket : ℕ) × In ticket others × (offers_at waiting demand ticket ≡ true)
   giver chosen others demand unmet stands all =
-      let first = found_in (λ d. not (is_met (named waiting chosen) d)) (demands_of (named waiting chosen)) demand unmet in
+      let first = found_in (λ d. not (is_met (named waiting chosen) d)) (demands_of (named waiting chosen)) demand
+      unmet in
       giver_of waiting others demand
-      (closed_meets (named waiting others) demand stands.closed (demanded_more waiting chosen others demand all first.0))
+      (closed_meets (named waiting others) demand stands.closed
+      (demanded_more waiting chosen others demand all first.0))
 
   -- who gives it isn't among them
-  pub not_chosen : (chosen : List ℕ) (demand : Pattern) → first_unmet (named waiting chosen) ≡ Some demand → (ticket : ℕ)
+  pub not_chosen : (chosen : List ℕ) (demand : Pattern) → first_unmet (named waiting chosen) ≡ Some demand
+      → (ticket : ℕ)
       → offers_at waiting demand ticket ≡ true → In ticket chosen → ⊥
   not_chosen chosen demand unmet ticket is at =
-      let first = found_in (λ d. not (is_met (named waiting chosen) d)) (demands_of (named waiting chosen)) demand unmet in
-      clash (is_met (named waiting chosen) demand) (met_by waiting chosen demand ticket at is) (turned (is_met (named waiting chosen) demand) first.1)
+      let first = found_in (λ d. not (is_met (named waiting chosen) d)) (demands_of (named waiting chosen)) demand
+      unmet in
+      clash (is_met (named waiting chosen) demand) (met_by waiting chosen demand ticket at is)
+      (turned (is_met (named waiting chosen) demand) first.1)
 
   with_one : (chosen others : List ℕ) (ticket : ℕ) → IsWithin chosen others → In ticket others
       → IsWithin (chosen ++ ticket ∷ []) others
@@ -85,7 +91,8 @@ module _ (waiting : Waiting) (root : ℕ) (found : List (List ℕ)) (is_clear is
       → ((ticket : ℕ) → offers_at waiting demand ticket ≡ false) → IsPassed waiting root found is_clear is_cut chosen
   passed_hopeless chosen demand asked nobody others sought all =
       let one = giver_of waiting others demand
-      (closed_meets (named waiting others) demand sought.stands.closed (demanded_more waiting chosen others demand all asked)) in
+      (closed_meets (named waiting others) demand sought.stands.closed
+      (demanded_more waiting chosen others demand all asked)) in
       clash (offers_at waiting demand one.0) one.2 (nobody one.0)
 
   -- where two offers may meet what one of them demands, they are in a pass for clear sets

@@ -1,5 +1,6 @@
 -- Later places of a search.
-use Rattle.std.proofs.Common.{◌≡◌, ◌<◌, ◌≤◌, ℕ, suc, List, [], ◌∷◌, ◌++◌, Option, None, Some, refl, sym, ap, subst, ◌∙◌, ⊎_elim, arith}
+use Rattle.std.proofs.Common.{◌≡◌, ◌<◌, ◌≤◌, ℕ, suc, List, [], ◌∷◌, ◌++◌, Option, None, Some, refl, sym, ap, subst, ◌∙◌}
+use Rattle.std.proofs.Common.{⊎_elim, arith}
 use Rattle.std.proofs.Common.{append_assoc}
 use Rattle.std.specs.Cmp.Lexicographic.{slice_cmp}
 use Rattle.std.specs.Ordering.{nat_cmp, ordering_then}
@@ -26,7 +27,8 @@ shorter x y z low =
     ⊎_elim (λ lower. lesser x y [] (z ∷ []) lower)
     (λ upper.
     let same : x ≡ y = omega arith in
-    ap (λ (o : Ordering). ordering_then o Less) (subst (λ (n : ℕ). nat_cmp x n ≡ Equal) same (tied_itself nat_cmp_total x)))
+    ap (λ (o : Ordering). ordering_then o Less) (subst (λ (n : ℕ). nat_cmp x n ≡ Equal) same
+    (tied_itself nat_cmp_total x)))
     (cases_lt x y)
 
 -- who comes after the last is looked at next, or later

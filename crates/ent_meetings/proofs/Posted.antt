@@ -1,5 +1,6 @@
 -- What posting and taking out leave, one pattern after the other.
-use Rattle.std.proofs.Common.{◌≡◌, ◌≤◌, ◌<◌, ℕ, zero, suc, Bool, true, false, ◌||◌, ◌&&◌, not, cond, ◌==◌, List, length, ◌+◌}
+use Rattle.std.proofs.Common.{◌≡◌, ◌≤◌, ◌<◌, ℕ, zero, suc, Bool, true, false, ◌||◌, ◌&&◌, not, cond, ◌==◌, List, length}
+use Rattle.std.proofs.Common.{◌+◌}
 use Rattle.std.proofs.Common.{take, drop, get_or, refl, sym, ap, ◌∙◌, ⊎_elim, arith, add-one, subst}
 use Rattle.std.specs.BTreeSet.{IsUnchanged, Updates}
 use Rattle.std.specs.BTreeMap.{is_at}
@@ -57,7 +58,8 @@ module _ (ticket : ℕ) (old mid new : Postings) (p q : ℕ → Bool) where
   }
 
   -- all of the first keys, and some of the others
-  pub posts_then_some : ((key : ℕ) → p key ≡ true → q key ≡ true) → (r : ℕ → Bool) → ((key : ℕ) → r key ≡ true → q key ≡ true)
+  pub posts_then_some : ((key : ℕ) → p key ≡ true → q key ≡ true) → (r : ℕ → Bool)
+      → ((key : ℕ) → r key ≡ true → q key ≡ true)
       → Posts ticket p old mid → PostsSome ticket r mid new → PostsSome ticket q old new
   posts_then_some among r also posts some = record {
     kept = λ key t there. some.kept key t (posts key t ∙ or_left (has old key t) (is_among ticket p key t) there);
@@ -109,7 +111,8 @@ module _ (pattern : Pattern) where
         → Updates entry_cmp mid new (at (key_at pattern place) ticket) true
         → Posts ticket (λ key. has_key key pattern) old new
     posts_last is before update key other =
-        posts_place before update key other ∙ ap (λ (b : Bool). has old key other || ((ticket == other) && b)) (last is key)
+        posts_place before update key other ∙ ap (λ (b : Bool). has old key other || ((ticket == other) && b))
+        (last is key)
 
     pub unposts_last : place ≡ length pattern.terms → Unposts ticket (has_key_below pattern place) old mid
         → Updates entry_cmp mid new (at (key_at pattern place) ticket) false

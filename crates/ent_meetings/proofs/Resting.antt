@@ -1,5 +1,6 @@
 -- What a search tells once both passes are over, and one step after the other.
-use Rattle.std.proofs.Common.{◌≡◌, ◌<◌, ◌≤◌, ◌∷◌, ◌++◌, [], ℕ, false, List, length, Contains, sym, ap, subst, ◌∙◌, ◌⊎◌, ⊎_elim, arith}
+use Rattle.std.proofs.Common.{◌≡◌, ◌<◌, ◌≤◌, ◌∷◌, ◌++◌, [], ℕ, false, List, length, Contains, sym, ap, subst, ◌∙◌, ◌⊎◌}
+use Rattle.std.proofs.Common.{⊎_elim, arith}
 use Rattle.std.specs.Cmp.Lexicographic.{slice_cmp}
 use Rattle.std.specs.Ordering.{nat_cmp}
 use Rattle.std.specs.declared.cmp.Ordering.TheVariants.{Less}
@@ -37,8 +38,10 @@ module _ (waiting : Waiting) (old mid : Search) (root : mid.root ≡ old.root) (
     meets = subst (λ (n : ℕ). IsMeeting waiting n meeting) root taken.meets;
     other = λ has. taken.other (subst (λ (sets : List (List ℕ)). Contains sets meeting) (sym found) has);
     found = taken.found ∙ ap (λ (sets : List (List ℕ)). sets ++ meeting ∷ []) found;
-    clear_first = subst (λ (sets : List (List ℕ)). IsClear (named waiting meeting) ⊎ AreCleared waiting old.root sets) found
-        (subst (λ (n : ℕ). IsClear (named waiting meeting) ⊎ AreCleared waiting n (found_of mid)) root taken.clear_first);
+    clear_first = subst (λ (sets : List (List ℕ)). IsClear (named waiting meeting)
+        ⊎ AreCleared waiting old.root sets) found
+        (subst (λ (n : ℕ). IsClear (named waiting meeting) ⊎ AreCleared waiting n (found_of mid)) root
+        taken.clear_first);
   }
 
 -- one step after the other

@@ -1,5 +1,6 @@
 -- Parties behind references, and the demands of several parties.
-use Rattle.std.proofs.Common.{◌≡◌, ◌<◌, ℕ, ◌+◌, Bool, true, false, cond, ◌||◌, List, [], ◌∷◌, ◌++◌, length, take, drop, get_or, map}
+use Rattle.std.proofs.Common.{◌≡◌, ◌<◌, ℕ, ◌+◌, Bool, true, false, cond, ◌||◌, List, [], ◌∷◌, ◌++◌, length, take, drop}
+use Rattle.std.proofs.Common.{get_or, map}
 use Rattle.std.proofs.Common.{Option, None, Some, IsSome, refl, sym, ap, ◌∙◌, ◌≤◌, count_by}
 use Rattle.std.specs.Borrow.{Bor}
 use Rattle.std.specs.List.{find, flat_map, list_any}
@@ -41,18 +42,21 @@ module _ {X Y : Type 0} (f : X → List Y) (p : Y → Bool) (xs : List X) (i : �
       ∙ ap (λ (o : Option Y). option_or o (find p (f x))) before ∙ none
 
   -- the first list in which one is found
-  pub find_first : find p (flat_map f (take i xs)) ≡ None → IsSome (find p (f x)) → find p (flat_map f xs) ≡ find p (f x)
+  pub find_first : find p (flat_map f (take i xs)) ≡ None → IsSome (find p (f x)) → find p (flat_map f xs)
+      ≡ find p (f x)
   find_first before some =
       ap (find p) parts ∙ find-append p (flat_map f (take i xs)) (f x ++ flat_map f (drop (i + 1) xs))
       ∙ ap (λ (o : Option Y). option_or o (find p (f x ++ flat_map f (drop (i + 1) xs)))) before
-      ∙ find-append p (f x) (flat_map f (drop (i + 1) xs)) ∙ kept (find p (f x)) (find p (flat_map f (drop (i + 1) xs))) some
+      ∙ find-append p (f x) (flat_map f (drop (i + 1) xs)) ∙ kept (find p (f x))
+      (find p (flat_map f (drop (i + 1) xs))) some
     where
       kept : (o other : Option Y) → IsSome o → option_or o other ≡ o
       kept None other is = cc
       kept (Some y) other is = refl
 
 -- what a reference leads to at a place
-module _ {X : Type 0} (refs : List (Bor X)) (i : ℕ) (item : Bor X) (low : i < length refs) (is : item ≡ get_or refs i item) where
+module _ {X : Type 0} (refs : List (Bor X)) (i : ℕ) (item : Bor X) (low : i < length refs)
+    (is : item ≡ get_or refs i item) where
   pub seen_low : i < length (map (λ (x : Bor X). x.now) refs)
   seen_low = simp length-map low
 
@@ -73,7 +77,8 @@ module _ {X : Type 0} (refs : List (Bor X)) (i : ℕ) (item : Bor X) (low : i < 
 
 -- all of them
 pub any_whole : {X : Type 0} (p : X → Bool) (refs : List (Bor X)) (n : ℕ) → length refs ≤ n
-    → list_any p (take n (map (λ (x : Bor X). x.now) refs)) ≡ false → list_any p (map (λ (x : Bor X). x.now) refs) ≡ false
+    → list_any p (take n (map (λ (x : Bor X). x.now) refs)) ≡ false
+    → list_any p (map (λ (x : Bor X). x.now) refs) ≡ false
 any_whole {X = X} p refs n all none =
     let long : length (map (λ (x : Bor X). x.now) refs) ≤ n = simp length-map all in
     ap (list_any p) (sym (take_all n (map (λ (x : Bor X). x.now) refs) long)) ∙ none

@@ -1,5 +1,6 @@
 -- Who may come to a set that grows, and who may not.
-use Rattle.std.proofs.Common.{◌≡◌, ◌<◌, ◌≤◌, ◌+◌, ℕ, Bool, true, false, not, ◌&&◌, ◌||◌, ◌==◌, cond, List, [], ◌∷◌, ◌++◌, length, take, get_or, Option, None, Some, refl, sym, ap, subst, ◌∙◌}
+use Rattle.std.proofs.Common.{◌≡◌, ◌<◌, ◌≤◌, ◌+◌, ℕ, Bool, true, false, not, ◌&&◌, ◌||◌, ◌==◌, cond, List, [], ◌∷◌}
+use Rattle.std.proofs.Common.{◌++◌, length, take, get_or, Option, None, Some, refl, sym, ap, subst, ◌∙◌}
 use Rattle.std.proofs.Common.{◌⊎◌, inl, inr, ⊎_elim, arith, count_by}
 use Rattle.std.specs.List.{cons_option, flat_map, list_all, list_any}
 use Rattle.std.specs.Option.{option_map_or}
@@ -8,7 +9,8 @@ use Rattle.std.proofs.lemmas.Grind.{flat_map-append}
 use Rattle.std.proofs.lemmas.List.{append-nil, take-append-le, take_all, take_more}
 use Rattle.std.proofs.lemmas.List.Elements.{filter_map-append}
 use Rattle.std.proofs.lemmas.List.Sums.{sum_by-append}
-use Rattle.ent_lists.specs.Elements.{In, any_none, any_some, clash, differ, in_either, in_first, in_flat, in_second, nth_in, to_flat}
+use Rattle.ent_lists.specs.Elements.{In, any_none, any_some, clash, differ, in_either, in_first, in_flat, in_second}
+use Rattle.ent_lists.specs.Elements.{nth_in, to_flat}
 use Rattle.ent_meetings.specs.PartyMeeting.{offers, ways}
 use Rattle.ent_meetings.specs.Pattern.{may_meet}
 use Rattle.ent_meetings.specs.declared.party.Party.{Party}
@@ -16,7 +18,8 @@ use Rattle.ent_meetings.specs.declared.pattern.Pattern.{Pattern}
 use Rattle.ent_meetings.specs.Group.{demands_of, is_served_once, may_come, offers_of, serves}
 use Rattle.ent_meetings.specs.Meeting.{IsWithin}
 use Rattle.ent_meetings.specs.Next.{IsAfter}
-use Rattle.ent_meetings.specs.Settling.{GoesPast, IsBarred, IsLacking, IsPassing, IsPast, IsPastAll, IsSettled, IsTried, IsWhole}
+use Rattle.ent_meetings.specs.Settling.{GoesPast, IsBarred, IsLacking, IsPassing, IsPast, IsPastAll, IsSettled, IsTried}
+use Rattle.ent_meetings.specs.Settling.{IsWhole}
 use Rattle.ent_meetings.specs.Waiting.{Waiting, demands, demands_at, named, party_at}
 use Rattle.ent_meetings.proofs.Coming.{ways_joined}
 use Rattle.ent_meetings.proofs.Nexts.{after_or_up_to}
@@ -51,7 +54,8 @@ module _ (waiting : Waiting) (one more : List ℕ) where
   longer : IsWithin one (one ++ more)
   longer = within_by one (one ++ more) (λ ticket at. in_first one more ticket at)
 
-  pub offered_more : (offer : Pattern) → In offer (offers_of (named waiting one)) → In offer (offers_of (named waiting (one ++ more)))
+  pub offered_more : (offer : Pattern) → In offer (offers_of (named waiting one))
+      → In offer (offers_of (named waiting (one ++ more)))
   offered_more offer at = offered_within waiting one (one ++ more) offer longer at
 
   barred_more : (party : Party) → IsBarred (named waiting one) party → IsBarred (named waiting (one ++ more)) party
@@ -75,7 +79,8 @@ module _ (waiting : Waiting) (one more : List ℕ) where
   past_more : (offered : List Pattern) → IsPast waiting one offered → IsPast waiting (one ++ more) offered
   past_more offered past = record {
     among = λ offer at. offered_more offer (past.among offer at);
-    settled = λ ticket party waits offer at asks. settled_more offered ticket party (past.settled ticket party waits offer at asks);
+    settled = λ ticket party waits offer at asks. settled_more offered ticket party
+        (past.settled ticket party waits offer at asks);
   }
 
 -- a test that not all pass
@@ -111,7 +116,8 @@ module _ (parties : List Party) (party : Party) (offered : List Pattern)
       let apart : ways (parties ++ party ∷ []) demand ≡ 1 → ⊥ = differ (ways (parties ++ party ∷ []) demand) 1 off in
       ⊎_elim (λ two. inl (inl (demand, at, omega arith)))
       (λ few.
-      let other : ways (parties ++ party ∷ []) demand ≡ 0 = none_or_one (ways (parties ++ party ∷ []) demand) apart few in
+      let other : ways (parties ++ party ∷ []) demand ≡ 0 = none_or_one (ways (parties ++ party ∷ []) demand)
+      apart few in
       let here : ways parties demand ≡ 0 = omega arith in
       let own : count_by (may_meet demand) party.offers ≡ 0 = omega arith in
       inr (
@@ -158,7 +164,8 @@ module _ (waiting : Waiting) where
   asked : (offer : Pattern) (ticket : ℕ) (party : Party) → party_at waiting ticket ≡ Some party
       → demands_at waiting offer ticket ≡ false → demands offer party ≡ true → ⊥
   asked offer ticket party waits off on =
-      clash (demands offer party) on (sym (ap (λ (who : Option Party). option_map_or (demands offer) who false) waits) ∙ off)
+      clash (demands offer party) on (sym (ap (λ (who : Option Party). option_map_or (demands offer) who false)
+      waits) ∙ off)
 
   -- an offer more is looked through
   pub passes_on : (old more : List ℕ) (offered : List Pattern) (offer : Pattern) (last : Option ℕ) (ticket : ℕ)
@@ -170,7 +177,8 @@ module _ (waiting : Waiting) where
     among = there;
     before = λ other party up_to waits asks.
         ⊎_elim (λ later. here other party later up_to waits asks)
-        (λ earlier. settled_more waiting old more (offer ∷ offered) other party (passing.before other party earlier waits asks))
+        (λ earlier. settled_more waiting old more (offer ∷ offered) other party
+        (passing.before other party earlier waits asks))
         (after_or_up_to last other);
   }
     where
@@ -201,7 +209,8 @@ module _ (waiting : Waiting) where
   }
     where
       among_all : (o : Pattern) → In o (offer ∷ offered) → In o (offers_of (named waiting tickets))
-      among_all o (inl same) = subst (λ (x : Pattern). In x (offers_of (named waiting tickets))) (sym same) passing.among
+      among_all o (inl same) = subst (λ (x : Pattern). In x (offers_of (named waiting tickets))) (sym same)
+          passing.among
       among_all o (inr at) = passing.past.among o at
 
       first : (ticket : ℕ) (party : Party) → party_at waiting ticket ≡ Some party → demands offer party ≡ true
@@ -210,7 +219,8 @@ module _ (waiting : Waiting) where
           ⊎_elim (λ later. absurd (asked offer ticket party waits (none ticket later) asks))
           (λ earlier. passing.before ticket party earlier waits asks) (after_or_up_to last ticket)
 
-      keeps : (ticket : ℕ) (party : Party) → demands offer party ≡ false → IsSettled waiting tickets offered ticket party
+      keeps : (ticket : ℕ) (party : Party) → demands offer party ≡ false
+          → IsSettled waiting tickets offered ticket party
           → IsSettled waiting tickets (offer ∷ offered) ticket party
       keeps ticket party off (inl at) = inl at
       keeps ticket party off (inr (inl barred)) = inr (inl barred)
@@ -221,7 +231,8 @@ module _ (waiting : Waiting) where
             lacks.2,
             λ o there.
                 elim there [
-                  | inl same ↦ ap (may_meet lacks.0) same ∙ any_none (λ d. may_meet d offer) party.demands off lacks.0 lacks.1
+                  | inl same ↦ ap (may_meet lacks.0) same ∙ any_none (λ d. may_meet d offer) party.demands off
+                      lacks.0 lacks.1
                   | inr at ↦ lacks.3 o at
                 ],
           ))
@@ -251,7 +262,8 @@ module _ (waiting : Waiting) where
         past = two.past;
         before_in = λ offer at. two.before_in offer (one.before_in offer at);
         own_in = λ offer at.
-            ⊎_elim (λ a. two.before_in offer (one.own_in offer a)) (λ b. two.own_in offer b) (in_either own other offer at);
+            ⊎_elim (λ a. two.before_in offer (one.own_in offer a)) (λ b. two.own_in offer b)
+            (in_either own other offer at);
       }
 
 -- the offers of one party more

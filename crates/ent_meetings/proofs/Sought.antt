@@ -1,6 +1,7 @@
 -- Who fits what is sought is posted where it is looked for.
 use Rattle.std.proofs.Common.{◌≡◌, ◌<◌, ◌≤◌, ℕ, zero, suc, true, false, ◌==◌, List, [], ◌∷◌, length}
-use Rattle.std.proofs.Common.{All, ◌⊎◌, Option, None, Some, IsSome, get_or, refl, sym, ap, subst, ◌∙◌, inl, inr, ⊎_elim, arith, eq-eqb}
+use Rattle.std.proofs.Common.{All, ◌⊎◌, Option, None, Some, IsSome, get_or, refl, sym, ap, subst, ◌∙◌, inl, inr, ⊎_elim}
+use Rattle.std.proofs.Common.{arith, eq-eqb}
 use Rattle.std.specs.Cmp.Lexicographic.{pointwise}
 use Rattle.std.specs.Option.{option_map_or}
 use Rattle.std.specs.Ordering.{is_eq}
@@ -121,15 +122,18 @@ fitting Demands sought party is =
 
 known_within : (terms : List (Option Value)) (place : ℕ) → IsSome (get_or terms place None) → place < length terms
 known_within terms place known =
-    ⊎_elim (λ low. low) (λ past. let unknown : false ≡ true = subst IsSome (get_or_past terms place None past) known in cc) (cases_lt place (length terms))
+    ⊎_elim (λ low. low) (λ past. let unknown : false ≡ true = subst IsSome (get_or_past terms place None past) known in
+    cc) (cases_lt place (length terms))
 
 module _ (side : SoughtSide) (waiting : Waiting) (postings : Postings) (sought : Pattern) (ticket : ℕ)
-    (posted : IsPosted (patterns_of side) waiting postings) (party : Party) (waits : party_at waiting ticket ≡ Some party)
+    (posted : IsPosted (patterns_of side) waiting postings) (party : Party)
+    (waits : party_at waiting ticket ≡ Some party)
     (some : Fitting side sought party) where
   stands : (place : ℕ) → place ≤ length some.pattern.terms → has postings (key_at some.pattern place) ticket ≡ true
   stands place within =
       posted (key_at some.pattern place) ticket
-      ∙ ap (λ (who : Option Party). option_map_or (λ own. have_key (patterns_of side own) (key_at some.pattern place)) who false) waits
+      ∙ ap (λ (who : Option Party). option_map_or (λ own. have_key (patterns_of side own) (key_at some.pattern place))
+      who false) waits
       ∙ any_in (has_key (key_at some.pattern place)) (patterns_of side party) some.pattern some.among
       (has_place some.pattern place (suc (length some.pattern.terms)) (omega (arith, within)))
 
@@ -159,7 +163,8 @@ module _ (side : SoughtSide) (waiting : Waiting) (postings : Postings) (sought :
         let there = stands place (let size = some.matches.size in omega arith) in
         or_right (has postings (key_at sought place) ticket) (has postings (unknown_at sought place) ticket)
         (subst (λ (k : ℕ). has postings k ticket ≡ true)
-        (key_as place None (get_or_past some.pattern.terms place None (let size = some.matches.size in omega arith))) there);
+        (key_as place None (get_or_past some.pattern.terms place None
+        (let size = some.matches.size in omega arith))) there);
   }
 
 -- who fits agrees with what is sought

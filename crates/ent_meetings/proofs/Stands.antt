@@ -1,5 +1,6 @@
 -- How a search moves on.
-use Rattle.std.proofs.Common.{◌≡◌, ◌≢◌, ◌<◌, ◌≤◌, ℕ, zero, suc, Bool, true, false, List, [], ◌∷◌, ◌++◌, length, take, get_or}
+use Rattle.std.proofs.Common.{◌≡◌, ◌≢◌, ◌<◌, ◌≤◌, ℕ, zero, suc, Bool, true, false, List, [], ◌∷◌, ◌++◌, length, take}
+use Rattle.std.proofs.Common.{get_or}
 use Rattle.std.proofs.Common.{Option, None, Some, refl, sym, ap, subst, ◌∙◌, ◌⊎◌, inl, inr, ⊎_elim, arith}
 use Rattle.std.specs.Option.{option_map_or}
 use Rattle.std.proofs.lemmas.Bool.{cases_lt, both_ways}
@@ -45,7 +46,8 @@ module _ (waiting : Waiting) (root : ℕ) (found : List (List ℕ)) (is_clear is
       → ((other : ℕ) → IsAfter after other → other < ticket → offers_at waiting demand other ≡ false)
       → Stand waiting root found is_clear is_cut (chosen ++ ticket ∷ []) None
   chosen_more chosen after demand ticket stand unmet room some gives_it none = record {
-    waits = all_joined (Waits waiting) chosen (ticket ∷ []) stand.waits (giver_waits waiting demand ticket gives_it, tt);
+    waits = all_joined (Waits waiting) chosen (ticket ∷ []) stand.waits
+        (giver_waits waiting demand ticket gives_it, tt);
     distinct = pairs_behind (λ (one other : ℕ). one ≢ other) chosen ticket stand.distinct
         (λ y at same. not_chosen waiting root found is_clear is_cut chosen demand unmet ticket gives_it
         (subst (λ (n : ℕ). In n chosen) same at));
@@ -75,7 +77,8 @@ module _ (waiting : Waiting) (root : ℕ) (found : List (List ℕ)) (is_clear is
           let same : take place (chosen ++ ticket ∷ []) ≡ chosen =
           ap (λ (n : ℕ). take n (chosen ++ ticket ∷ [])) is ∙ taken_all chosen ticket in
           let low : other < ticket =
-          subst (λ (n : ℕ). other < n) (ap (λ (n : ℕ). get_or (chosen ++ ticket ∷ []) n 0) is ∙ last chosen ticket) early in
+          subst (λ (n : ℕ). other < n) (ap (λ (n : ℕ). get_or (chosen ++ ticket ∷ []) n 0) is ∙ last chosen ticket)
+          early in
           let given : gives waiting chosen other ≡ true =
           subst (λ (front : List ℕ). gives waiting front other ≡ true) same giving in
           let offered : offers_at waiting demand other ≡ true =
@@ -102,7 +105,8 @@ module _ (waiting : Waiting) (root : ℕ) (found : List (List ℕ)) (is_clear is
         (subst (λ (front : List ℕ). gives waiting front other ≡ true) (sym same) giving));
     behind = λ other up_to giving.
         ⊎_elim (λ early.
-        subst (λ (front : List ℕ). IsPassed waiting root found is_clear is_cut (front ++ other ∷ [])) (taken_all chosen ticket)
+        subst (λ (front : List ℕ). IsPassed waiting root found is_clear is_cut (front ++ other ∷ []))
+        (taken_all chosen ticket)
         (stand.before (length chosen) other (omega (arith, length_push chosen ticket))
         (subst (λ (n : ℕ). other < n) (sym (last chosen ticket)) early)
         (subst (λ (front : List ℕ). gives waiting front other ≡ true) (sym (taken_all chosen ticket)) giving)))
@@ -111,13 +115,16 @@ module _ (waiting : Waiting) (root : ℕ) (found : List (List ℕ)) (is_clear is
         subst (λ (n : ℕ). IsPassed waiting root found is_clear is_cut (chosen ++ n ∷ [])) same passed)
         (cases_lt other ticket);
     over = λ none others sought all.
-        let begins : get_or (chosen ++ ticket ∷ []) 0 0 ≡ root = stand.begins (omega (arith, length_push chosen ticket)) in
+        let begins : get_or (chosen ++ ticket ∷ []) 0 0 ≡ root = stand.begins
+        (omega (arith, length_push chosen ticket)) in
         let is : ticket ≡ root =
         sym (last chosen ticket) ∙ ap (λ (n : ℕ). get_or (chosen ++ ticket ∷ []) n 0) none ∙ begins in
-        passed others sought (only chosen none others (subst (λ (n : ℕ). In n others) (sym is) (contains_in others root sought.stands.has_root)));
+        passed others sought (only chosen none others (subst (λ (n : ℕ). In n others) (sym is)
+        (contains_in others root sought.stands.has_root)));
   }
     where
-      only : (front : List ℕ) → length front ≡ 0 → (others : List ℕ) → In ticket others → IsWithin (front ++ ticket ∷ []) others
+      only : (front : List ℕ) → length front ≡ 0 → (others : List ℕ) → In ticket others
+          → IsWithin (front ++ ticket ∷ []) others
       only [] none others at =
           within_by (ticket ∷ []) others (λ t there.
           elim there [ inl same ↦ subst (λ (n : ℕ). In n others) (sym same) at | inr bad ↦ absurd bad ])
@@ -160,7 +167,11 @@ module _ (waiting : Waiting) (root : ℕ) (found more : List (List ℕ)) (is_cle
   pub still_passed : (chosen : List ℕ) → IsPassed waiting root found is_clear is_cut chosen
       → IsPassed waiting root more is_clear cut chosen
   still_passed chosen passed others sought all =
-      any_kept (passed others (record { stands = sought.stands; clear = sought.clear; bound = λ is. sought.bound (less is) }) all)
+      any_kept (passed others (record {
+        stands = sought.stands;
+        clear = sought.clear;
+        bound = λ is. sought.bound (less is);
+      }) all)
     where
       any_kept : HasOneOf found others → HasOneOf more others
       any_kept one =

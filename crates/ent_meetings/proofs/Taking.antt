@@ -1,5 +1,6 @@
 -- Chosen that need nobody else are a meeting.
-use Rattle.std.proofs.Common.{◌≡◌, ◌≢◌, ◌<◌, ◌≤◌, ◌∷◌, [], ℕ, Bool, true, false, cond, nat_lt, List, length, get_or, Option, None}
+use Rattle.std.proofs.Common.{◌≡◌, ◌≢◌, ◌<◌, ◌≤◌, ◌∷◌, [], ℕ, Bool, true, false, cond, nat_lt, List, length, get_or}
+use Rattle.std.proofs.Common.{Option, None}
 use Rattle.std.proofs.Common.{All, sym, ap, ◌∙◌, inl, inr, arith, count_by}
 use Rattle.std.specs.List.{flat_map}
 use Rattle.std.specs.List.Sorted.{IsNonDecreasing, IsPermutation}
@@ -11,7 +12,8 @@ use Rattle.std.proofs.lemmas.List.Sums.{sum_by-cons}
 use Rattle.std.proofs.lemmas.Map.Keys.{IsDistinct-IsPermutation, IsStrictlyIncreasing-from_distinct}
 use Rattle.std.proofs.lemmas.Map.Made.{AllPairs-from_IsDistinct, IsDistinct-from_AllPairs}
 use Rattle.std.specs.Prelude.{nat_eq}
-use Rattle.ent_lists.specs.Elements.{In, Pairs, any_none, any_some, contains_in, in_contains, index_pairs, of_all, pairs_index, to_flat}
+use Rattle.ent_lists.specs.Elements.{In, Pairs, any_none, any_some, contains_in, in_contains, index_pairs, of_all}
+use Rattle.ent_lists.specs.Elements.{pairs_index, to_flat}
 use Rattle.ent_lists.proofs.Lists.{index_all}
 use Rattle.ent_meetings.specs.PartyMeeting.{IsClear, IsClosed, MeetAll, is_met, offers, ways}
 use Rattle.ent_meetings.specs.Pattern.{may_meet}
@@ -27,7 +29,8 @@ use Rattle.ent_meetings.proofs.Waiters.{closed_by, closed_meets, demanded_more, 
 -- the same tickets in another order
 pub within_permuted : (one other : List ℕ) → IsPermutation one other → IsWithin one other
 within_permuted one other moved =
-    within_by one other (λ ticket at. contains_in other ticket (Contains-permutation one other ticket moved (in_contains one ticket at)))
+    within_by one other (λ ticket at. contains_in other ticket
+    (Contains-permutation one other ticket moved (in_contains one ticket at)))
 
 pub distinct_permuted : (one other : List ℕ) → IsPermutation one other → Pairs (λ (a b : ℕ). a ≢ b) one
     → Pairs (λ (a b : ℕ). a ≢ b) other
@@ -95,7 +98,8 @@ module _ (waiting : Waiting) (root : ℕ) (found : List (List ℕ)) (clear cut :
       closed = closed;
     };
     by_arrival = IsStrictlyIncreasing-from_distinct sorted rises
-        (IsDistinct-from_AllPairs Decides-eqb sorted (pairs_index (λ (a b : ℕ). a ≢ b) sorted (distinct_permuted chosen sorted moved stand.distinct)));
+        (IsDistinct-from_AllPairs Decides-eqb sorted (pairs_index (λ (a b : ℕ). a ≢ b) sorted
+        (distinct_permuted chosen sorted moved stand.distinct)));
     bound = let bound = stand.bound in omega (arith, length_permutation chosen sorted moved);
   }
 
@@ -111,7 +115,8 @@ module _ (waiting : Waiting) (root : ℕ) (found : List (List ℕ)) (clear cut :
       (any_none (λ d. nat_lt 1 (ways (named waiting chosen) d)) (demands_of (named waiting chosen)) free demand
       (demanded_more waiting sorted chosen demand back demanded)) in
       let less = ways_more waiting sorted chosen demand (distinct_permuted chosen sorted moved stand.distinct) back in
-      let some_way = met_ways (named waiting sorted) demand (closed_meets (named waiting sorted) demand closed demanded) in
+      let some_way = met_ways (named waiting sorted) demand (closed_meets (named waiting sorted) demand closed
+      demanded) in
       omega arith))
 
 -- where a set is crowded, two offers may meet one demand

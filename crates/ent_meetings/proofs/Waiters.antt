@@ -84,7 +84,8 @@ module _ (waiting : Waiting) where
           → is_met (named waiting tickets) demand ≡ true
       by None who is' = cc
       by (Some party) who is' =
-          any_in (offers demand) (named waiting tickets) party (to_named (party_at waiting) tickets ticket party at who) is'
+          any_in (offers demand) (named waiting tickets) party
+          (to_named (party_at waiting) tickets ticket party at who) is'
 
   -- who may offer something waits
   pub giver_waits : (demand : Pattern) (ticket : ℕ) → offers_at waiting demand ticket ≡ true → Waits waiting ticket
@@ -95,7 +96,8 @@ module _ (waiting : Waiting) where
       by (Some party) is' = refl
 
   -- what some demand among those that are more
-  pub demanded_more : (one others : List ℕ) (demand : Pattern) → IsWithin one others → In demand (demands_of (named waiting one))
+  pub demanded_more : (one others : List ℕ) (demand : Pattern) → IsWithin one others
+      → In demand (demands_of (named waiting one))
       → In demand (demands_of (named waiting others))
   demanded_more one others demand all at =
       let from = in_flat (λ (party : Party). party.demands) (named waiting one) demand at in
@@ -127,7 +129,8 @@ closed_by parties none =
 -- one more ticket
 pub named_more : {X Y : Type 0} (f : X → Option Y) (xs : List X) (i : ℕ) (d : X) → i < length xs
     → filter_map f (take (i + 1) xs) ≡ filter_map f (take i xs) ++ cons_option (f (get_or xs i d)) []
-named_more f xs i d low = ap (filter_map f) (take_more xs i d low) ∙ filter_map-append f (take i xs) (get_or xs i d ∷ [])
+named_more f xs i d low = ap (filter_map f) (take_more xs i d low)
+    ∙ filter_map-append f (take i xs) (get_or xs i d ∷ [])
 
 -- where something is unmet, the set isn't
 pub unmet_opens : (parties : List Party) (demand : Pattern) → first_unmet parties ≡ Some demand → IsClosed parties → ⊥

@@ -1,5 +1,6 @@
 -- How many offers of a set may meet a demand.
-use Rattle.std.proofs.Common.{◌≡◌, ◌≢◌, ◌≤◌, ℕ, ◌+◌, cond, List, [], ◌∷◌, ◌++◌, Option, None, Some, All, refl, sym, ap, subst}
+use Rattle.std.proofs.Common.{◌≡◌, ◌≢◌, ◌≤◌, ℕ, ◌+◌, cond, List, [], ◌∷◌, ◌++◌, Option, None, Some, All, refl, sym, ap}
+use Rattle.std.proofs.Common.{subst}
 use Rattle.std.proofs.Common.{◌∙◌, inl, inr, arith, sum_by, count_by}
 use Rattle.std.specs.List.{cons_option, flat_map}
 use Rattle.std.specs.Option.{option_map_or}
@@ -61,10 +62,12 @@ ways_weigh : (waiting : Waiting) (demand : Pattern) (tickets : List ℕ)
 unfolding weight
 ways_weigh waiting demand [] = refl
 ways_weigh waiting demand (ticket ∷ tickets) =
-    by (party_at waiting ticket) (ways_weigh waiting demand tickets) ∙ sym (sum_by-cons (weight waiting demand) ticket tickets)
+    by (party_at waiting ticket) (ways_weigh waiting demand tickets)
+    ∙ sym (sum_by-cons (weight waiting demand) ticket tickets)
   where
     by : (who : Option Party) → ways (named waiting tickets) demand ≡ sum_by (weight waiting demand) tickets
-        → count_by (may_meet demand) (flat_map (λ (party : Party). party.offers) (cons_option who (named waiting tickets)))
+        → count_by (may_meet demand) (flat_map (λ (party : Party). party.offers)
+        (cons_option who (named waiting tickets)))
         ≡ option_map_or (λ (party : Party). count_by (may_meet demand) party.offers) who 0
         + sum_by (weight waiting demand) tickets
     by None rest = omega (arith, rest)

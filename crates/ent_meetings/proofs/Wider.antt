@@ -1,5 +1,6 @@
 -- Wider sets.
-use Rattle.std.proofs.Common.{◌≡◌, ◌≢◌, ◌<◌, ◌≤◌, ℕ, Bool, true, false, cond, List, [], ◌∷◌, Option, None, Some, All, Contains, IfSome, refl, ap, subst, ◌∙◌}
+use Rattle.std.proofs.Common.{◌≡◌, ◌≢◌, ◌<◌, ◌≤◌, ℕ, Bool, true, false, cond, List, [], ◌∷◌, Option, None, Some, All}
+use Rattle.std.proofs.Common.{Contains, IfSome, refl, ap, subst, ◌∙◌}
 use Rattle.std.proofs.Common.{◌⊎◌, inl, inr, arith, count_by}
 use Rattle.std.specs.List.{flat_map}
 use Rattle.std.specs.List.Sorted.{IsNonDecreasing, IsPermutation}
@@ -9,7 +10,8 @@ use Rattle.std.proofs.lemmas.List.Sorted.{IsPermutation-sym, length_permutation}
 use Rattle.std.proofs.lemmas.List.Sums.{sum_by-cons}
 use Rattle.std.proofs.lemmas.Map.Keys.{IsStrictlyIncreasing-from_distinct}
 use Rattle.std.proofs.lemmas.Map.Made.{IsDistinct-from_AllPairs}
-use Rattle.ent_lists.specs.Elements.{In, any_in, contains_in, in_contains, in_flat, index_pairs, pairs_by, pairs_index, to_flat}
+use Rattle.ent_lists.specs.Elements.{In, any_in, contains_in, in_contains, in_flat, index_pairs, pairs_by, pairs_index}
+use Rattle.ent_lists.specs.Elements.{to_flat}
 use Rattle.ent_lists.proofs.Lists.{of_index, index_all}
 use Rattle.ent_meetings.specs.PartyMeeting.{IsClear, IsClosed, MeetAll, is_met, offers, ways}
 use Rattle.ent_meetings.specs.Pattern.{may_meet}
@@ -138,7 +140,8 @@ module _ (waiting : Waiting) (root : ℕ) (meeting wider : List ℕ) (widened : 
                   of_index (Waits waiting) meeting ticket meets.stands.waits (contains_in meeting ticket before)
               | inr served ↦ served.waits
             ]);
-        has_root = in_contains wider root (within meeting wider root widened.kept (contains_in meeting root meets.stands.has_root));
+        has_root = in_contains wider root (within meeting wider root widened.kept
+            (contains_in meeting root meets.stands.has_root));
         closed = closed;
       };
       by_arrival = IsStrictlyIncreasing-from_distinct wider rises
@@ -182,7 +185,8 @@ ordered waiting tickets mid sorted slice widened runnable is same rises =
     }
 
 -- a meeting's tickets differ, and are no more than a run can have
-pub meeting_runs : (waiting : Waiting) (root : ℕ) (tickets : List ℕ) → IsMeeting waiting root tickets → IsRunnable tickets
+pub meeting_runs : (waiting : Waiting) (root : ℕ) (tickets : List ℕ) → IsMeeting waiting root tickets
+    → IsRunnable tickets
 meeting_runs waiting root tickets meets = record {
   distinct = pairs_by (λ (one other : ℕ). one < other) (λ (one other : ℕ). one ≢ other) tickets
       (λ one other low same. absurd (omega (arith, low, same)))

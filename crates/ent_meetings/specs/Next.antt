@@ -13,7 +13,8 @@ abbrev pub IsUpTo : Option ℕ → ℕ → Type 0
 IsUpTo None ticket = ⊥
 IsUpTo (Some last) ticket = ticket ≤ last
 
--- the answer is the next ticket that passes after one, of which `looks` candidates were to be looked at and `left` are left
+-- the answer is the next ticket that passes after one, of which `looks` candidates were to be looked at and `left` are
+-- left
 abbrev pub IsNext : (ℕ → Bool) → Option ℕ → ℕ → ℕ → Next → Type 0
 IsNext passes after looks left (Found ticket) = IsAfter after ticket × (passes ticket ≡ true)
     × ((other : ℕ) → IsAfter after other → other < ticket → passes other ≡ false)

@@ -1,5 +1,6 @@
 -- Under which keys who waits is posted.
-use Rattle.std.specs.Prelude.{ℕ, ◌≡◌, ◌==◌, Bool, true, false, ◌||◌, ◌&&◌, not, List, length, IsSome, None, slice_index_or}
+use Rattle.std.specs.Prelude.{ℕ, ◌≡◌, ◌==◌, Bool, true, false, ◌||◌, ◌&&◌, not, List, length, IsSome, None}
+use Rattle.std.specs.Prelude.{slice_index_or}
 use Rattle.std.specs.BTreeSet.{BTreeSet, contains}
 use Rattle.std.specs.Option.{option_map_or}
 use Rattle.std.specs.Ordering.{nat_cmp, ordering_then}
@@ -33,7 +34,8 @@ Posts ticket passes old new =
 -- it is posted under some of them
 pub record PostsSome (ticket : ℕ) (passes : ℕ → Bool) (old new : Postings) : Type 0 where
   pub kept : (key other : ℕ) → has old key other ≡ true → has new key other ≡ true
-  pub added : (key other : ℕ) → has new key other ≡ true → (has old key other || is_among ticket passes key other) ≡ true
+  pub added : (key other : ℕ) → has new key other ≡ true → (has old key other || is_among ticket passes key
+      other) ≡ true
 
 -- the ticket isn't posted under these keys any more
 abbrev pub Unposts : ℕ → (ℕ → Bool) → Postings → Postings → Type 0
@@ -60,5 +62,6 @@ agrees_at postings pattern place ticket =
 
 -- it is so at each known term, and behind the last
 pub record Agrees (postings : Postings) (pattern : Pattern) (ticket : ℕ) : Type 0 where
-  pub at : (place : ℕ) → IsSome (slice_index_or pattern.terms place None) → agrees_at postings pattern place ticket ≡ true
+  pub at : (place : ℕ) → IsSome (slice_index_or pattern.terms place None)
+      → agrees_at postings pattern place ticket ≡ true
   pub behind : agrees_at postings pattern (length pattern.terms) ticket ≡ true

@@ -1,5 +1,6 @@
 -- A search for the meetings of a root.
-use Rattle.std.specs.Prelude.{ℕ, suc, ◌≡◌, ◌<◌, ◌≤◌, Bool, true, false, All, Contains, List, [], ◌∷◌, ◌++◌, ◌⊎◌, length, map}
+use Rattle.std.specs.Prelude.{ℕ, suc, ◌≡◌, ◌<◌, ◌≤◌, Bool, true, false, All, Contains, List, [], ◌∷◌, ◌++◌, ◌⊎◌, length}
+use Rattle.std.specs.Prelude.{map}
 use Rattle.std.specs.Prelude.{Option, None, Some}
 use Rattle.std.specs.Cmp.Lexicographic.{slice_cmp}
 use Rattle.std.specs.Ordering.{nat_cmp}

@@ -38,5 +38,6 @@ IsStep waiting old new (Some meeting) = IsStand waiting new × (new.root ≡ old
 abbrev pub IsRest : Waiting → Search → Found → Type 0
 IsRest waiting search (Meeting meeting) = ⊥
 IsRest waiting search Lonely = (found_of search ≡ []) × IsLonely waiting search.root
-IsRest waiting search Nobody = (others : List ℕ) → IsMeeting waiting search.root others → HasOneOf (found_of search) others
+IsRest waiting search Nobody = (others : List ℕ) → IsMeeting waiting search.root others
+    → HasOneOf (found_of search) others
 IsRest waiting search (Stopped bound) = ⊥

@@ -196,8 +196,8 @@ impl Index {
         Next::Stopped(last)
     }
 
-    /// The next one after a ticket, or the first of all, who may offer what is demanded. `looks` says how many candidates
-    /// may be looked at, and counts down.
+    /// The next one after a ticket, or the first of all, who may offer what is demanded. `looks` says how many
+    /// candidates may be looked at, and counts down.
     pub fn next_offerer(&self, demand: &Pattern, after: Option<u64>, looks: &mut usize) -> Next
         ensures next { IsNext (offers_at self.now demand.now) after looks.old looks.new result }
         ensures looks { looks.new ≤ looks.old }

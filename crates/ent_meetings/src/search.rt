@@ -23,7 +23,8 @@ pub const MOST_CHOICES: usize = 8;
 pub const MOST_LOOKS: usize = 4_096;
 
 /// A search for the meetings of one root among those who wait. It keeps the meetings that it handed out, and where it
-/// stands, so that it goes on there. It holds for an index that doesn't change meanwhile: at a changed one make another.
+/// stands, so that it goes on there. It holds for an index that doesn't change meanwhile: at a changed one make
+/// another.
 ///
 /// It begins with the root. For the first demand that nobody of the chosen may meet, it chooses who has waited longest
 /// of those who may, and goes back where that leads nowhere. A first pass is for clear sets, a second for all.

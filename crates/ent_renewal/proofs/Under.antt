@@ -24,8 +24,10 @@ looked_up (first ∷ names) (rows ∷ tables) name = by (same_name first name) (
     by true rest = refl
     by false rest = rest
 
-pub found_by_name : {T : Type 0} (rows_of : T → Rows) (found : Option T) (names : List Name) (tables : Tables) (name : Name)
+pub found_by_name : {T : Type 0} (rows_of : T → Rows) (found : Option T) (names : List Name) (tables : Tables)
+    (name : Name)
     → option_map rows_of found ≡ rows_under names tables name
-    → MatchOption found (named_tables names tables name ≡ set.empty) (λ table. named_tables names tables name ≡ rows_of table)
+    → MatchOption found (named_tables names tables name ≡ set.empty)
+    (λ table. named_tables names tables name ≡ rows_of table)
 found_by_name rows_of None names tables name e = looked_up names tables name ∙ ap rows_or_none (sym e)
 found_by_name rows_of (Some table) names tables name e = looked_up names tables name ∙ ap rows_or_none (sym e)

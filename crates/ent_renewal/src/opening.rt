@@ -87,8 +87,9 @@ pub fn renewed_opening(alloc: Global, book: &FinishedBook) -> Result<Opening, Re
     opening_over(alloc, &book.opening.tables, &book.database)
 }
 
-/// An opening of the declarations of another, whose rows are those of these tables, but that the named tables are empty:
-/// a core that is opened over it goes on where the others stand. Its rows stand in no text, so their places are 0.
+/// An opening of the declarations of another, whose rows are those of these tables, but that the named tables are
+/// empty: a core that is opened over it goes on where the others stand. Its rows stand in no text, so their places are
+/// 0.
 pub fn drained_opening<T: TablesByName>(
     alloc: Global,
     opening: &Opening,

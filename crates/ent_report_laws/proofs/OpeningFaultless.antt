@@ -25,7 +25,8 @@ use Rattle.ent_form.specs.declared.fault.FormFault.TheVariants.{Arity, NoTable, 
 use Rattle.ent_history.specs.Told.{opening_row, told_opening, told_rows}
 use Rattle.ent_lists.specs.Elements.{In, Pairs, in_either, in_flat, of_all, of_map, to_all}
 use Rattle.ent_report_laws.proofs.Faultless.{not_among}
-use Rattle.ent_report_laws.proofs.OpeningDeclared.{Rises, names_rise, other_name, shown_declared, tables_rise, tables_told}
+use Rattle.ent_report_laws.proofs.OpeningDeclared.{Rises, names_rise, other_name, shown_declared, tables_rise}
+use Rattle.ent_report_laws.proofs.OpeningDeclared.{tables_told}
 use Rattle.ent_report_laws.proofs.Faults.{found_alike, found_schema}
 use Rattle.ent_report_laws.proofs.Rows.{row_itself, row_stands}
 

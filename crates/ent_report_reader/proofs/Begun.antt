@@ -338,7 +338,8 @@ module _ (draft : Draft) (text : List ℕ) (next : Draft) where
       (begun_by a m t are
       ∙ (λ i. picked (same (length a) i) (same (last_count a) i) (same (length m) i) (same (last_count m) i) (same t i)
       (in_counts a m t)))
-      (moved next.told a m t are (λ b n u. (thing : Thing) → IsAmong b n u thing → IsAmong a m t thing) (λ thing is. is))
+      (moved next.told a m t are (λ b n u. (thing : Thing) → IsAmong b n u thing → IsAmong a m t thing)
+      (λ thing is. is))
 
   transaction : TxStands draft text next → Noted draft text next
   transaction s =
@@ -367,8 +368,12 @@ module _ (draft : Draft) (text : List ℕ) (next : Draft) where
       ∙ (λ i. picked (alike (length a) (length (grown a)) longer i)
       (less (last_count a) (last_count (grown a)) last i)
       (nat_lt (length m) (length m)) (nat_lt (last_count m) (last_count m)) (nat_lt t t) after)
-      ∙ (λ i. Some (things.Answer (longer i) (next_number (last_count a) (last_count (grown a)) last i))))
-      (s, length-map draft.told.transactions answers_of, some, ap (λ n. n + 1) (sym (answers_are draft.told.transactions)))
+      ∙ (λ i. Some (things.Answer (longer i) (next_number (last_count a) (last_count (grown a)) last i)))) (
+        s,
+        length-map draft.told.transactions answers_of,
+        some,
+        ap (λ n. n + 1) (sym (answers_are draft.told.transactions)),
+      )
       (only_by _ _ _ _ are (only_answer a m t))
     where
       next_number : (n k : ℕ) → k ≡ suc n → k ≡ n + 1
@@ -400,8 +405,12 @@ module _ (draft : Draft) (text : List ℕ) (next : Draft) where
       (begun_by _ _ _ are
       ∙ (λ i. picked (same (length a) i) (same (last_count a) i) (alike (length m) (length (grown m)) longer i)
       (less (last_count m) (last_count (grown m)) last i) (nat_lt t t) after)
-      ∙ (λ i. Some (things.Member (longer i) (next_number (last_count m) (last_count (grown m)) last i))))
-      (s, length-map draft.told.joint_answers members_of, some, ap (λ n. n + 1) (sym (members_are draft.told.joint_answers)))
+      ∙ (λ i. Some (things.Member (longer i) (next_number (last_count m) (last_count (grown m)) last i)))) (
+        s,
+        length-map draft.told.joint_answers members_of,
+        some,
+        ap (λ n. n + 1) (sym (members_are draft.told.joint_answers)),
+      )
       (only_by _ _ _ _ are (only_member a m t))
     where
       next_number : (n k : ℕ) → k ≡ suc n → k ≡ n + 1
@@ -473,4 +482,5 @@ module _ (draft : Draft) (text : List ℕ) (next : Draft) where
       (part_is_told m number member (b.1 ∙ sym (length-map draft.told.joint_answers members_of)) b.2
       (b.3 ∙ ap (λ n. n + 1) (members_are draft.told.joint_answers)))
   is_told (things.Table number) b =
-      told_by a m (suc t) (things.Table number) (more_tables draft text next b.0) (omega (arith, b.1), omega (arith, b.1))
+      told_by a m (suc t) (things.Table number) (more_tables draft text next b.0)
+      (omega (arith, b.1), omega (arith, b.1))

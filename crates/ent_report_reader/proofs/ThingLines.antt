@@ -1,11 +1,13 @@
 -- The lines of all things that are told, piece by piece.
-use Rattle.std.proofs.Common.{◌≡◌, ◌≢◌, ◌⊎◌, ◌<◌, ◌+◌, ◌-◌, ℕ, List, [], ◌∷◌, ◌++◌, length, map, take, refl, sym, ap, ◌∙◌}
+use Rattle.std.proofs.Common.{◌≡◌, ◌≢◌, ◌⊎◌, ◌<◌, ◌+◌, ◌-◌, ℕ, List, [], ◌∷◌, ◌++◌, length, map, take, refl, sym, ap}
+use Rattle.std.proofs.Common.{◌∙◌}
 use Rattle.std.proofs.Common.{arith, inl, inr, subst, Option, Some, None, Contains, length-append}
 use Rattle.std.proofs.Common.{slice_index_or}
 use Rattle.std.specs.List.{AllByRecursion}
 use Rattle.std.specs.Prelude.{IfNone, IfSome}
 use Rattle.std.proofs.lemmas.Option.{same_Some}
-use Rattle.ent_lists.specs.Elements.{In, all_joined, contains_in, in_contains, in_first, in_second, nth_in, of_all, of_map}
+use Rattle.ent_lists.specs.Elements.{In, all_joined, contains_in, in_contains, in_first, in_second, nth_in, of_all}
+use Rattle.ent_lists.specs.Elements.{of_map}
 use Rattle.ent_book.specs.Report2.{line_count}
 use Rattle.ent_history.specs.declared.finding.Thing.{Thing}
 use Rattle.ent_history.specs.declared.finding.Thing.TheVariants as things
@@ -62,7 +64,8 @@ none_told text = record { each = tt; all = λ thing is. absurd (no_thing thing i
 abbrev thing_of : Located → Thing
 thing_of located = located.thing
 
-things_behind : (lines : List Located) (one : Located) → map thing_of (lines ++ one ∷ []) ≡ map thing_of lines ++ one.thing ∷ []
+things_behind : (lines : List Located) (one : Located) → map thing_of (lines ++ one ∷ [])
+    ≡ map thing_of lines ++ one.thing ∷ []
 things_behind [] one = refl
 things_behind (first ∷ lines) one = ap (λ more. first.thing ∷ more) (things_behind lines one)
 

@@ -2,9 +2,9 @@
 //!
 //! A [`Room`] takes scripts by their text, under tickets. [`Room::step`] makes at most two runs: the ordinary scripts
 //! that wait, and then meetings, which are scripts that need nobody else. Who isn't answered waits again, until it
-//! gives up or its client takes it back. [`Room::groups`] tells what committed, with all that it changed. What may become
-//! of a ticket, what a step submits, and what the groups tell, are contracts of `ent_admission`; in which order those who
-//! wait are served is told in docs/ROOM.md, and promised by no clause.
+//! gives up or its client takes it back. [`Room::groups`] tells what committed, with all that it changed. What may
+//! become of a ticket, what a step submits, and what the groups tell, are contracts of `ent_admission`; in which order
+//! those who wait are served is told in docs/ROOM.md, and promised by no clause.
 #![tactic(auto)]
 
 mod batch;

@@ -161,9 +161,9 @@ impl Room {
 
     /// A room over the text of an input: its declarations, its opening rows and, behind them, the given ones; and its
     /// scripts. These wait in order, the first under the ticket `next`, each for as many batches as its WITHIN says.
-    /// The first epoch has this number, and the first group of the feed the number `next_group`. It tells the first fault
-    /// of the text; else too many rows, or the first of the given ones that doesn't fit; else that more scripts stand
-    /// there than may wait.
+    /// The first epoch has this number, and the first group of the feed the number `next_group`. It tells the first
+    /// fault of the text; else too many rows, or the first of the given ones that doesn't fit; else that more scripts
+    /// stand there than may wait.
     pub fn read(
         alloc: Global,
         text: &[u8],

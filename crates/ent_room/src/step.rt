@@ -291,9 +291,9 @@ impl Room {
     }
 
     /// Makes at most two runs: first of the ordinary scripts that wait, then of meetings. Each script is submitted for
-    /// one run, and each run is made to its end; who has no fate of its own then waits again, or gives up. After each run
-    /// the feed tells what came of it. Where memory runs out, or no number is left, what was done stands, and the next
-    /// step goes on there. After an idle step all who wait rest.
+    /// one run, and each run is made to its end; who has no fate of its own then waits again, or gives up. After each
+    /// run the feed tells what came of it. Where memory runs out, or no number is left, what was done stands, and the
+    /// next step goes on there. After an idle step all who wait rest.
     pub fn step(&mut self) -> Result<Stepped, Refusal<NotStepped>>
         ensures advances { Advances self.old self.new }
         ensures at_rest { OnOk result (IsAtRest self.new.admission) }

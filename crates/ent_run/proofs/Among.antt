@@ -1,5 +1,6 @@
 -- Whether a member of a number is in a list.
-use Rattle.std.proofs.Common.{◌≡◌, ℕ, Bool, true, false, ◌||◌, if◌then◌else◌, List, [], ◌∷◌, is_some, refl, sym, ap, ◌∙◌}
+use Rattle.std.proofs.Common.{◌≡◌, ℕ, Bool, true, false, ◌||◌, if◌then◌else◌, List, [], ◌∷◌, is_some, refl, sym, ap}
+use Rattle.std.proofs.Common.{◌∙◌}
 use Rattle.std.specs.Prelude.{IfSome, IsNone, None, Option, Some, filter}
 use Rattle.std.specs.List.{list_any}
 use Rattle.ent_protocol.specs.Member.{is_tx}

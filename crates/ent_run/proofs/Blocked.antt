@@ -149,7 +149,8 @@ module _ (locks : Uses) (prepared active : List Member) (run : IsLockedRun locks
         ),
       )
 
-  pub blocker_is : (asked : List Use) (result : Option ℕ) (s : State) → IsLeastIfAny (BlocksUses locks asked test) result
+  pub blocker_is : (asked : List Use) (result : Option ℕ) (s : State)
+      → IsLeastIfAny (BlocksUses locks asked test) result
       → result ≡ blocker (with_run (run_of prepared active) s) asker asked
   blocker_is asked result s is =
       one_least (Contains (map tx_of (filter (is_conflicting asked) others))) result

@@ -180,11 +180,12 @@ run_changed locks next prepared old new change asked tx member run is changes nu
         λ holds. subst (λ ms. IsHeld (prepared ++ ms) v (use_of table mode)) (sym same)
             (held_by_either prepared (map (replaced (change member)) old) v (use_of table mode)
             (elim ((more v table mode).0 holds) [
-              | inl before ↦ elim (held_by_one prepared old v (use_of table mode) ((run.locked v table mode).0 before)) [
-                | inl first ↦ inl first
-                | inr second ↦ inr (held_after change asked old member run.run.distinct there adds v (use_of table mode)
-                    (inl second))
-              ]
+              | inl before ↦ elim (held_by_one prepared old v (use_of table mode)
+                  ((run.locked v table mode).0 before)) [
+                    | inl first ↦ inl first
+                    | inr second ↦ inr (held_after change asked old member run.run.distinct there adds v
+                        (use_of table mode) (inl second))
+                  ]
               | inr now ↦ inr (held_after change asked old member run.run.distinct there adds v (use_of table mode)
                   (inr (now.0 ∙ sym own_tx, now.1)))
             ])),

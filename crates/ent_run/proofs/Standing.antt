@@ -1,5 +1,6 @@
 -- Members by the groups' own list of them.
-use Rattle.std.proofs.Common.{◌≡◌, ◌⊎◌, inl, inr, ℕ, zero, suc, ◌<◌, Bool, true, false, ◌==◌, ◌&&◌, if◌then◌else◌, List, [], ◌∷◌, ◌++◌}
+use Rattle.std.proofs.Common.{◌≡◌, ◌⊎◌, inl, inr, ℕ, zero, suc, ◌<◌, Bool, true, false, ◌==◌, ◌&&◌, if◌then◌else◌, List}
+use Rattle.std.proofs.Common.{[], ◌∷◌, ◌++◌}
 use Rattle.std.proofs.Common.{map, refl, sym, ap, subst, ◌∙◌, arith, true≢false}
 use Rattle.std.specs.Prelude.{All, Contains, Option, None, Some}
 use Rattle.std.specs.List.{AllByRecursion, list_any}
@@ -37,7 +38,8 @@ pub found_label : (groups : List Membership) (own : Membership) → IsByNumber g
     → group_of groups own.member ≡ Some own.group
 found_label [] own by there = absurd (contains_none own there)
 found_label (m ∷ ms) own by there =
-    by_cases (found_label ms own (λ i j d below within. by (suc i) (suc j) d (omega (arith, below)) (omega (arith, within))))
+    by_cases (found_label ms own (λ i j d below within. by (suc i) (suc j) d (omega (arith, below))
+    (omega (arith, within))))
     (contains_cases m own ms there)
   where
     by_cases : (Contains ms own → group_of ms own.member ≡ Some own.group) → (m ≡ own) ⊎ Contains ms own

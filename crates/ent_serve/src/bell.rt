@@ -94,8 +94,8 @@ impl Bell {
         let _before = self.submitting.fetch_sub(1, Ordering::SeqCst);
     }
 
-    /// Gives way to whoever submits, for a short time: who works asks for the core again and again, so that somebody who
-    /// asks for it once might wait long.
+    /// Gives way to whoever submits, for a short time: who works asks for the core again and again, so that somebody
+    /// who asks for it once might wait long.
     pub(crate) fn give_way(&self) {
         for _ in 0..MOST_LOOKS {
             if self.submitting.load(Ordering::SeqCst) == 0 {

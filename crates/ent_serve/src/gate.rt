@@ -12,8 +12,8 @@ const FEW_STATEMENTS: usize = 8;
 pub trait Gate: Drop {
     fn before(&self, job: &Job);
 
-    /// Whether `before`, or the evaluation behind it, may take long. Then another worker of `serve` goes on meanwhile; so
-    /// it is to be true where `before` waits for what others do.
+    /// Whether `before`, or the evaluation behind it, may take long. Then another worker of `serve` goes on meanwhile;
+    /// so it is to be true where `before` waits for what others do.
     fn takes_long(&self, job: &Job) -> bool;
 }
 

@@ -32,8 +32,8 @@ pub struct NotRenewed<L: Naming, G: Gate> {
 }
 
 impl<L: Naming, G: Gate> Manager<L, G> {
-    /// Ends an epoch and begins the next one, where all sessions are given and every transaction has its fate: the book,
-    /// as [`Manager::close`] gives it, and the manager with its sessions, which goes on where the tables stand.
+    /// Ends an epoch and begins the next one, where all sessions are given and every transaction has its fate: the
+    /// book, as [`Manager::close`] gives it, and the manager with its sessions, which goes on where the tables stand.
     /// Transactions are numbered from 1 again. The sessions hold no tickets and no receipts, and the first one that is
     /// given keeps the new opening: so read before what is wanted of them. Else the manager and the sessions come back,
     /// as they were, with the reason. It waits for nobody.

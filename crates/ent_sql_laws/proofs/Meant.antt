@@ -45,7 +45,8 @@ use Rattle.ent_semantics.specs.Database.{with_value, with_values, table_named, T
 use Rattle.ent_semantics.specs.Effect.{Effect, changed, or_overflow, replacement, setting, shown, insertion, deletion}
 use Rattle.ent_semantics.specs.Entangled.{Valuation, first_of_each, term_variables, condition_terms, head_terms}
 use Rattle.ent_semantics.specs.Entangled.{written_variables, variable_value, term_value, term_worth, facts, heads}
-use Rattle.ent_semantics.specs.Entangled.{condition_posts, posts, condition_holds, is_grounding, item_binds, bound_values}
+use Rattle.ent_semantics.specs.Entangled.{condition_posts, posts, condition_holds, is_grounding, item_binds}
+use Rattle.ent_semantics.specs.Entangled.{bound_values}
 use Rattle.ent_semantics.specs.Names.{equal_names, name_itself}
 use Rattle.ent_semantics.specs.Selection.{compares, holds, meets, selection, item_row, source_rows, select_rows}
 use Rattle.ent_semantics.specs.Serial.{Operation, Run, after, answered_first, ended, is_entangled, operation_first}
@@ -322,7 +323,8 @@ first_free variables name more free = free name (ap (λ b. b || is_among more na
 
 beside : (variables : List BoundVariable) (environment : Environment) (name : Name) (value : Value)
     → value_bound variables name ≡ None
-    → with_value (with_bound variables environment) name value ≡ with_bound variables (with_value environment name value)
+    → with_value (with_bound variables environment) name value
+    ≡ with_bound variables (with_value environment name value)
 beside variables environment name value none = λ i other. at other (same_name name other) refl i
   where
     at : (other : Name) (t : Bool) → same_name name other ≡ t
@@ -633,7 +635,8 @@ free_behind : (x : Script) (earlier variables : List BoundVariable) → fault_be
     → (name : Name) → is_set x name ≡ true → find (λ variable. same_name variable.name name) variables ≡ None
 free_behind x earlier [] none name sets = refl
 free_behind x earlier (variable ∷ more) none name sets =
-    let parts = no_first (variable_fault x earlier variable.name) (fault_behind x (earlier ++ variable ∷ []) more) none in
+    let parts = no_first (variable_fault x earlier variable.name)
+    (fault_behind x (earlier ++ variable ∷ []) more) none in
     by (same_name variable.name name) refl parts.0 (free_behind x (earlier ++ variable ∷ []) more parts.1 name sets)
   where
     by : (t : Bool) → same_name variable.name name ≡ t → variable_fault x earlier variable.name ≡ None

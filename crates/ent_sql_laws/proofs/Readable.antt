@@ -294,7 +294,8 @@ module _ (making : Making) (value : Prints specification_spelling making) where
                 (
                   front.0,
                   both (flat_map line_spelling x.statements) end
-                      (flat_map line_spelling (map (statement_over making) x.statements)) end (lines_print x.statements) (λ h. h)
+                      (flat_map line_spelling (map (statement_over making) x.statements)) end (lines_print x.statements)
+                      (λ h. h)
                       front.1,
                 ),
               ),

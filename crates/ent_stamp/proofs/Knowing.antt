@@ -1,5 +1,6 @@
 -- Stamps are those of lent jobs, also behind changes of these.
-use Rattle.std.proofs.Common.{◌≡◌, ◌+◌, ◌++◌, ◌<◌, ◌≤◌, ◌-◌, ◌∙◌, ℕ, zero, suc, Bool, true, false, not, cond, List, [], ◌∷◌}
+use Rattle.std.proofs.Common.{◌≡◌, ◌+◌, ◌++◌, ◌<◌, ◌≤◌, ◌-◌, ◌∙◌, ℕ, zero, suc, Bool, true, false, not, cond, List, []}
+use Rattle.std.proofs.Common.{◌∷◌}
 use Rattle.std.proofs.Common.{Option, Some, None, IfSome, ap, arith, length, refl, slice_get, subst, sym}
 use Rattle.std.specs.Option.{SomeIff}
 use Rattle.std.specs.List.{remove}
@@ -166,7 +167,8 @@ known_left gone older count stamps left jobs is long are =
     subst (λ n. AreStampsBehind n left (jobs_left_by gone jobs)) same here
 
 -- a job that is lent stands among them
-pub known_within : (older : ℕ) (stamps : List LentStamp) (jobs : List Job) (index : ℕ) → AreStampsBehind older stamps jobs
+pub known_within : (older : ℕ) (stamps : List LentStamp) (jobs : List Job) (index : ℕ)
+    → AreStampsBehind older stamps jobs
     → index < length jobs → index < older + length stamps
 known_within older stamps jobs index are within =
     let all : length jobs ≡ older + length stamps =
@@ -197,7 +199,8 @@ module _ (job : Job) (lent : LentStamp) (same : (own : Job) → IsStampOf lent.0
       subst (λ n. slice_get jobs n ≡ Some job) (plus_is older place) (all_at older place stamps jobs are at)
 
 -- a stamp that is the same as one that is kept is of the job at the place of this one
-pub index_known : (P : Type 0) (older place : ℕ) (stamps : List LentStamp) (stamp : Stamp) (lent : LentStamp) (index : Option ℕ)
+pub index_known : (P : Type 0) (older place : ℕ) (stamps : List LentStamp) (stamp : Stamp) (lent : LentStamp)
+    (index : Option ℕ)
     → slice_get stamps place ≡ Some lent
     → ((one two : Job) → IsStampOf lent.0 one → IsStampOf stamp two → one ≡ two)
     → SomeIff index P (older + place)

@@ -1,5 +1,6 @@
 -- Stamps of lent jobs: places in one log of jobs, which only grows.
-use Rattle.std.specs.Prelude.{◌≡◌, ◌==◌, ℕ, zero, suc, Bool, true, not, List, [], ◌∷◌, Option, Some, None, IfSome, filter}
+use Rattle.std.specs.Prelude.{◌≡◌, ◌==◌, ℕ, zero, suc, Bool, true, not, List, [], ◌∷◌, Option, Some, None, IfSome}
+use Rattle.std.specs.Prelude.{filter}
 use Rattle.std.specs.Prelude.{length, slice_get}
 use Rattle.std.specs.List.{list_any}
 use Rattle.logbook.specs.Pages.{Book, Cell, Named, Step, View}

@@ -1,7 +1,7 @@
 //! Stamps of lent jobs: what has one stamp of a manager is of one job.
 //!
-//! A manager has a log of jobs, which exists in proofs alone. A stamp is a place in it, so who compares two stamps knows
-//! as much as who compares the two jobs, rows and all.
+//! A manager has a log of jobs, which exists in proofs alone. A stamp is a place in it, so who compares two stamps
+//! knows as much as who compares the two jobs, rows and all.
 ghost use Rattle.std.specs.Prelude.{◌≡◌, IsTrue};
 ghost use Rattle.ent_stamp.specs.Stamps.{IsStampOf, head_of};
 ghost use Rattle.ent_protocol.specs.Job.{Job as Seen};

@@ -66,6 +66,7 @@ module _ (known : Known) (thing : Thing) where
 pub stands_once : Known → (text : List ℕ) (thing : Thing) (one other : ℕ) → StandsAt text thing one
     → StandsAt text thing other → one ≡ other
 stands_once known text thing one other s o =
-    let same = same_above known thing blank s.before o.before s.after o.after s.above o.above s.own o.own s.below o.below
+    let same = same_above known thing blank s.before o.before s.after o.after s.above o.above s.own o.own
+    s.below o.below
     s.stand o.stand s.begins o.begins (sym s.parts ∙ o.parts) in
     s.line_is ∙ ap (λ (pieces : List (List ℕ)). line_count (whole pieces) + 1) same ∙ sym o.line_is

@@ -1,6 +1,8 @@
 -- Those who ended, of whom the last are kept.
-use Rattle.std.proofs.Common.{◌≡◌, ◌∙◌, ◌≤◌, ◌-◌, ◌==◌, ℕ, zero, suc, Bool, true, false, cond, List, [], ◌∷◌, ◌++◌, refl}
-use Rattle.std.proofs.Common.{sym, ap, subst, Option, Some, None, map, length, nat_eq, drop, arith, inl, inr, ⊎_elim, ◌⊎◌}
+use Rattle.std.proofs.Common.{◌≡◌, ◌∙◌, ◌≤◌, ◌-◌, ◌==◌, ℕ, zero, suc, Bool, true, false, cond, List, [], ◌∷◌, ◌++◌}
+use Rattle.std.proofs.Common.{refl}
+use Rattle.std.proofs.Common.{sym, ap, subst, Option, Some, None, map, length, nat_eq, drop, arith, inl, inr, ⊎_elim}
+use Rattle.std.proofs.Common.{◌⊎◌}
 use Rattle.std.proofs.Common.{length-drop}
 use Rattle.std.specs.Option.{option_or}
 use Rattle.std.specs.List.{AllByRecursion, IsDistinct}
@@ -62,7 +64,8 @@ dropped t (suc k) [] once = inl refl
 dropped t (suc k) (one ∷ more) once =
     ⊎_elim
     (λ yes.
-    let none = none_found t more (subst (λ (n : ℕ). AllByRecursion (λ other. nat_eq n other ≡ false) (map ticket_of more))
+    let none = none_found t more (subst (λ (n : ℕ). AllByRecursion (λ other. nat_eq n other ≡ false)
+    (map ticket_of more))
     (eqb-true one.ticket t yes) once.0) in
     inr (⊎_elim (λ same. same ∙ none) (λ gone. gone) (dropped t k more once.1)))
     (λ no.
@@ -104,7 +107,8 @@ once_more (first ∷ more) one once all =
 
 -- ---- one that ends
 
-module _ (most : ℕ) (ended : List Ended) (one : Ended) (once : EndOnce ended) (none : ended_of one.ticket ended ≡ None) where
+module _ (most : ℕ) (ended : List Ended) (one : Ended) (once : EndOnce ended)
+    (none : ended_of one.ticket ended ≡ None) where
   abbrev now : List Ended
   now = last_of most (ended ++ one ∷ [])
 

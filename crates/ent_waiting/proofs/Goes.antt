@@ -2,7 +2,8 @@
 use Rattle.std.proofs.Common.{◌≡◌, ◌⊎◌, ◌≤◌, ◌<◌, ◌+◌, ℕ, ◌==◌, Bool, true, false, cond, not, List, [], ◌∷◌, ◌++◌}
 use Rattle.std.proofs.Common.{refl, sym, ap, subst, ◌∙◌, inl, inr, arith}
 use Rattle.std.proofs.lemmas.Bool.{cases_lt, cases_eq}
-use Rattle.ent_lists.specs.Elements.{In, in_first, in_second, of_map, to_map, to_filter, same_number, other_number, filter_joined}
+use Rattle.ent_lists.specs.Elements.{In, in_first, in_second, of_map, to_map, to_filter, same_number, other_number}
+use Rattle.ent_lists.specs.Elements.{filter_joined}
 use Rattle.ent_waiting.specs.Store.{Waiter, Ended, Waits, HasEnded}
 use Rattle.ent_waiting.specs.World.{without, left_by}
 use Rattle.ent_waiting.proofs.Times.{times, times_joined, times_same, times_other, times_in, times_gone, times_left}

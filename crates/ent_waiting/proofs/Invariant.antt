@@ -16,7 +16,8 @@ groups_in history = flat_map (λ write. write.groups) history
 
 -- the members of groups have ended
 abbrev pub AreWhole : {C E : Type 0} → List (Group C E) → List (Ended E) → Type 0
-AreWhole {C = C} {E = E} groups ended = (group : Group C E) (one : Ended E) → In group groups → In one group.members → In one ended
+AreWhole {C = C} {E = E} groups ended = (group : Group C E) (one : Ended E) → In group groups → In one group.members
+    → In one ended
 
 -- a write of this version went through
 pub record IsDone {C S E : Type 0} (history : List (Write C S E)) (known : Version) : Type 0 where
@@ -49,7 +50,8 @@ module _ {T C S E : Type 0} where
     pub next : own.next ≡ store.next
 
   -- the store has all that it did since its last write
-  pub record Through (store : Store T S E) (history : List (Write C S E)) (claim : ℕ) (own : Claimant T C S E) : Type 0 where
+  pub record Through (store : Store T S E) (history : List (Write C S E)) (claim : ℕ) (own : Claimant T C S E) :
+      Type 0 where
     pub busy : IsBusy own
     pub done : In (asked claim own) history
     pub given : (waiter : Waiter S) → In waiter own.given → Stays store.waiting store.ended waiter
@@ -83,7 +85,8 @@ module _ {T C S E : Type 0} where
     pub number : write.claim ≡ store.claim → write.number ≤ store.write + 1
     pub fits : Fits store write → Continues store write
 
-  pub record HasGroups (changed : C → T → T) (first : T) (store : Store T S E) (history : List (Write C S E)) : Type 0 where
+  pub record HasGroups (changed : C → T → T) (first : T) (store : Store T S E) (history : List (Write C S E)) :
+      Type 0 where
     pub tables : store.tables ≡ tables_after changed (groups_in history) first
     pub follow : FollowOn 0 (groups_in history)
     pub last : store.group ≡ last_group (groups_in history) 0

@@ -11,7 +11,8 @@ use Rattle.std.specs.BTreeMap.{is_at}
 use Rattle.std.specs.Ordering.{nat_cmp}
 use Rattle.ent_waiting.specs.Ended.{ended_of, last_of}
 use Rattle.ent_waiting.specs.Queues.{IsEmpty, MakesAt, has, same_rank, stands_in}
-use Rattle.ent_waiting.specs.WaitingList.{AreQueued, IsKept, IsUsed, MayComeBack, Onward, UpdatesAt, WaitingList, is_stationed, waits_idle, waiter_of}
+use Rattle.ent_waiting.specs.WaitingList.{AreQueued, IsKept, IsUsed, MayComeBack, Onward, UpdatesAt, WaitingList}
+use Rattle.ent_waiting.specs.WaitingList.{is_stationed, waits_idle, waiter_of}
 use Rattle.ent_waiting.specs.declared.ended.Ended.{Ended}
 use Rattle.ent_waiting.specs.declared.queues.Queues.{Queues}
 use Rattle.ent_waiting.specs.declared.queues.Rank.{Rank}
@@ -43,18 +44,21 @@ kept_empty list queues none_waits none_ended given empty =
       few = subst (λ (es : List Ended). length es ≤ list.most_ended) (sym none_ended) (omega arith);
     }
 
-cond_queued : (here : Bool) (station : Station) (value found : Option Waiter) (there : Bool) → there ≡ is_stationed station found
+cond_queued : (here : Bool) (station : Station) (value found : Option Waiter) (there : Bool) → there
+    ≡ is_stationed station found
     → cond here (is_stationed station value) there ≡ is_stationed station (cond here value found)
 cond_queued true station value found there e = refl
 cond_queued false station value found there e = e
 
 -- a ticket has another waiter, or none, and is in just the queues of that
 pub queued_at : (old new : List (ℕ × Waiter)) (first last : Queues) (ticket : ℕ) (value : Option Waiter)
-    → AreQueued old first → UpdatesAt ticket value old new → MakesAt ticket (λ station. is_stationed station value) first last
+    → AreQueued old first → UpdatesAt ticket value old new → MakesAt ticket (λ station. is_stationed station value)
+    first last
     → AreQueued new last
 queued_at old new first last ticket value queued updates made = λ station t.
     made station t
-    ∙ cond_queued (is_at (nat_cmp ticket) t) station value (lookup (is_at (nat_cmp t)) old) (has station first t) (queued station t)
+    ∙ cond_queued (is_at (nat_cmp ticket) t) station value (lookup (is_at (nat_cmp t)) old) (has station first t)
+    (queued station t)
     ∙ sym (ap (is_stationed station) (updates t))
 
 -- ---- who stands where
@@ -88,10 +92,12 @@ elsewhere : (here : Bool) (value found : Option Waiter) → here ≡ false → c
 elsewhere true value found e = absurd cc
 elsewhere false value found e = refl
 
-apart : (old : WaitingList) (ticket t : ℕ) (waiter : Waiter) → waiter_of old ticket ≡ Some waiter → waiter_of old t ≡ None
+apart : (old : WaitingList) (ticket t : ℕ) (waiter : Waiter) → waiter_of old ticket ≡ Some waiter
+    → waiter_of old t ≡ None
     → is_at (nat_cmp ticket) t ≡ false
 apart old ticket t waiter waits gone =
-    ⊎_elim (λ yes. absurd (let e = ap (waiter_of old) (at ticket t yes) in cc)) (λ no. no) (cases_Bool (is_at (nat_cmp ticket) t))
+    ⊎_elim (λ yes. absurd (let e = ap (waiter_of old) (at ticket t yes) in cc)) (λ no. no)
+    (cases_Bool (is_at (nat_cmp ticket) t))
 
 module _ (old : WaitingList) (waiters : List (ℕ × Waiter)) (ticket : ℕ) (before after : Waiter)
     (waits : waiter_of old ticket ≡ Some before) (updates : UpdatesAt ticket (Some after) old.waiters waiters) where
@@ -166,7 +172,8 @@ module _ (old : WaitingList) (waiters : List (ℕ × Waiter)) (ticket : ℕ) (be
   module _ (first : Queues) (kept : IsKept old first) where
     none_yet : ended_of one.ticket old.ended ≡ None
     none_yet =
-        none_of (ended_of one.ticket old.ended) (λ x h. absurd (let e = kept.ended_gone ticket x (subst (λ (t : ℕ). ended_of t old.ended ≡ Some x) own h) in cc))
+        none_of (ended_of one.ticket old.ended) (λ x h. absurd
+        (let e = kept.ended_gone ticket x (subst (λ (t : ℕ). ended_of t old.ended ≡ Some x) own h) in cc))
 
     told_without : (t : ℕ) → waiter_of old t ≡ None
         → (ended_of t without.ended ≡ ended_of t old.ended) ⊎ (ended_of t without.ended ≡ None)
@@ -217,7 +224,8 @@ module _ (old : WaitingList) (waiters : List (ℕ × Waiter)) (ticket : ℕ) (be
 
 -- ---- one change behind another
 
-again : (here : Bool) (value other found : Option Waiter) → cond here other (cond here value found) ≡ cond here other found
+again : (here : Bool) (value other found : Option Waiter) → cond here other (cond here value found)
+    ≡ cond here other found
 again true value other found = refl
 again false value other found = refl
 
@@ -411,7 +419,8 @@ pub stays : (queues : Queues) (ticket : ℕ) (from to : WaitingPlace)
     → ((station : Station) → has station queues ticket ≡ stands_in station from)
     → MakesAt ticket (λ station. stands_in station to) queues queues
 stays queues ticket from to same were = λ station t.
-    stays_at (is_at (nat_cmp ticket) t) station (stands_in station to) queues ticket t refl (were station ∙ same station)
+    stays_at (is_at (nat_cmp ticket) t) station (stands_in station to) queues ticket t refl
+    (were station ∙ same station)
 
 pub queue_again : (first middle last : Queues) (ticket : ℕ) (rank : Rank)
     → ((station : Station) → has station first ticket ≡ stands_in station Chosen)
@@ -451,7 +460,8 @@ module _ (old : WaitingList) (waiters : List (ℕ × Waiter)) (ticket : ℕ) (af
   gone_restored t one h =
       ⊎_elim
       (λ yes. absurd (own_unused (subst (IsUsed old) (sym (at ticket t yes)) (kept.ended_used t one h))))
-      (λ no. updates t ∙ elsewhere (is_at (nat_cmp ticket) t) (Some after) (waiter_of old t) no ∙ kept.ended_gone t one h)
+      (λ no. updates t ∙ elsewhere (is_at (nat_cmp ticket) t) (Some after) (waiter_of old t) no
+      ∙ kept.ended_gone t one h)
       (cases_Bool (is_at (nat_cmp ticket) t))
 
   pub kept_restored : (last : Queues) → AreQueued waiters last → IsKept restored last

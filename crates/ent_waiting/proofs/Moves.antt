@@ -6,7 +6,8 @@ use Rattle.ent_lists.specs.Elements.{In, in_either, in_first, in_second}
 use Rattle.ent_waiting.specs.Store.{Group, Waiter, Ended, Store, Write, Waits, Version}
 use Rattle.ent_waiting.specs.World.{Claimant, Standing, Free, after_put, after_end, after_ends, MayEnd}
 use Rattle.ent_waiting.specs.World.{after_change, after_commit, after_write, begun, left_by, without}
-use Rattle.ent_waiting.proofs.Goes.{AreOnce, Goes, goes_put, goes_end, goes_once, goes_nowhere, stays_put, stays_end, left_put, left_end, is_fresh}
+use Rattle.ent_waiting.proofs.Goes.{AreOnce, Goes, goes_put, goes_end, goes_once, goes_nowhere, stays_put, stays_end}
+use Rattle.ent_waiting.proofs.Goes.{left_put, left_end, is_fresh}
 use Rattle.ent_waiting.proofs.Invariant.{AreWhole, Ahead, Level, Right, at_version}
 use Rattle.ent_waiting.proofs.Order.{follow_joined, last_joined, tables_joined}
 
@@ -50,7 +51,8 @@ module _ {T C S E : Type 0} (changed : C → T → T) (store : Store T S E)
             ap (without one.ticket) h.left ∙ sym (left_end own.ended one (store.waiting ++ own.given));
       }
 
-  pub ahead_ends : (members : List (Ended E)) (own : Claimant T C S E) → MayEnd members own.waiting → Ahead changed store own
+  pub ahead_ends : (members : List (Ended E)) (own : Claimant T C S E) → MayEnd members own.waiting
+      → Ahead changed store own
       → Ahead changed store (after_ends members own)
   ahead_ends [] own may h = h
   ahead_ends (one ∷ more) own may h = ahead_ends more (after_end one own) may.1 (ahead_end own one may.0 h)
@@ -93,7 +95,8 @@ module _ {T C S E : Type 0} (changed : C → T → T) (store : Store T S E)
         follow = tt;
         goes =
             subst (λ (n : ℕ). Goes {S = S} {E = E} store.waiting store.next own.waiting [] n) (sym h.next)
-            (subst (λ (ts : List (Waiter S)). Goes {S = S} {E = E} store.waiting store.next ts [] store.next) (sym h.waiting)
+            (subst (λ (ts : List (Waiter S)). Goes {S = S} {E = E} store.waiting store.next ts [] store.next)
+            (sym h.waiting)
             (goes_nowhere store.waiting store.ended store.next once));
         given = λ t at. absurd at;
         left = h.waiting ∙ sym (append-nil store.waiting);
@@ -127,7 +130,8 @@ module _ {T C S E : Type 0} where
   whole_commit changed change members own whole =
       subst (λ (gs : List (Group C E)). AreWhole gs (after_commit changed change members own).ended)
       (sym (ends_groups members (after_change changed change members own)))
-      (subst (AreWhole (after_change changed change members own).groups) (sym (ends_ended members (after_change changed change members own))) both)
+      (subst (AreWhole (after_change changed change members own).groups)
+      (sym (ends_ended members (after_change changed change members own))) both)
     where
       both : AreWhole (after_change changed change members own).groups (own.ended ++ members)
       both group one at there =

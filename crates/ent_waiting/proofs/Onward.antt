@@ -13,7 +13,8 @@ module _ {T C S E : Type 0} (changed : C → T → T) where
     led_on old new stay h = h
     led_on old new (onward {mid = mid} before step) h = kept mid new step (led_on old mid before h)
 
-  ending_kept : (one : Ended E) (old new : World T C S E) → Step changed old new → In one old.endings → In one new.endings
+  ending_kept : (one : Ended E) (old new : World T C S E) → Step changed old new → In one old.endings
+      → In one new.endings
   ending_kept one old new load at = at
   ending_kept one old new (crash claim) at = at
   ending_kept one old new look at = in_first old.endings old.store.ended one at

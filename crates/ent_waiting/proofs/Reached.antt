@@ -30,7 +30,13 @@ module _ {T C S E : Type 0} (changed : C → T → T) (first : T) where
               present = inl refl;
               may_arrive = λ write at. absurd at;
               once = record { once = λ t. omega arith; none = λ t from. refl };
-              groups = record { tables = refl; follow = tt; last = refl; ended = refl; whole = λ group one none. absurd none };
+              groups = record {
+                tables = refl;
+                follow = tt;
+                last = refl;
+                ended = refl;
+                whole = λ group one none. absurd none;
+              };
               writes = record { numbers = tt; last = refl; claims = tt; present = tt };
               done = λ v at. absurd at;
               stand = λ t at. absurd at;
@@ -137,7 +143,14 @@ module _ {T C S E : Type 0} (changed : C → T → T) (first : T) where
     pub stands_on : (own : Claimant T C S E) → world.claimants world.store.claim ≡ Some own
         → IsAhead changed world.store own ⊎ IsLevel world.store own
     stands_on own is = elim ((kept.right world.store.claim own is).now refl) [
-      | inl h ↦ inl (record { write = h.write; tables = h.tables; numbers = h.follow; last = h.group; waiting = h.left })
+      | inl h ↦ inl (record {
+        write = h.write;
+        tables = h.tables;
+        numbers = h.follow;
+        last = h.group;
+        waiting =
+            h.left;
+      })
       | inr h ↦ inr (record {
         write = h.write;
         tables = h.tables;

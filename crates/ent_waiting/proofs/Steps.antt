@@ -59,7 +59,8 @@ module _ {T C S E : Type 0} (changed : C → T → T) (first : T) where
                     let e : v.write ≡ old.store.write = ap (λ (v : Version). v.write) same in omega (arith, e),
                   )
                 ];
-                present = in_second old.versions (version (claimed old.store) ∷ []) (version (claimed old.store)) (inl refl);
+                present = in_second old.versions (version (claimed old.store) ∷ []) (version (claimed old.store))
+                    (inl refl);
                 may_arrive = λ write at.
                     let low = (s.may_arrive write at).claim in
                     record {
@@ -262,7 +263,8 @@ module _ {T C S E : Type 0} (changed : C → T → T) (first : T) where
                 ended = λ one there. in_first old.store.ended write.ended one (s.ended one there);
               };
           right = λ claim own is.
-              right_written changed old.store write fits whole continues s.once old.sent old.versions old.history at claim own
+              right_written changed old.store write fits whole continues s.once old.sent old.versions old.history at
+              claim own
               (kept.right claim own is);
         }
 

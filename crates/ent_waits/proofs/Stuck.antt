@@ -1,6 +1,7 @@
 -- Who stands in a cycle is stuck: each of a cycle waits for one of it.
 use Rattle.std.proofs.Common.{◌≡◌, ◌≢◌, ℕ, ◌+◌, ◌<◌, ◌≤◌, ◌==◌, ◌⊎◌, inl, inr, Bool, true, false}
-use Rattle.std.proofs.Common.{not, ◌||◌, List, [], ◌∷◌, length, nat_eq, bit_and, bit_or, refl, sym, ap, subst, ◌∙◌, arith}
+use Rattle.std.proofs.Common.{not, ◌||◌, List, [], ◌∷◌, length, nat_eq, bit_and, bit_or, refl, sym, ap, subst, ◌∙◌}
+use Rattle.std.proofs.Common.{arith}
 use Rattle.std.proofs.Common.{true≢false}
 use Rattle.std.specs.Prelude.{All, AllPairs, Contains, slice_index}
 use Rattle.std.specs.Int.{bit_at}

@@ -78,7 +78,8 @@ pub(crate) struct Meant<'a> {
     pub(crate) near: &'a str,
 }
 
-/// The first text that is written in a demanded tuple and for which one that is near is offered, in rows of the relation.
+/// The first text that is written in a demanded tuple and for which one that is near is offered, in rows of the
+/// relation.
 pub(crate) fn meant_text<'a>(
     alloc: Global,
     parties: &'a [Party],

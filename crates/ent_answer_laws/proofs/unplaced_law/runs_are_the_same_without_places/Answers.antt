@@ -1,5 +1,6 @@
 use Rattle.ent_answer_laws.proofs.Books.{good_same}
-use Rattle.ent_answer_laws.proofs.UnplacedRuns.{operations_are, script_run_same, scripts_run_same, scripts_read_views_are}
+use Rattle.ent_answer_laws.proofs.UnplacedRuns.{operations_are, script_run_same, scripts_run_same}
+use Rattle.ent_answer_laws.proofs.UnplacedRuns.{scripts_read_views_are}
 use Rattle.ent_answer_laws.proofs.unplaced_law.runs_are_the_same_without_places.Goals as goal
 
 pub returns-clause-operations : goal.returns-clause-operations

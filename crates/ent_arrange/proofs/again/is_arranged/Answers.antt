@@ -14,8 +14,10 @@ returns c =
     let same : again.opening ≡ input.opening = grind (arith, rules) in
     let one : c.deref.result.now ≡ input.scripts = grind (arith, rules) in
     let other : c.as_slice.result.now ≡ again.scripts = grind (arith, rules) in
-    let picks = λ (xs ys : List Script) (b : Bool). IsTrue b → ArePicked (map script_text xs) order (map script_text ys) in
-    IfOk-weaker c.are_picked.result (picks input.scripts again.scripts) (λ (b : Bool). IsTrue b → IsArranged input again)
+    let picks = λ (xs ys : List Script) (b : Bool). IsTrue b → ArePicked (map script_text xs) order
+    (map script_text ys) in
+    IfOk-weaker c.are_picked.result (picks input.scripts again.scripts)
+    (λ (b : Bool). IsTrue b → IsArranged input again)
     (λ b picked yes.
     arranged c.read_script_is_itself.ensures input again c.requires.input c.requires.again order c.requires.order same
     (picked yes))

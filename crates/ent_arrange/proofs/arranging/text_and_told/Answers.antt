@@ -17,7 +17,9 @@ returns-clause-ok c =
           let read = c.as_slice.result.now in
           let same : read ≡ c.if-is_right.text.items = grind (arith, rules) in
           let right : IsTrue c.in_ok-is_right.is_right = grind (arith, rules) in
-          subst is same (new_order c.first_fault_is_first.ensures.script c.faults_are_the_same_without_places.ensures.script bytes read input formed (c.in_ok-is_right.ensures right))
+          subst is same (new_order c.first_fault_is_first.ensures.script
+          c.faults_are_the_same_without_places.ensures.script bytes read input formed
+          (c.in_ok-is_right.ensures right))
       | else-is_right+in_ok-text w ↦
           let same : bytes ≡ c.if-is_right.text.items = grind (arith, rules) in
           subst is same (given_order bytes input formed)

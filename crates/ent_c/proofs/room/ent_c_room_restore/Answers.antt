@@ -16,6 +16,7 @@ returns-in-Some-clause-put c =
     c.in-Some.ensures.stay in
     of_stay c.args.stay (λ (status : ℤ). IsMisused held left status Same)
     (λ (status : ℤ) (stay : Stay). OfRoom held left status Same (λ (old new : Room).
-    PutsBackIn c.args.ticket c.args.script.now (bound_in c.args.values.now.held) stay c.args.batches old new refusal told
+    PutsBackIn c.args.ticket c.args.script.now (bound_in c.args.values.now.held) stay c.args.batches old new
+    refusal told
     status))
     c.in-Some.stay c.restore_for.result c.restore_for.type_inv stays c.restore_for.ensures.put

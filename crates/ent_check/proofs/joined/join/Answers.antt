@@ -13,7 +13,8 @@ returns c =
     let before : c.match-remove.offers ≡ offers_there (get nat_cmp old joint) =
     elim c.match-remove.branch [
       | in-Some w ↦ w.offers-is ∙ sym (ap offers_there (sym c.remove.ensures.value ∙ w.in-Some.is))
-      | in-None w ↦ w.offers-is ∙ w.new-offers.ensures ∙ sym (ap offers_there (sym c.remove.ensures.value ∙ w.in-None.is))
+      | in-None w ↦ w.offers-is ∙ w.new-offers.ensures ∙ sym (ap offers_there
+          (sym c.remove.ensures.value ∙ w.in-None.is))
     ] in
     let behind = c.in_ok-push.ensures.ok ∙ ap (λ offers. offers ++ c.args.offer ∷ []) before in
     λ own offers is are. joined_more own offers c.args.offer joint is old c.remove.new.self c.insert.new.self are

@@ -8,6 +8,7 @@ abbrev pub invariant-loop-tx : goal.invariant-loop-tx
 invariant-loop-tx l = record {
   number : l.number ≡ l.first + l.tx-index;
   whole :
-      l.commits ++ map (commit_at l.source.tickets.now l.source.journal.now) (numbered_from l.number (drop l.tx-index l.tx-items))
+      l.commits ++ map (commit_at l.source.tickets.now l.source.journal.now)
+      (numbered_from l.number (drop l.tx-index l.tx-items))
       ≡ map (commit_at l.source.tickets.now l.source.journal.now) (numbered_from l.first l.tx-items);
 }

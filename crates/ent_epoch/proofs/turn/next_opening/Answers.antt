@@ -32,7 +32,8 @@ returns-clause-goes_on c =
     let r = c.drained_opening-made.result in
     let settled : present_database s ≡ _ =
     sym (c.states_at_rest_hold_their_tables.ensures.settled s c.is_reached.ensures.reached c.requires) in
-    subst (λ (d : Database). IfOk r (λ next. GoesOn s.opening.tables (drained c.args.drained.now d) (opened next))) settled
+    subst (λ (d : Database). IfOk r (λ next. GoesOn s.opening.tables (drained c.args.drained.now d)
+    (opened next))) settled
     (subst
     (λ (o : Opening). IfOk r (λ next. GoesOn o.tables (drained c.args.drained.now (present_database s)) (opened next)))
     c.opening-opening.ensures c.drained_opening-made.ensures.goes_on)

@@ -21,5 +21,6 @@ returns c =
     let keys = c.in_ok-keys_under.ensures
     ∙ (λ i. keys_under columns c.args.classes.now
     (filter (λ row. list_all (may_hold_in columns row) c.args.tests.now) (c.as_slice.ensures.value i))) in
-    IfOk-weaker c.ascending.result _ _ (λ sorted is. is ∙ ap (λ ks. set.ascending (set.from_list {R = row_cmp} ks)) keys)
+    IfOk-weaker c.ascending.result _ _ (λ sorted is. is ∙ ap (λ ks. set.ascending
+    (set.from_list {R = row_cmp} ks)) keys)
     c.ascending.ensures

@@ -62,7 +62,8 @@ loop-i-preserved c =
                 (decides_next asked whole rest later n o more next inv.decides);
           }
       | else-begins_at w ↦
-          let same = rest_same marks pool i (marks_at firsts place i ∙ (sym c.begins_at.ensures ∙ w.if-begins_at.false)) in
+          let same = rest_same marks pool i (marks_at firsts place i
+          ∙ (sym c.begins_at.ensures ∙ w.if-begins_at.false)) in
           record {
             within = subst (λ k. k ≤ length asked) (sym w.count-is) inv.within;
             decides = subst (λ k. Decides later k asked whole) (sym w.count-is)

@@ -21,7 +21,8 @@ loop-index-preserved c =
           (c.has_head_for.ensures.0 w.if-has_head_for.true) c.loop-index.invariant
       | else-has_head_for w ↦
           subst (λ (xs : List Offer). MetSoFar first xs asker owner (i + 1)) (sym (ap items w.offers-is))
-          (met_same first old asker owner i (λ m. true≢false (sym (c.has_head_for.ensures.1 m) ∙ w.if-has_head_for.false))
+          (met_same first old asker owner i (λ m. true≢false (sym (c.has_head_for.ensures.1 m)
+          ∙ w.if-has_head_for.false))
           c.loop-index.invariant)
     ]
 

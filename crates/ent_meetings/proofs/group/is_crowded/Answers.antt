@@ -18,11 +18,13 @@ pub loop-party-preserved : goal.loop-party-preserved
 loop-party-preserved c =
     let crowds = λ (demand : Pattern). nat_lt 1 (ways (seen c.args.parties.now) demand) in
     any_off c.args.parties.now c.loop-party.party-index c.party-item.result (omega arith) c.party-item.is
-    (λ party. list_any crowds party.demands) c.loop-party.invariant (sym c.is_crowded_for.ensures ∙ c.if-is_crowded_for.false)
+    (λ party. list_any crowds party.demands) c.loop-party.invariant
+    (sym c.is_crowded_for.ensures ∙ c.if-is_crowded_for.false)
 
 pub returns : goal.returns
 returns c =
     let crowds = λ (demand : Pattern). nat_lt 1 (ways (seen c.args.parties.now) demand) in
     sym (any_flat (λ (party : Party). party.demands) crowds (seen c.args.parties.now)
-    ∙ any_whole (λ (party : Party). list_any crowds party.demands) c.args.parties.now c.loop-party.party-index (omega arith)
+    ∙ any_whole (λ (party : Party). list_any crowds party.demands) c.args.parties.now c.loop-party.party-index
+    (omega arith)
     c.loop-party.invariant)

@@ -15,4 +15,5 @@ loop-party-preserved c =
 
 pub returns : goal.returns
 returns c =
-    sym (any_whole (offers c.args.demand.now) c.args.parties.now c.loop-party.party-index (omega arith) c.loop-party.invariant)
+    sym (any_whole (offers c.args.demand.now) c.args.parties.now c.loop-party.party-index (omega arith)
+    c.loop-party.invariant)

@@ -24,5 +24,6 @@ pub returns : goal.returns
 returns c =
     let served = λ (demand : Pattern). offers demand c.args.party.now in
     sym (any_flat (λ (party : Party). party.demands) served (seen c.args.parties.now)
-    ∙ any_whole (λ (party : Party). list_any served party.demands) c.args.parties.now c.loop-other.other-index (omega arith)
+    ∙ any_whole (λ (party : Party). list_any served party.demands) c.args.parties.now c.loop-other.other-index
+    (omega arith)
     c.loop-other.invariant)

@@ -1,4 +1,5 @@
-use Rattle.std.proofs.Common.{◌≡◌, ◌<◌, ◌≤◌, ◌+◌, ℕ, List, [], ◌∷◌, ◌++◌, length, take, get_or, Some, All, sym, ap, subst, ◌∙◌, inl, inr, arith}
+use Rattle.std.proofs.Common.{◌≡◌, ◌<◌, ◌≤◌, ◌+◌, ℕ, List, [], ◌∷◌, ◌++◌, length, take, get_or, Some, All, sym, ap}
+use Rattle.std.proofs.Common.{subst, ◌∙◌, inl, inr, arith}
 use Rattle.std.proofs.lemmas.List.{take_all, take_more}
 use Rattle.ent_lists.specs.Elements.{In, clash, contains_in, in_either, nth_in, to_flat}
 use Rattle.ent_lists.proofs.Lists.{of_index, index_all}
@@ -20,7 +21,8 @@ lonely waiting party demand there nobody root is tickets stands =
     (to_named (party_at waiting) tickets root party (contains_in tickets root stands.has_root) is) there)) in
     clash (offers_at waiting demand giver.0) giver.2 (nobody giver.0)
 
-module _ (demands slice : List Pattern) (place : ℕ) (demand : Pattern) (same : slice ≡ demands) (low : place < length slice)
+module _ (demands slice : List Pattern) (place : ℕ) (demand : Pattern) (same : slice ≡ demands)
+    (low : place < length slice)
     (is : demand ≡ get_or slice place demand) where
   among : In demand demands
   among = subst (In demand) same (subst (λ (d : Pattern). In d slice) (sym is) (nth_in slice place demand low))

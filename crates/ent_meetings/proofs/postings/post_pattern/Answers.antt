@@ -9,7 +9,8 @@ use Rattle.ent_meetings.proofs.postings.post_pattern.Goals as goal
 pub returns-in_err-insert-clause-err : goal.returns-in_err-insert-clause-err
 returns-in_err-insert-clause-err c =
     let within : c.loop-place.place ≤ length c.args.pattern.now.terms = omega arith in
-    let some = posts_unchanged c.args.pattern.now c.args.ticket c.args.postings.now c.loop-place.postings c.insert.new.self
+    let some = posts_unchanged c.args.pattern.now c.args.ticket c.args.postings.now c.loop-place.postings
+    c.insert.new.self
     c.loop-place.place within c.loop-place.invariant c.in_err-insert.ensures.err in
     search rules
 

@@ -23,5 +23,8 @@ loop-list-preserved c =
 pub returns : goal.returns
 returns c =
     let none = images_all (λ (list : Vec ℕ). list.items) c.args.lists.now c.loop-list.list-index c.args.tickets.now
-    (omega arith) c.loop-list.invariant in
-    (λ is. search rules, λ has. absurd (none (contains_in (map (λ (list : Vec ℕ). list.items) c.args.lists.now) c.args.tickets.now has)))
+    (omega arith) c.loop-list.invariant in (
+      λ is. search rules,
+      λ has. absurd (none (contains_in (map (λ (list : Vec ℕ). list.items) c.args.lists.now)
+          c.args.tickets.now has)),
+    )

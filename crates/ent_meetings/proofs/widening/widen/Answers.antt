@@ -25,7 +25,8 @@ said waiting tickets mid slice (Err error) widened runnable is same rises P from
 pub returns-clause-meets : goal.returns-clause-meets
 returns-clause-meets c =
     let grows = c.in_ok-widen.ensures.ok in
-    said c.args.index.now c.args.meeting.items c.widen.new.self.tickets.items c.as_slice-2.result.now c.by_arrival.result
+    said c.args.index.now c.args.meeting.items c.widen.new.self.tickets.items c.as_slice-2.result.now
+    c.by_arrival.result
     grows.wider grows.runnable c.as_slice-2.ensures.value c.by_arrival.ensures.same c.by_arrival.ensures.sorted
     (λ wider. (root : ℕ) → IsMeeting c.args.index.now root c.args.meeting.items → IsMeeting c.args.index.now root wider)
     (λ sorted is root. meets_still c.args.index.now root c.args.meeting.items sorted is)
@@ -33,7 +34,8 @@ returns-clause-meets c =
 pub returns-clause-clear : goal.returns-clause-clear
 returns-clause-clear c =
     let grows = c.in_ok-widen.ensures.ok in
-    said c.args.index.now c.args.meeting.items c.widen.new.self.tickets.items c.as_slice-2.result.now c.by_arrival.result
+    said c.args.index.now c.args.meeting.items c.widen.new.self.tickets.items c.as_slice-2.result.now
+    c.by_arrival.result
     grows.wider grows.runnable c.as_slice-2.ensures.value c.by_arrival.ensures.same c.by_arrival.ensures.sorted
     (λ wider. (root : ℕ) → IsClearMeeting c.args.index.now root c.args.meeting.items
     → IsClearMeeting c.args.index.now root wider)
@@ -42,7 +44,8 @@ returns-clause-clear c =
 pub returns-clause-widened : goal.returns-clause-widened
 returns-clause-widened c =
     let grows = c.in_ok-widen.ensures.ok in
-    said c.args.index.now c.args.meeting.items c.widen.new.self.tickets.items c.as_slice-2.result.now c.by_arrival.result
+    said c.args.index.now c.args.meeting.items c.widen.new.self.tickets.items c.as_slice-2.result.now
+    c.by_arrival.result
     grows.wider grows.runnable c.as_slice-2.ensures.value c.by_arrival.ensures.same c.by_arrival.ensures.sorted
     (λ wider. IsWidened c.args.index.now c.args.meeting.items wider) (λ sorted is. is.widened)
 
@@ -55,11 +58,16 @@ said_whole : {E : Type 0} (waiting : Waiting) (mid slice : List ℕ) (answer : R
 said_whole waiting mid slice (Ok sorted) left whole is same =
     let moved : IsPermutation mid sorted.items = subst (λ (xs : List ℕ). IsPermutation xs sorted.items) is same in
     λ some low ticket might.
-    none_might waiting mid sorted.items (whole some (omega (arith, low, length_permutation mid sorted.items moved))) moved
+    none_might waiting mid sorted.items (whole some (omega (
+      arith,
+      low,
+      length_permutation mid sorted.items moved,
+    ))) moved
     ticket might
 said_whole waiting mid slice (Err error) left whole is same = tt
 
 pub returns-clause-whole : goal.returns-clause-whole
 returns-clause-whole c =
-    said_whole c.args.index.now c.widen.new.self.tickets.items c.as_slice-2.result.now c.by_arrival.result c.widen.new.looks
+    said_whole c.args.index.now c.widen.new.self.tickets.items c.as_slice-2.result.now c.by_arrival.result
+    c.widen.new.looks
     c.in_ok-widen.ensures.whole c.as_slice-2.ensures.value c.by_arrival.ensures.same

@@ -24,7 +24,8 @@ returns-clause-goes_on c =
     let held =
     c.finished_books_hold_their_tables.ensures book.opening book.scripts (book_seen book) left.formed left.finished in
     IfOk-weaker c.opening_over.result
-    (λ renewed. IsRenewed c.book-book.result.now.opening.tables (tables_database c.book-book.result.now.database) renewed)
+    (λ renewed. IsRenewed c.book-book.result.now.opening.tables (tables_database c.book-book.result.now.database)
+    renewed)
     (λ renewed. GoesOn book.opening.tables (tables_database book.database) (opened renewed))
     (λ (renewed : Opening) is.
     goes_on book.opening.tables (tables_database book.database) renewed held

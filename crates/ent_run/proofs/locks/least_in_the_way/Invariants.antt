@@ -8,5 +8,6 @@ use Rattle.ent_run.proofs.locks.least_in_the_way.Given as goal
 -- the least of those so far and of the others
 abbrev pub invariant-loop-held : goal.invariant-loop-held
 invariant-loop-held l =
-    lesser l.least (least (map (λ held. held.holder) (filter (is_in_the_way l.mode l.asker) (drop l.held-index l.holders))))
+    lesser l.least (least (map (λ held. held.holder) (filter (is_in_the_way l.mode l.asker)
+    (drop l.held-index l.holders))))
     ≡ least (map (λ held. held.holder) (filter (is_in_the_way l.mode l.asker) l.holders))

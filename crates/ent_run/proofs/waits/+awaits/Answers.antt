@@ -44,8 +44,10 @@ returns-else-some_make_wait t c =
     ap (λ (mode : Mode). list_any (makes_wait mode asker groups group other) holders) (sym c.mode.ensures)
     ∙ sym c.some_make_wait.ensures ∙ c.if-some_make_wait.false in (
       λ yes. subst (λ (asked : List Use). IsMadeToWait locks groups asked (passes asker) group other)
-          (sym c.in-Some.ensures.cases.0) (by_others locks groups asker group other first rest (c.awaits.ensures.0 yes)),
+          (sym c.in-Some.ensures.cases.0) (by_others locks groups asker group other first rest
+          (c.awaits.ensures.0 yes)),
       λ made. c.awaits.ensures.1 (not_by_first locks groups asker group other first rest holders are none
-          (subst (λ (asked : List Use). IsMadeToWait locks groups asked (passes asker) group other) c.in-Some.ensures.cases.0
+          (subst (λ (asked : List Use). IsMadeToWait locks groups asked (passes asker) group other)
+          c.in-Some.ensures.cases.0
           made)),
     )

@@ -44,7 +44,8 @@ things-preserved g c =
         length-append c.things.items
             (c.in_ok-item.item ∷ []),
       );
-      whole = many_on (among (firsts t)) (reads t) c.args.end c.things.items c.push.new.self c.things.left c.things.tokens
+      whole = many_on (among (firsts t)) (reads t) c.args.end c.things.items c.push.new.self c.things.left
+          c.things.tokens
           c.read.new.tokens c.in_ok-item.item _
           (sym c.is_start.ensures ∙ c.things-test.true) c.if-left-eq0.false c.in_ok-item.ensures c.in_ok-push.ensures.ok
           c.things.invariant.whole;

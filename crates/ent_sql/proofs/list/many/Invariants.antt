@@ -8,7 +8,8 @@ use Rattle.ent_sql.proofs.list.many.Given as goal
 abbrev pub invariant-things : goal.invariant-things
 invariant-things g l = let t = g.T.Item.grammar in record {
   room : l.left + length l.items ≡ g.row.LIMIT;
-  whole : Many (among (firsts t)) (reads t) l.end l.items l.left l.tokens (reads (many g.row.LIMIT t) l.end l.fn.tokens);
+  whole : Many (among (firsts t)) (reads t) l.end l.items l.left l.tokens
+      (reads (many g.row.LIMIT t) l.end l.fn.tokens);
 }
 
 abbrev pub decreases-things : goal.decreases-things

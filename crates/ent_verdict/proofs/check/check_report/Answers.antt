@@ -7,4 +7,5 @@ returns-clause-yes g c =
       yes = c.yes_is_said_of_reports_of_legal_books.ensures;
       one = c.texts_have_one_verdict.ensures;
     } in
-    report_means laws (g.R.Read.remaining c.args.reader.now.inner) c.check_report.result c.check_report.ensures.verdict c.check_report.ensures.limit
+    report_means laws (g.R.Read.remaining c.args.reader.now.inner) c.check_report.result c.check_report.ensures.verdict
+    c.check_report.ensures.limit

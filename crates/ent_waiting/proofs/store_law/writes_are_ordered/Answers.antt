@@ -4,7 +4,8 @@ use Rattle.ent_waiting.proofs.store_law.writes_are_ordered.Goals as goal
 pub returns : goal.returns
 returns g c =
     record {
-      ordered = λ changed tables world reached. ordered changed tables world (reached_kept changed tables world reached);
+      ordered = λ changed tables world reached. ordered changed tables world
+          (reached_kept changed tables world reached);
       acknowledged = λ changed tables world known reached.
           went_through changed tables world (reached_kept changed tables world reached) known;
       apart = λ changed tables world known other reached.

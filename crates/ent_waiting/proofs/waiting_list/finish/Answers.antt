@@ -1,4 +1,5 @@
-use Rattle.std.proofs.Common.{◌≡◌, ◌∙◌, ◌++◌, ◌∷◌, [], ℕ, List, Option, Some, None, Bool, cond, refl, sym, subst, ap, IsSome}
+use Rattle.std.proofs.Common.{◌≡◌, ◌∙◌, ◌++◌, ◌∷◌, [], ℕ, List, Option, Some, None, Bool, cond, refl, sym, subst, ap}
+use Rattle.std.proofs.Common.{IsSome}
 use Rattle.std.specs.Map.{lookup, remove_entry}
 use Rattle.std.specs.BTreeMap.{is_at}
 use Rattle.std.specs.Ordering.{nat_cmp}
@@ -37,7 +38,8 @@ returns-clause-updates c =
     let old = c.args.waiters.now.entries in
     let waits = some_value (lookup test old) c.requires.there in
     updates_twice old c.note_place.new.waiters.entries c.take_out-waiter.new.waiters.entries c.args.ticket
-    (Some (with_place_noted waits.0)) None (c.in_ok-note_place.ensures.updates waits.0 waits.1) c.take_out-waiter.ensures.updates
+    (Some (with_place_noted waits.0)) None (c.in_ok-note_place.ensures.updates waits.0 waits.1)
+    c.take_out-waiter.ensures.updates
 
 pub returns-clause-ended : goal.returns-clause-ended
 returns-clause-ended c = λ waiter waits.

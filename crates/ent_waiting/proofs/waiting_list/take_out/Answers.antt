@@ -10,4 +10,5 @@ returns-clause-kept_queued c =
     queued_at c.args.waiters.now.entries c.remove.new.self.entries first last c.args.ticket None c.requires.queued
     c.remove.ensures.updates.0
     (in_none first last c.args.ticket c.in-Some.waiter.place
-    (λ station. c.requires.queued station c.args.ticket ∙ ap (is_stationed station) (sym c.in-Some.ensures.value)) c.quit.ensures)
+    (λ station. c.requires.queued station c.args.ticket ∙ ap (is_stationed station) (sym c.in-Some.ensures.value))
+    c.quit.ensures)

@@ -6,7 +6,8 @@ use Rattle.ent_admission.proofs.admission.Admission.enter_all.Goals as goal
 pub loop-first-preserved : goal.loop-first-preserved
 loop-first-preserved c =
     record {
-      goes = goes_on c.args.self.now c.loop-first.self c.enter.new.self c.loop-first.invariant.goes c.enter.ensures.goes;
+      goes = goes_on c.args.self.now c.loop-first.self c.enter.new.self c.loop-first.invariant.goes
+          c.enter.ensures.goes;
       opening = c.enter.ensures.opening ∙ c.loop-first.invariant.opening;
       onward = onward_on c.args.self.now.list c.loop-first.self.list c.enter.new.self.list c.loop-first.invariant.onward
           c.enter.ensures.onward;

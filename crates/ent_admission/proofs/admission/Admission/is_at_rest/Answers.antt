@@ -10,7 +10,8 @@ pub returns-in-Some-clause-busy : goal.returns-in-Some-clause-busy
 returns-in-Some-clause-busy c = λ e rest.
     let ticket = c.in-Some._ticket.now in
     absurd
-    (let h = sym (rest.over.coming ticket) ∙ ap (λ (x : Admission). contains nat_cmp x.coming ticket) (sym c.self.view_is)
+    (let h = sym (rest.over.coming ticket) ∙ ap (λ (x : Admission). contains nat_cmp x.coming ticket)
+    (sym c.self.view_is)
     ∙ c.in-Some.ensures.member in cc)
 
 pub returns-in-Some-first_from-clause-busy : goal.returns-in-Some-first_from-clause-busy

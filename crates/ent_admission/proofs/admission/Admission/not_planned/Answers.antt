@@ -40,6 +40,7 @@ returns-clause-ok c = λ e.
           (c.all_wait.ensures.waits c.if-not-all_wait.false));
       closed = subst (λ (x : Admission). IsClosed (parties_of x.list keys)) c.self.view_is
           (subst IsClosed (named_is index c.self.inside.list c.self.invariant.indexed keys)
-          (subst (λ (xs : List ℕ). IsClosed (named index xs)) two (c.in_ok-is_closed.ensures.closed c.if-not-branch.false)));
+          (subst (λ (xs : List ℕ). IsClosed (named index xs)) two
+          (c.in_ok-is_closed.ensures.closed c.if-not-branch.false)));
       few = grind (arith, common_steps);
     }

@@ -35,4 +35,5 @@ invariant_of-self-in-Err c =
     let two = subst (λ (k : ℕ). ChangesAt k None c.insert.new.self c.remove.new.self)
     (c.number-in-Err.ensures ∙ c.next-next.ensures.next) c.remove.ensures.updates in
     subst (λ (l : WaitingList). IsKept (record a { list = l }) c.remove.new.self) (sym c.in-Err.ensures.err)
-    (kept_unput a c.self.inside.index c.insert.new.self c.remove.new.self n c.in_ok-party.party c.self.invariant absent one two)
+    (kept_unput a c.self.inside.index c.insert.new.self c.remove.new.self n c.in_ok-party.party c.self.invariant absent
+    one two)

@@ -9,12 +9,14 @@ use Rattle.ent_admission.proofs.admission.Admission.queue.Goals as goal
 
 pub invariant_of-self-2 : goal.invariant_of-self-2
 invariant_of-self-2 c =
-    kept_moved (the_view c.self.inside) c.self.inside.index c.self.invariant c.queue.new.self c.args.ticket (Queued c.args.rank) refl
+    kept_moved (the_view c.self.inside) c.self.inside.index c.self.invariant c.queue.new.self c.args.ticket
+    (Queued c.args.rank) refl
     c.in_ok-queue.ensures.ok c.in_ok-queue.ensures.updates (λ e. absurd cc)
 
 pub returns-clause-shifts : goal.returns-clause-shifts
 returns-clause-shifts c =
     let a = the_view c.self.inside in
     subst (λ (x : Admission). OnlyShifts x (record a { list = c.queue.new.self })) c.self.view_is
-    (shifts_only a c.queue.new.self c.args.ticket (Queued c.args.rank) refl c.in_ok-queue.ensures.ok c.in_ok-queue.ensures.updates
+    (shifts_only a c.queue.new.self c.args.ticket (Queued c.args.rank) refl c.in_ok-queue.ensures.ok
+    c.in_ok-queue.ensures.updates
     c.queue.ensures.onward)

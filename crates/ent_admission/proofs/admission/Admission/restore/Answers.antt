@@ -29,5 +29,6 @@ invariant_of-self-in-Err c =
     let two = subst (λ (k : ℕ). ChangesAt k None c.insert.new.self c.remove.new.self) c.number-in-Err.ensures
     c.remove.ensures.updates in
     subst (λ (l : WaitingList). IsKept (record a { list = l }) c.remove.new.self) (sym c.in-Err.ensures.err)
-    (kept_unput a c.self.inside.index c.insert.new.self c.remove.new.self c.args.ticket c.in_ok-party.party c.self.invariant
+    (kept_unput a c.self.inside.index c.insert.new.self c.remove.new.self c.args.ticket c.in_ok-party.party
+    c.self.invariant
     c.in_default.ensures.absent one two)

@@ -13,7 +13,8 @@ invariant_of-self c =
     let none : (t : ℕ) → contains nat_cmp a.coming t ≡ false =
     λ t. ap (λ (x : Admission). contains nat_cmp x.coming t) c.self.view_is ∙ c.requires.all_in t in
     subst (λ (e : Epoch). IsKept (record a { epoch = e }) c.self.inside.index) (sym c.run.ensures.same)
-    (kept_run a c.self.inside.index c.run.new.self.core c.run.new.self.telling c.self.invariant c.run.ensures.opening none)
+    (kept_run a c.self.inside.index c.run.new.self.core c.run.new.self.telling c.self.invariant
+    c.run.ensures.opening none)
 
 pub invariant_of-self-2 : goal.invariant_of-self-2
 invariant_of-self-2 c =
@@ -21,4 +22,5 @@ invariant_of-self-2 c =
     let none : (t : ℕ) → contains nat_cmp a.coming t ≡ false =
     λ t. ap (λ (x : Admission). contains nat_cmp x.coming t) c.self.view_is ∙ c.requires.all_in t in
     subst (λ (e : Epoch). IsKept (record a { epoch = e }) c.self.inside.index) (sym c.run.ensures.same)
-    (kept_run a c.self.inside.index c.run.new.self.core c.run.new.self.telling c.self.invariant c.run.ensures.opening none)
+    (kept_run a c.self.inside.index c.run.new.self.core c.run.new.self.telling c.self.invariant
+    c.run.ensures.opening none)

@@ -55,7 +55,8 @@ returns-in_ok-end-in-Some-ending_of-clause-ok c =
       stands = there;
       over = c.requires.over;
       list = subst
-          (λ (o : Option Ending). SettlesAs o c.args.self.now.again c.args.ticket there.waiter c.args.self.now.list c.end.new.self.list)
+          (λ (o : Option Ending). SettlesAs o c.args.self.now.again c.args.ticket there.waiter c.args.self.now.list
+          c.end.new.self.list)
           (sym (told ∙ c.in-Some-ending_of.is))
           (c.in_ok-end-in-Some-ending_of.ensures.ok there.waiter there.waits);
       epoch = c.in_ok-end-in-Some-ending_of.ensures.epoch;
@@ -94,7 +95,8 @@ returns-in_ok-wait_again-in-None-clause-ok c =
       stands = there;
       over = c.requires.over;
       list = subst
-          (λ (o : Option Ending). SettlesAs o c.args.self.now.again c.args.ticket there.waiter c.args.self.now.list c.wait_again.new.self.list)
+          (λ (o : Option Ending). SettlesAs o c.args.self.now.again c.args.ticket there.waiter c.args.self.now.list
+          c.wait_again.new.self.list)
           (sym (told ∙ c.in-None.is))
           (c.in_ok-wait_again-in-None.ensures.ok there.waiter there.waits);
       epoch = c.in_ok-wait_again-in-None.ensures.epoch;

@@ -24,7 +24,8 @@ loop-next-preserved c =
     (ap (λ (x : Admission). is_stationed Batch (waiter_of x.list other)) c.self.view_is ∙ there)
     (subst (λ (k : ℕ). k ≤ other) (sym c.new.ensures) high)) in
     record {
-      goes = goes_on c.args.self.now old new was.goes (goes_once old new (inr (inr (inr (inl c.in_ok-settle.ensures.ok)))));
+      goes = goes_on c.args.self.now old new was.goes (goes_once old new
+          (inr (inr (inr (inl c.in_ok-settle.ensures.ok)))));
       opening = c.settle.ensures.opening ∙ was.opening;
       onward = onward_on c.args.self.now.list old.list new.list was.onward c.settle.ensures.onward;
       over = subst (λ (e : Epoch). CanClose e.core) (sym c.settle.ensures.epoch) was.over;

@@ -23,13 +23,15 @@ returns-in_err-book-clause-too_many c =
 pub invariant_of-self-2 : goal.invariant_of-self-2
 invariant_of-self-2 c =
     let a = the_view c.self.inside in
-    let rest : IsAtRest a = subst IsAtRest (sym c.self.view_is) (c.is_at_rest.ensures.at_rest c.if-not-is_at_rest.false) in
+    let rest : IsAtRest a = subst IsAtRest (sym c.self.view_is)
+    (c.is_at_rest.ensures.at_rest c.if-not-is_at_rest.false) in
     kept_turned a c.self.inside.index c.turn.new.self c.self.invariant rest c.in_ok-book.ensures.renewed.declarations
 
 pub returns-clause-advances : goal.returns-clause-advances
 returns-clause-advances c =
     let a = the_view c.self.inside in
-    let rest : IsAtRest a = subst IsAtRest (sym c.self.view_is) (c.is_at_rest.ensures.at_rest c.if-not-is_at_rest.false) in
+    let rest : IsAtRest a = subst IsAtRest (sym c.self.view_is)
+    (c.is_at_rest.ensures.at_rest c.if-not-is_at_rest.false) in
     let new : Admission = record a { epoch = c.turn.new.self } in
     subst (λ (x : Admission). Advances x new) c.self.view_is
     (turns_advance a new (record {

@@ -27,7 +27,8 @@ invariant_of-self-2 c =
     c.wait_again.new.self.waiters)
     c.new-own.ensures (c.in_ok-wait_again.ensures.updates stands.waiter waits_own) in
     kept_news (record a { list = c.wait_again.new.self }) c.keep_up.new.index c.keep_up.new.news.items
-    (kept_again a c.self.inside.index c.self.invariant c.wait_again.new.self c.args.ticket stands.waiter waits none again.rank
+    (kept_again a c.self.inside.index c.self.invariant c.wait_again.new.self c.args.ticket stands.waiter waits none
+    again.rank
     again.counts again.alone c.keep_up.new.index updates
     (λ gone. subst (λ (k : ℕ). ChangesAt k None c.self.inside.index c.keep_up.new.index) c.new-own.ensures
     (c.keep_up.ensures.gone (ap (λ (k : ℕ). waiter_of c.wait_again.new.self k) c.new-own.ensures ∙ gone)))

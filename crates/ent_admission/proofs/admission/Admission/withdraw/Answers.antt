@@ -14,4 +14,5 @@ invariant_of-self-2 c =
     ap (λ (k : ℕ). contains nat_cmp a.coming k) (sym c.number.ensures) ∙ sym c.contains.ensures ∙ c.if-contains.false in
     kept_ended a c.self.inside.index c.self.invariant c.withdraw.new.self c.args.ticket idle.waiter idle.waits none
     c.remove.new.self c.in_ok-withdraw.ensures.updates
-    (subst (λ (k : ℕ). ChangesAt k None c.self.inside.index c.remove.new.self) c.number-2.ensures c.remove.ensures.updates)
+    (subst (λ (k : ℕ). ChangesAt k None c.self.inside.index c.remove.new.self) c.number-2.ensures
+    c.remove.ensures.updates)

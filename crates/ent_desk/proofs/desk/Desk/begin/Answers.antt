@@ -44,7 +44,8 @@ invariant_of-self-2 g c =
     let before = length c.journal-before.result.now in
     let long : before ≡ length i.core.journal = ap length c.journal-before.ensures in (
       kept_begin i.core drafts new grown before long i.count i.scripts.total i.entries.total c.add.new.self.total
-          c.keep_receipts-made.result tx reply c.self.invariant.0 step c.keep_receipts-made.ensures.made c.add.ensures.total,
+          c.keep_receipts-made.result tx reply c.self.invariant.0 step c.keep_receipts-made.ensures.made
+          c.add.ensures.total,
       c.advance_told.ensures.known i.core.lent (begins_lent i.core new reply tx step) c.self.invariant.1,
     )
 

@@ -30,7 +30,8 @@ returns g c =
     record {
       ok = subst (λ (old : DeskState). MakesUnless (NoDeadlock old.core) BreakCycle old c.advance_told.result new)
           c.self.view_is
-          (break_made i.count i.core c.break_cycle-reply.new.self reply c.advance_told.result c.advance_told.ensures.tells step);
+          (break_made i.count i.core c.break_cycle-reply.new.self reply c.advance_told.result
+          c.advance_told.ensures.tells step);
       journal = subst (λ (old : DeskState). c.break_cycle-reply.new.self.journal ≡ old.core.journal) c.self.view_is
           (breaks_none i.core c.break_cycle-reply.new.self reply step).journal;
     }

@@ -13,7 +13,8 @@ use Rattle.ent_desk.proofs.desk.Desk.hand_in_at.Goals as goal
 
 pub take_in-requires : goal.take_in-requires
 take_in-requires g c =
-    subst (λ (done : Done). slice_get c.self.inside.core.lent c.args.index ≡ Some done.job) (sym c.into_parts-done.ensures.done)
+    subst (λ (done : Done). slice_get c.self.inside.core.lent c.args.index ≡ Some done.job)
+    (sym c.into_parts-done.ensures.done)
     (subst (λ (d : DeskState). slice_get d.core.lent c.args.index ≡ Some c.args.done.job) (sym c.self.view_is)
     c.requires)
 
@@ -32,7 +33,8 @@ invariant_of-self g c =
     let done = c.into_parts-done.result.0 in
     let reply = reply_seen c.in-Ok.reply in
     let step = c.in-Ok.ensures.ok in
-    let at = subst (λ (own : Done). slice_get i.core.lent c.args.index ≡ Some own.job) (sym c.into_parts-done.ensures.done)
+    let at = subst (λ (own : Done). slice_get i.core.lent c.args.index ≡ Some own.job)
+    (sym c.into_parts-done.ensures.done)
     (subst (λ (d : DeskState). slice_get d.core.lent c.args.index ≡ Some c.args.done.job) (sym c.self.view_is)
     c.requires) in
     let once = c.lent_jobs_stand_once.ensures resolved_forms i.core c.is_reached.ensures.reached in

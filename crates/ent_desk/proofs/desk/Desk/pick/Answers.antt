@@ -25,8 +25,10 @@ returns-clause-ok g c =
     let i = c.self.inside in
     let reply = reply_seen c.in_ok-reply.reply in
     let new : DeskState = record { core = c.pick.new.self; count = i.count } in
-    subst (λ (old : DeskState). MakesUnless (NoneCanBePicked old.core) Pick old c.advance_told.result new) c.self.view_is
-    (pick_made i.count i.core c.pick.new.self reply c.advance_told.result c.advance_told.ensures.tells c.in_ok-reply.ensures.ok)
+    subst (λ (old : DeskState). MakesUnless (NoneCanBePicked old.core) Pick old c.advance_told.result new)
+    c.self.view_is
+    (pick_made i.count i.core c.pick.new.self reply c.advance_told.result c.advance_told.ensures.tells
+    c.in_ok-reply.ensures.ok)
 
 pub returns-clause-journal : goal.returns-clause-journal
 returns-clause-journal g c =

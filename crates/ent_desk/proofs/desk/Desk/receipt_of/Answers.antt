@@ -17,7 +17,8 @@ pub returns-in_default : goal.returns-in_default
 returns-in_default g c =
     let i = c.self.inside in
     let tx = c.args.tx in
-    let right = c.resolved_journals_fit_the_fates.ensures i.core c.is_reached.ensures.formed c.is_reached.ensures.reached in
+    let right = c.resolved_journals_fit_the_fates.ensures i.core c.is_reached.ensures.formed
+    c.is_reached.ensures.reached in
     let once = c.transactions_stand_once.ensures.once resolved_forms i.core c.is_reached.ensures.reached in
     subst (λ (d : DeskState). AllByRecursion (λ (entry : Entry). entry.tx ≢ tx) d.core.journal) c.self.view_is
     (has_none i.core tx right once (λ number runs told.
@@ -28,7 +29,8 @@ pub returns-in_default-fate : goal.returns-in_default-fate
 returns-in_default-fate g c =
     let i = c.self.inside in
     let tx = c.args.tx in
-    let right = c.resolved_journals_fit_the_fates.ensures i.core c.is_reached.ensures.formed c.is_reached.ensures.reached in
+    let right = c.resolved_journals_fit_the_fates.ensures i.core c.is_reached.ensures.formed
+    c.is_reached.ensures.reached in
     let once = c.transactions_stand_once.ensures.once resolved_forms i.core c.is_reached.ensures.reached in
     subst (λ (d : DeskState). AllByRecursion (λ (entry : Entry). entry.tx ≢ tx) d.core.journal) c.self.view_is
     (has_none i.core tx right once (λ number runs told.
@@ -42,7 +44,8 @@ unreachable-requires g c =
     let i = c.self.inside in
     let tx = c.args.tx in
     let own = c.in-Committed in
-    let right = c.resolved_journals_fit_the_fates.ensures i.core c.is_reached.ensures.formed c.is_reached.ensures.reached in
+    let right = c.resolved_journals_fit_the_fates.ensures i.core c.is_reached.ensures.formed
+    c.is_reached.ensures.reached in
     let told : fate_in (standing i.core tx) ≡ Some (Committed own.number own.runs) =
     ap (λ (d : DeskState). fate_in (standing d.core tx)) c.self.view_is ∙ sym c.fate.ensures ∙ c.in-Some.is
     ∙ ap Some own.is in
@@ -58,7 +61,8 @@ returns g c =
     let tx = c.args.tx in
     let own = c.in-Committed in
     let entry = c.in-Some-entry.entry.now in
-    let right = c.resolved_journals_fit_the_fates.ensures i.core c.is_reached.ensures.formed c.is_reached.ensures.reached in
+    let right = c.resolved_journals_fit_the_fates.ensures i.core c.is_reached.ensures.formed
+    c.is_reached.ensures.reached in
     let told : fate_in (standing i.core tx) ≡ Some (Committed own.number own.runs) =
     ap (λ (d : DeskState). fate_in (standing d.core tx)) c.self.view_is ∙ sym c.fate.ensures ∙ c.in-Some.is
     ∙ ap Some own.is in

@@ -16,7 +16,8 @@ invariant_of-self-2 g c =
     let i = c.self.inside in
     let reply = reply_seen c.in_ok-reply.reply in
     let step = c.in_ok-reply.ensures.ok in (
-      kept_none i.count i.scripts.total i.entries.total i.core c.start_run.new.self StartRun reply c.self.invariant.0 step
+      kept_none i.count i.scripts.total i.entries.total i.core c.start_run.new.self StartRun reply
+          c.self.invariant.0 step
           (starts_none i.core c.start_run.new.self reply step),
       c.advance_told.ensures.known i.core.lent (starts_lent i.core c.start_run.new.self reply step) c.self.invariant.1,
     )
@@ -26,7 +27,8 @@ invariant_of-self-in-Some g c =
     let i = c.self.inside in
     let reply = reply_seen c.in_ok-reply.reply in
     let step = c.in_ok-reply.ensures.ok in (
-      kept_none i.count i.scripts.total i.entries.total i.core c.start_run.new.self StartRun reply c.self.invariant.0 step
+      kept_none i.count i.scripts.total i.entries.total i.core c.start_run.new.self StartRun reply
+          c.self.invariant.0 step
           (starts_none i.core c.start_run.new.self reply step),
       c.advance_told.ensures.known i.core.lent (starts_lent i.core c.start_run.new.self reply step) c.self.invariant.1,
     )
@@ -38,7 +40,8 @@ returns-in-Some-clause-ok g c =
     let new : DeskState = record { core = c.start_run.new.self; count = i.count } in
     let off : i.core.running ≡ false = sym c.running.ensures ∙ c.if-running.false in
     subst (λ (old : DeskState). StartsRun old c.in-Some.started new) c.self.view_is
-    (started i.count i.core c.start_run.new.self reply c.in-Some.started (sym c.in-Some.is ∙ c.advance_told.ensures.tells)
+    (started i.count i.core c.start_run.new.self reply c.in-Some.started
+    (sym c.in-Some.is ∙ c.advance_told.ensures.tells)
     off c.in_ok-reply.ensures.ok)
 
 pub returns-in-Some-clause-events : goal.returns-in-Some-clause-events
@@ -50,7 +53,8 @@ returns-in-Some-clause-events g c =
     let off : i.core.running ≡ false = sym c.running.ensures ∙ c.if-running.false in
     subst (λ (old : DeskState). LeadsOn old new) c.self.view_is
     (starts_on c.in-Some.started before new
-    (started i.count i.core c.start_run.new.self reply c.in-Some.started (sym c.in-Some.is ∙ c.advance_told.ensures.tells)
+    (started i.count i.core c.start_run.new.self reply c.in-Some.started
+    (sym c.in-Some.is ∙ c.advance_told.ensures.tells)
     off c.in_ok-reply.ensures.ok))
 
 pub returns-clause-ok : goal.returns-clause-ok

@@ -13,6 +13,7 @@ returns-clause-groups c =
     let numbered : AreNumbered feed.first feed.groups feed.next =
     subst (λ (f : Feed). AreNumbered f.first f.groups f.next) c.self.view_is c.self.invariant in
     (λ i. take (length (all i) - skipped) (drop skipped (all i)))
-    ∙ take_all (length feed.groups - skipped) (drop skipped feed.groups) (omega (arith, length-drop skipped feed.groups))
+    ∙ take_all (length feed.groups - skipped) (drop skipped feed.groups)
+    (omega (arith, length-drop skipped feed.groups))
     ∙ ap (λ n. drop n feed.groups) c.skipped-skipped.ensures
     ∙ from_dropped c.args.number feed.first feed.next feed.groups numbered

@@ -29,7 +29,8 @@ returns-then-fits-clause-next c =
     let ticket = c.in-Some-leap.ticket in (
       c.loop-looks.invariant.later ticket ((c.in-Some.ensures ticket).1 c.in-Some-leap.ensures.0),
       sym c.fits.ensures ∙ c.if-fits.true,
-      none_before passes c.args.after c.loop-looks.last c.loop-looks.invariant.none c.in-Some.from ticket c.in-Some.ensures
+      none_before passes c.args.after c.loop-looks.last c.loop-looks.invariant.none c.in-Some.from ticket
+          c.in-Some.ensures
           (λ other low high is.
           c.in-Some-leap.ensures.1 other low high
           (fitting_agrees c.args.side c.args.self.now c.postings-postings.result.now c.args.sought.now other
@@ -43,11 +44,13 @@ loop-looks-preserved c =
     let behind : IsAfter c.loop-looks.last ticket = (c.in-Some.ensures ticket).1 c.in-Some-leap.ensures.0 in
     record {
       fewer = let fewer = c.loop-looks.invariant.fewer in omega arith;
-      none = none_up_to passes c.args.after c.loop-looks.last c.loop-looks.invariant.none c.in-Some.from ticket c.in-Some.ensures
+      none = none_up_to passes c.args.after c.loop-looks.last c.loop-looks.invariant.none c.in-Some.from ticket
+          c.in-Some.ensures
           (λ other low high is.
           c.in-Some-leap.ensures.1 other low high
           (fitting_agrees c.args.side c.args.self.now c.postings-postings.result.now c.args.sought.now other
           c.postings-postings.ensures.posted is)) (sym c.fits.ensures ∙ c.if-fits.false);
-      later = λ other past. c.loop-looks.invariant.later other ((c.in-Some.ensures other).1 (let first = c.in-Some-leap.ensures.0 in omega arith));
+      later = λ other past. c.loop-looks.invariant.later other
+          ((c.in-Some.ensures other).1 (let first = c.in-Some-leap.ensures.0 in omega arith));
       further = λ fewer. c.loop-looks.invariant.later ticket behind;
     }

@@ -24,7 +24,8 @@ loop-ticket-preserved c =
           ∙ ap (λ (who : Option Party). front ++ cons_option who []) w.in-Some.ensures
           ∙ sym more
       | in_default w ↦
-          ap (λ (refs : Vec (Bor Party)). seen refs.items) w.parties-is ∙ c.loop-ticket.invariant ∙ sym (append-nil front)
+          ap (λ (refs : Vec (Bor Party)). seen refs.items) w.parties-is ∙ c.loop-ticket.invariant
+          ∙ sym (append-nil front)
           ∙ ap (λ (who : Option Party). front ++ cons_option who []) w.in_default.ensures
           ∙ sym more
     ]

@@ -7,6 +7,7 @@ use Rattle.ent_meetings.proofs.party.Party.add_offers.Given as goal
 abbrev pub invariant-loop-relation : goal.invariant-loop-relation
 invariant-loop-relation l = record {
   offers : l.self.offers ≡ l.fn.self.offers
-      ++ map (offered_in (record { known = known_of l.fn.known; entangled = l.fn.asked })) (take l.relation-index l.relation-items);
+      ++ map (offered_in (record { known = known_of l.fn.known; entangled = l.fn.asked }))
+      (take l.relation-index l.relation-items);
   demands : l.self.demands ≡ l.fn.self.demands;
 }

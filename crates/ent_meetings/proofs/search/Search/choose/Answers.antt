@@ -4,7 +4,8 @@ use Rattle.ent_meetings.proofs.search.Search.choose.Goals as goal
 pub returns-in-Nobody-clause-ok : goal.returns-in-Nobody-clause-ok
 returns-in-Nobody-clause-ok c =
     c.back.ensures c.args.index.now c.requires.stand
-    (past_all c.args.index.now c.args.self.now c.requires.stand c.args.demand.now c.requires.unmet c.in-Nobody.ensures.next)
+    (past_all c.args.index.now c.args.self.now c.requires.stand c.args.demand.now c.requires.unmet
+    c.in-Nobody.ensures.next)
 
 pub returns-in-Stopped-clause-ok : goal.returns-in-Stopped-clause-ok
 returns-in-Stopped-clause-ok c =

@@ -10,7 +10,8 @@ pub returns-in-Some-clause-ok : goal.returns-in-Some-clause-ok
 returns-in-Some-clause-ok c =
     let step = subst (λ (found : Option (Vec ℕ)). IsStep c.args.index.now c.loop-looks.self c.step.new.self
     (option_map (λ (meeting : Vec ℕ). meeting.items) found)) c.in-Some.is c.in_ok-meeting.ensures.ok in
-    taken_from c.args.index.now c.args.self.now c.loop-looks.self c.loop-looks.invariant.root c.loop-looks.invariant.found
+    taken_from c.args.index.now c.args.self.now c.loop-looks.self c.loop-looks.invariant.root
+    c.loop-looks.invariant.found
     c.step.new.self c.in-Some.meeting.items step.2
 
 pub loop-looks-preserved-in_default : goal.loop-looks-preserved-in_default
@@ -25,7 +26,8 @@ loop-looks-preserved-in_default c =
       root = moves.root ∙ before.root;
       found = moves.found ∙ before.found;
       fewer = omega arith;
-      further = λ less. further_still c.args.self.now c.loop-looks.self c.step.new.self c.args.looks.now c.loop-looks.looks
+      further = λ less. further_still c.args.self.now c.loop-looks.self c.step.new.self c.args.looks.now
+          c.loop-looks.looks
           before.fewer before.further before.same moves.further;
       same = λ same. absurd (omega arith);
     }
@@ -52,5 +54,6 @@ returns-else-self-clause-ok c =
     let none : vec_len c.loop-looks.self.chosen ≡ 0 =
     same_number (vec_len c.loop-looks.self.chosen) 0 (sym c.if-not-is_empty.ensures) in
     let over : length c.loop-looks.self.chosen.items ≡ 0 = omega (arith, c.loop-looks.self.chosen.ok.0) in
-    rested c.args.index.now c.args.self.now c.loop-looks.self before.root before.found c.args.looks.now c.loop-looks.looks
+    rested c.args.index.now c.args.self.now c.loop-looks.self before.root before.found c.args.looks.now
+    c.loop-looks.looks
     c.rest.result (c.rest.ensures c.args.index.now before.stand over c.if-self.false)

@@ -11,7 +11,8 @@ returns-then-is_crowded-clause-ok c =
     let waiting = c.args.index.now in
     let old = c.args.self.now in
     let here : seen c.as_slice-then-self.result.now ≡ named waiting old.chosen.items =
-    ap seen c.as_slice-then-self.ensures.value ∙ c.in_ok-parties.ensures ∙ ap (named waiting) c.as_slice.ensures.value in
+    ap seen c.as_slice-then-self.ensures.value ∙ c.in_ok-parties.ensures
+    ∙ ap (named waiting) c.as_slice.ensures.value in
     let crowd = crowd_of (named waiting old.chosen.items)
     (sym (ap is_crowded here) ∙ sym c.is_crowded.ensures ∙ c.if-is_crowded.true) in
     c.back.ensures waiting c.requires.stand

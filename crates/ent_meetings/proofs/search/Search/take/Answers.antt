@@ -31,7 +31,8 @@ pub returns-then-is_among-clause-ok : goal.returns-then-is_among-clause-ok
 returns-then-is_among-clause-ok c waiting right none free =
     let old = c.args.self.now in
     let meeting = c.in_ok-meeting.meeting.items in
-    let all = within_chosen old.chosen.items meeting c.as_slice.result.now c.as_slice.ensures.value c.in_ok-meeting.ensures.same in
+    let all = within_chosen old.chosen.items meeting c.as_slice.result.now c.as_slice.ensures.value
+    c.in_ok-meeting.ensures.same in
     let has = among c.as_slice-2.result.now old.found.items c.as_slice-3.result.now meeting c.as_slice-2.ensures.value
     c.as_slice-3.ensures.value (c.is_among.ensures.0 c.if-is_among.true) in
     c.back.ensures waiting right
@@ -67,5 +68,6 @@ returns-clause-ok c waiting right none free =
     (among old.found.items c.as_slice-2.result.now meeting c.as_slice-3.result.now (sym c.as_slice-2.ensures.value)
     (sym c.as_slice-3.ensures.value) has)))
     (clear_or_cleared waiting old right meeting (λ clear.
-    is_clear waiting old.root (found_of old) old.is_clear old.is_cut old.chosen.items old.last right.stand c.requires meeting
+    is_clear waiting old.root (found_of old) old.is_clear old.is_cut old.chosen.items old.last right.stand
+    c.requires meeting
     moved none (free clear)))

@@ -1,4 +1,5 @@
-use Rattle.std.proofs.Common.{◌≡◌, ℕ, List, [], ◌∷◌, true, false, nat_eq, Option, None, Some, refl, subst, sym, ap, ◌∙◌, inl, inr, arith}
+use Rattle.std.proofs.Common.{◌≡◌, ℕ, List, [], ◌∷◌, true, false, nat_eq, Option, None, Some, refl, subst, sym, ap, ◌∙◌}
+use Rattle.std.proofs.Common.{inl, inr, arith}
 use Rattle.std.specs.Borrow.{Bor}
 use Rattle.std.specs.List.{list_any}
 use Rattle.std.proofs.lemmas.Option.{same_Some}
@@ -9,7 +10,8 @@ use Rattle.ent_meetings.specs.Waiting.{named, party_at}
 use Rattle.ent_meetings.proofs.Growing.{grows_by, grows_not}
 use Rattle.ent_meetings.proofs.Seeing.{seen_more}
 use Rattle.ent_meetings.proofs.widening.Gathering.let_in.Goals as goal
-use Rattle.ent_meetings.proofs.widening.Gathering.let_in.Goals.{then-len-ge-MOST_MEMBERS-via-then-len-ge-MOST_MEMBERS, then-len-ge-MOST_MEMBERS-via-else-len-ge-MOST_MEMBERS+then-contains}
+use Rattle.ent_meetings.proofs.widening.Gathering.let_in.Goals.{then-len-ge-MOST_MEMBERS-via-then-len-ge-MOST_MEMBERS}
+use Rattle.ent_meetings.proofs.widening.Gathering.let_in.Goals.{then-len-ge-MOST_MEMBERS-via-else-len-ge-MOST_MEMBERS+then-contains}
 
 not_among : (tickets slice : List ℕ) (ticket : ℕ) → slice ≡ tickets → list_any (λ own. nat_eq own ticket) slice ≡ false
     → In ticket tickets → ⊥

@@ -1,4 +1,5 @@
-use Rattle.std.proofs.Common.{◌≡◌, ◌<◌, ◌≤◌, ◌+◌, ◌++◌, ◌∷◌, [], ℕ, List, length, take, get_or, subst, sym, ap, ◌∙◌, arith}
+use Rattle.std.proofs.Common.{◌≡◌, ◌<◌, ◌≤◌, ◌+◌, ◌++◌, ◌∷◌, [], ℕ, List, length, take, get_or, subst, sym, ap, ◌∙◌}
+use Rattle.std.proofs.Common.{arith}
 use Rattle.std.proofs.lemmas.List.{take_all, take_more}
 use Rattle.ent_lists.specs.Elements.{In}
 use Rattle.ent_meetings.specs.declared.pattern.Pattern.{Pattern}
@@ -50,7 +51,8 @@ loop-offer-preserved c =
           (c.in_ok-let_in_for.ensures.past some low);
     }
 
-whole : (waiting : Waiting) (old new : List ℕ) (offers slice : List Pattern) (at : ℕ) → slice ≡ offers → length slice ≤ at
+whole : (waiting : Waiting) (old new : List ℕ) (offers slice : List Pattern) (at : ℕ) → slice ≡ offers
+    → length slice ≤ at
     → GoesPast waiting old new (take at offers) → GoesPast waiting old new offers
 whole waiting old new offers slice at same long past =
     subst (GoesPast waiting old new)

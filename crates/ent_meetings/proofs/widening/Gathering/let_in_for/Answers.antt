@@ -31,7 +31,8 @@ loop-looks-preserved c =
       grows = grows_both c.args.index.now c.args.self.now c.loop-looks.self c.let_in.new.self before.grows grows;
       fewer = omega arith;
       past = λ low offered past among.
-          subst (λ (tickets : List ℕ). IsPassing c.args.index.now tickets offered c.args.offer.now (Some c.in-Found.ticket))
+          subst (λ (tickets : List ℕ). IsPassing c.args.index.now tickets offered c.args.offer.now
+          (Some c.in-Found.ticket))
           (sym more.1)
           (passes_on c.args.index.now old more.0 offered c.args.offer.now c.loop-looks.last c.in-Found.ticket
           (before.past (shorter old c.let_in.new.self.tickets.items more.0 more.1 low) offered past among)
@@ -41,7 +42,8 @@ loop-looks-preserved c =
     }
 
 -- where looks are left, nobody comes after
-none_after : (passes : ℕ → Bool) (last : Option ℕ) (looks left : ℕ) (answer : Next) → IsNext passes last looks left answer
+none_after : (passes : ℕ → Bool) (last : Option ℕ) (looks left : ℕ) (answer : Next)
+    → IsNext passes last looks left answer
     → (answer ≡ Nobody) ⊎ ((further : Option ℕ) × (answer ≡ Stopped further)) → 0 < left
     → (other : ℕ) → IsAfter last other → passes other ≡ false
 none_after passes last looks left answer next (inl is) some = subst (IsNext passes last looks left) is next

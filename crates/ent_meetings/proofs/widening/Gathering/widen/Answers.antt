@@ -31,7 +31,8 @@ loop-place-preserved c =
     let new = c.let_in_all.new.self.tickets.items in
     let party = c.in-Some.party.now in
     let got : slice_get (named waiting mid) c.loop-place.place ≡ Some party =
-    ap (λ (parties : List Party). slice_get parties c.loop-place.place) (sym before.grows.parties) ∙ sym c.in-Some.ensures in
+    ap (λ (parties : List Party). slice_get parties c.loop-place.place) (sym before.grows.parties)
+    ∙ sym c.in-Some.ensures in
     record {
       grows = grows_both waiting c.args.self.now c.loop-place.self c.let_in_all.new.self before.grows grows;
       fewer = omega arith;
@@ -49,7 +50,8 @@ returns-in_default-clause-whole c some low =
     let mid = c.loop-place.self.tickets.items in
     all_past waiting mid c.loop-place.place
     (got_none (named waiting mid) c.loop-place.place
-    (ap (λ (parties : List Party). slice_get parties c.loop-place.place) (sym before.grows.parties) ∙ sym c.in_default.ensures))
+    (ap (λ (parties : List Party). slice_get parties c.loop-place.place) (sym before.grows.parties)
+    ∙ sym c.in_default.ensures))
     (before.past some low)
 
 pub returns-clause-whole : goal.returns-clause-whole

@@ -17,7 +17,8 @@ returns-in-Ok-restore-clause-restores c =
     let rank = c.rank_of-rank in
     let list : new ≡ with_restored c.args.ticket script stay c.args.batches old.list =
     subst (λ (l : WaitingList). new ≡ l)
-    (as_restored script stay old.list c.args.ticket c.args.batches patience.result rank.result patience.ensures rank.ensures)
+    (as_restored script stay old.list c.args.ticket c.args.batches patience.result rank.result patience.ensures
+    rank.ensures)
     c.in-Ok-restore.ensures.list in
     subst
     (λ (r : Room). Restores r.admission c.args.ticket c.args.text.now c.args.variables.now stay c.args.batches new)

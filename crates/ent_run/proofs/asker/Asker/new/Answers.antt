@@ -12,7 +12,12 @@ same_passes : (prepared : List Member) (groups : List Membership) (group tx : �
     ≡ passes (asker_of member prepared groups) holder
 same_passes [] groups group tx member label number holder = ap (λ n. holder == n) number
 same_passes (x ∷ xs) groups group tx member label number holder = λ i.
-    passes (record { prepared = x ∷ xs; groups = groups; group = label x (contains_first x xs) i; tx = number i }) holder
+    passes (record {
+      prepared = x ∷ xs;
+      groups = groups;
+      group = label x (contains_first x xs) i;
+      tx = number i;
+    }) holder
 
 pub returns : goal.returns
 returns c =

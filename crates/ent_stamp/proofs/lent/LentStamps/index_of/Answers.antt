@@ -10,7 +10,8 @@ returns-then-is_same g c =
     let own = c.args.self.now in
     let place : ℕ = c.loop-place.place in
     let at : slice_get own.stamps.items place ≡ Some c.lent-item.result =
-    subst (λ (stamps : List LentStamp). slice_get stamps place ≡ Some c.lent-item.result) c.deref-lent-items.ensures.value
+    subst (λ (stamps : List LentStamp). slice_get stamps place ≡ Some c.lent-item.result)
+    c.deref-lent-items.ensures.value
     (slice_get_read c.deref-lent-items.result.now (length c.deref-lent-items.result.now) place c.lent-item.result refl
     c.loop-place-test.true c.lent-item.is) in
     index_known _ own.older place own.stamps.items c.args.stamp.now c.lent-item.result c.checked_add.result at

@@ -15,5 +15,6 @@ returns-else-index-self g c = λ jobs are.
     let own = c.args.self.now in
     let index = c.args.index in
     let behind : own.older ≤ index = grind (arith, nat_tests, c.if-index-self.false) in
-    subst (λ (stamps : List LentStamp). AreStampsBehind own.older stamps (remove jobs index)) (sym c.remove.ensures.items)
+    subst (λ (stamps : List LentStamp). AreStampsBehind own.older stamps (remove jobs index))
+    (sym c.remove.ensures.items)
     (known_less own.older index own.stamps.items jobs behind are)

@@ -34,4 +34,5 @@ returns-clause-onward c =
     subst (λ (l : WaitingList). Onward l (record old { waiters = ws; ended = c.finish.new.ended.items })) c.self.view_is
     (subst (λ (es : List Ended). Onward old (record old { waiters = ws; ended = es }))
     (sym (c.in_ok-finish.ensures.ended found.0 waits))
-    (onward_without old ws n found.0 one waits c.in_ok-finish.ensures.updates refl c.self.inside.queues c.self.invariant))
+    (onward_without old ws n found.0 one waits c.in_ok-finish.ensures.updates refl c.self.inside.queues
+    c.self.invariant))

@@ -10,5 +10,6 @@ invariant_of-self-2 c =
     let may : MayComeBack old c.number-number.result =
     subst (λ (k : ℕ). MayComeBack old k) (sym c.number-number.ensures)
     (subst (λ (l : WaitingList). MayComeBack l c.args.ticket) (sym c.self.view_is) c.in_default.ensures.may) in
-    kept_restored old c.admit.new.waiters.entries c.number-number.result c.new-waiter.result c.in_ok-admit.ensures.updates may
+    kept_restored old c.admit.new.waiters.entries c.number-number.result c.new-waiter.result
+    c.in_ok-admit.ensures.updates may
     c.self.inside.queues c.self.invariant c.admit.new.queues c.admit.ensures.kept_queued

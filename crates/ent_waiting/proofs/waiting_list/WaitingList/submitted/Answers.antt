@@ -20,7 +20,8 @@ invariant_of-self c =
     let updates = c.put_at.ensures.updates waiter waits in
     kept_over old new n waiter after waits updates queues queues c.self.invariant
     (queued_over old.waiters new queues n waiter after waits updates
-    (λ station. like_chosen station c.args.submission ∙ sym (ap (stands_in station) c.requires.chosen.place_is)) c.self.invariant.queued)
+    (λ station. like_chosen station c.args.submission ∙ sym (ap (stands_in station) c.requires.chosen.place_is))
+    c.self.invariant.queued)
 
 pub returns-clause-onward : goal.returns-clause-onward
 returns-clause-onward c =
