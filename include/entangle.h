@@ -315,6 +315,16 @@ int32_t ent_c_room_report(entangle_room **room, uint32_t version, uint8_t *buffe
                           entangle_told *told);
 void ent_c_room_free(entangle_room **room);
 
+/* Pointers that the library takes, where the caller's may be null: behind a null one no byte is read or written. */
+static inline const uint8_t *entangle_bytes(const void *text) {
+    static const uint8_t none = 0;
+    return text ? (const uint8_t *)text : &none;
+}
+static inline uint8_t *entangle_buffer(void *buffer) {
+    static uint8_t none;
+    return buffer ? (uint8_t *)buffer : &none;
+}
+
 /* Whether a pointer is null that must not be. */
 static inline bool entangle_is_misused(const void *text, size_t length, const void *buffer, size_t capacity,
                                        const void *told) {
@@ -326,9 +336,8 @@ static inline bool entangle_is_misused(const void *text, size_t length, const vo
  *
  * ENTANGLE_DONE: the text is the version. */
 static inline int32_t entangle_version(void *buffer, size_t capacity, entangle_told *told) {
-    uint8_t none = 0;
-    if (entangle_is_misused(&none, 0, buffer, capacity, told)) return ENTANGLE_MISUSED;
-    return ent_c_version(buffer ? (uint8_t *)buffer : &none, capacity, told);
+    if (entangle_is_misused(NULL, 0, buffer, capacity, told)) return ENTANGLE_MISUSED;
+    return ent_c_version(entangle_buffer(buffer), capacity, told);
 }
 
 /* Whether the library that the program runs with is of the version of this header, and writes structs of the sizes that
@@ -352,10 +361,8 @@ static inline bool entangle_is_of_this_header(void) {
  * told. ENTANGLE_MISUSED: there is no text, and no fault is told. */
 static inline int32_t entangle_report(const void *input, size_t length, uint32_t version, void *buffer,
                                       size_t capacity, entangle_told *told) {
-    uint8_t none = 0;
     if (entangle_is_misused(input, length, buffer, capacity, told)) return ENTANGLE_MISUSED;
-    return ent_c_report(input ? (const uint8_t *)input : &none, length, version,
-                        buffer ? (uint8_t *)buffer : &none, capacity, told);
+    return ent_c_report(entangle_bytes(input), length, version, entangle_buffer(buffer), capacity, told);
 }
 
 /* Gives the explanation of an input's fault, as `entangle run --explain` writes it to standard error: lines, each with
@@ -366,10 +373,8 @@ static inline int32_t entangle_report(const void *input, size_t length, uint32_t
  * the input. ENTANGLE_OUT_OF_MEMORY: E900 is told, and the text is `E900` with an LF, or there is none. */
 static inline int32_t entangle_explain(const void *input, size_t length, void *buffer, size_t capacity,
                                        entangle_told *told) {
-    uint8_t none = 0;
     if (entangle_is_misused(input, length, buffer, capacity, told)) return ENTANGLE_MISUSED;
-    return ent_c_explain(input ? (const uint8_t *)input : &none, length, buffer ? (uint8_t *)buffer : &none, capacity,
-                         told);
+    return ent_c_explain(entangle_bytes(input), length, entangle_buffer(buffer), capacity, told);
 }
 
 /* Gives the verdict on a report of version 2, as `entangle check` prints it, without the LF: `yes`, or `no` with a line
@@ -379,10 +384,8 @@ static inline int32_t entangle_explain(const void *input, size_t length, void *b
  * too long, there is no text, and E603 is told. ENTANGLE_OUT_OF_MEMORY: E900 is told. */
 static inline int32_t entangle_check(const void *report, size_t length, void *buffer, size_t capacity,
                                      entangle_told *told) {
-    uint8_t none = 0;
     if (entangle_is_misused(report, length, buffer, capacity, told)) return ENTANGLE_MISUSED;
-    return ent_c_check(report ? (const uint8_t *)report : &none, length, buffer ? (uint8_t *)buffer : &none, capacity,
-                       told);
+    return ent_c_check(entangle_bytes(report), length, entangle_buffer(buffer), capacity, told);
 }
 
 /* ---- rooms
@@ -398,18 +401,15 @@ static inline int32_t entangle_check(const void *report, size_t length, void *bu
  * ENTANGLE_OUT_OF_MEMORY. In both cases the values are as they were, and a null pointer is null. */
 static inline int32_t entangle_values_int(entangle_values **values, const void *name, size_t name_length,
                                           int64_t number, uint32_t *refusal) {
-    uint8_t none = 0;
-    if (!values || entangle_is_misused(name, name_length, &none, 0, refusal)) return ENTANGLE_MISUSED;
-    return ent_c_values_int(values, name ? (const uint8_t *)name : &none, name_length, number, refusal);
+    if (!values || entangle_is_misused(name, name_length, NULL, 0, refusal)) return ENTANGLE_MISUSED;
+    return ent_c_values_int(values, entangle_bytes(name), name_length, number, refusal);
 }
 
 /* The same for a text of UTF-8, of at most 255 bytes and without control characters. */
 static inline int32_t entangle_values_text(entangle_values **values, const void *name, size_t name_length,
                                            const void *text, size_t length, uint32_t *refusal) {
-    uint8_t none = 0;
     if (!values || entangle_is_misused(name, name_length, text, length, refusal)) return ENTANGLE_MISUSED;
-    return ent_c_values_text(values, name ? (const uint8_t *)name : &none, name_length,
-                             text ? (const uint8_t *)text : &none, length, refusal);
+    return ent_c_values_text(values, entangle_bytes(name), name_length, entangle_bytes(text), length, refusal);
 }
 
 /* Frees values, and sets the pointer to null; if the pointer is null, it does nothing. */
@@ -424,9 +424,8 @@ static inline void entangle_values_free(entangle_values **values) {
  * ENTANGLE_DONE: it is begun. ENTANGLE_REFUSED: the name is no word (BOUND_NO_NAME). ENTANGLE_OUT_OF_MEMORY. In both
  * cases the rows are as they were, and a null pointer is null. */
 static inline int32_t entangle_rows_begin(entangle_rows **rows, const void *table, size_t length, uint32_t *refusal) {
-    uint8_t none = 0;
-    if (!rows || entangle_is_misused(table, length, &none, 0, refusal)) return ENTANGLE_MISUSED;
-    return ent_c_rows_begin(rows, table ? (const uint8_t *)table : &none, length, refusal);
+    if (!rows || entangle_is_misused(table, length, NULL, 0, refusal)) return ENTANGLE_MISUSED;
+    return ent_c_rows_begin(rows, entangle_bytes(table), length, refusal);
 }
 
 /* Adds a number, any of 64 bits, to the row that was begun last.
@@ -442,9 +441,8 @@ static inline int32_t entangle_rows_int(entangle_rows **rows, int64_t number, ui
 /* The same for a text of UTF-8, of at most 255 bytes and without control characters; it is refused for its first fault
  * as a value is (BOUND_TOO_LONG, BOUND_NOT_UTF8, BOUND_CONTROL), else as a number is. */
 static inline int32_t entangle_rows_text(entangle_rows **rows, const void *text, size_t length, uint32_t *refusal) {
-    uint8_t none = 0;
-    if (!rows || entangle_is_misused(text, length, &none, 0, refusal)) return ENTANGLE_MISUSED;
-    return ent_c_rows_text(rows, text ? (const uint8_t *)text : &none, length, refusal);
+    if (!rows || entangle_is_misused(text, length, NULL, 0, refusal)) return ENTANGLE_MISUSED;
+    return ent_c_rows_text(rows, entangle_bytes(text), length, refusal);
 }
 
 /* Frees rows, and sets the pointer to null; if the pointer is null, it does nothing. */
@@ -465,11 +463,9 @@ static inline void entangle_rows_free(entangle_rows **rows) {
 static inline int32_t entangle_room_open(entangle_room **room, const void *input, size_t length, entangle_rows **rows,
                                          uint64_t epoch, uint64_t next, uint64_t next_group,
                                          const entangle_limits *limits, uint32_t *refusal, entangle_told *told) {
-    uint8_t none = 0;
     if (!room || !rows || !limits || !refusal) return ENTANGLE_MISUSED;
-    if (entangle_is_misused(input, length, &none, 0, told)) return ENTANGLE_MISUSED;
-    return ent_c_room_open(room, input ? (const uint8_t *)input : &none, length, rows, epoch, next, next_group, limits,
-                           refusal, told);
+    if (entangle_is_misused(input, length, NULL, 0, told)) return ENTANGLE_MISUSED;
+    return ent_c_room_open(room, entangle_bytes(input), length, rows, epoch, next, next_group, limits, refusal, told);
 }
 
 /* Puts a script into a room: the text of one script, from its BEGIN TRANSACTION on, and nothing else. It waits from
@@ -484,10 +480,9 @@ static inline int32_t entangle_room_open(entangle_room **room, const void *input
 static inline int32_t entangle_room_put(entangle_room **room, const void *script, size_t length,
                                         entangle_values **values, int64_t stay, uint64_t *ticket, uint32_t *refusal,
                                         entangle_told *told) {
-    uint8_t none = 0;
     if (!room || !values || !ticket || !refusal) return ENTANGLE_MISUSED;
-    if (entangle_is_misused(script, length, &none, 0, told)) return ENTANGLE_MISUSED;
-    return ent_c_room_put(room, script ? (const uint8_t *)script : &none, length, values, stay, ticket, refusal, told);
+    if (entangle_is_misused(script, length, NULL, 0, told)) return ENTANGLE_MISUSED;
+    return ent_c_room_put(room, entangle_bytes(script), length, values, stay, ticket, refusal, told);
 }
 
 /* Gives the explanation of the first fault for which entangle_room_put would refuse a script with these values, as
@@ -502,10 +497,8 @@ static inline int32_t entangle_room_put(entangle_room **room, const void *script
 static inline int32_t entangle_room_explain(entangle_room **room, const void *script, size_t length,
                                             entangle_values **values, void *buffer, size_t capacity,
                                             entangle_told *told) {
-    uint8_t none = 0;
     if (!room || !values || entangle_is_misused(script, length, buffer, capacity, told)) return ENTANGLE_MISUSED;
-    return ent_c_room_explain(room, script ? (const uint8_t *)script : &none, length, values,
-                              buffer ? (uint8_t *)buffer : &none, capacity, told);
+    return ent_c_room_explain(room, entangle_bytes(script), length, values, entangle_buffer(buffer), capacity, told);
 }
 
 /* Puts a script back that waited in a room of an earlier process, under its ticket, after it was in so many batches
@@ -517,11 +510,9 @@ static inline int32_t entangle_room_explain(entangle_room **room, const void *sc
 static inline int32_t entangle_room_restore(entangle_room **room, uint64_t ticket, const void *script, size_t length,
                                             entangle_values **values, int64_t stay, uint64_t batches,
                                             uint32_t *refusal, entangle_told *told) {
-    uint8_t none = 0;
     if (!room || !values || !refusal) return ENTANGLE_MISUSED;
-    if (entangle_is_misused(script, length, &none, 0, told)) return ENTANGLE_MISUSED;
-    return ent_c_room_restore(room, ticket, script ? (const uint8_t *)script : &none, length, values, stay, batches,
-                              refusal, told);
+    if (entangle_is_misused(script, length, NULL, 0, told)) return ENTANGLE_MISUSED;
+    return ent_c_room_restore(room, ticket, entangle_bytes(script), length, values, stay, batches, refusal, told);
 }
 
 /* Takes a script back: it waits no more, and will never commit.
@@ -556,9 +547,8 @@ static inline int32_t entangle_room_state(entangle_room **room, uint64_t ticket,
  * the line. ENTANGLE_OUT_OF_MEMORY: E900 is told. */
 static inline int32_t entangle_room_why(entangle_room **room, uint64_t ticket, void *buffer, size_t capacity,
                                         entangle_told *told) {
-    uint8_t none = 0;
-    if (!room || entangle_is_misused(&none, 0, buffer, capacity, told)) return ENTANGLE_MISUSED;
-    return ent_c_room_why(room, ticket, buffer ? (uint8_t *)buffer : &none, capacity, told);
+    if (!room || entangle_is_misused(NULL, 0, buffer, capacity, told)) return ENTANGLE_MISUSED;
+    return ent_c_room_why(room, ticket, entangle_buffer(buffer), capacity, told);
 }
 
 /* Tells the first ticket from this one on under which a script waits.
@@ -606,9 +596,8 @@ static inline int32_t entangle_room_submission(entangle_room **room, uint64_t ti
  * ENTANGLE_DONE: the text is these lines. ENTANGLE_OUT_OF_MEMORY: E900 is told. */
 static inline int32_t entangle_room_groups(entangle_room **room, uint64_t number, void *buffer, size_t capacity,
                                            entangle_told *told) {
-    uint8_t none = 0;
-    if (!room || entangle_is_misused(&none, 0, buffer, capacity, told)) return ENTANGLE_MISUSED;
-    return ent_c_room_groups(room, number, buffer ? (uint8_t *)buffer : &none, capacity, told);
+    if (!room || entangle_is_misused(NULL, 0, buffer, capacity, told)) return ENTANGLE_MISUSED;
+    return ent_c_room_groups(room, number, entangle_buffer(buffer), capacity, told);
 }
 
 /* Tells the number of the next group. ENTANGLE_DONE: `*number` is it. */
@@ -631,10 +620,8 @@ static inline int32_t entangle_room_settled_through(entangle_room **room, uint64
  * ENTANGLE_OUT_OF_MEMORY: E900 is told. */
 static inline int32_t entangle_room_table(entangle_room **room, const void *name, size_t length, void *buffer,
                                           size_t capacity, entangle_told *told) {
-    uint8_t none = 0;
     if (!room || entangle_is_misused(name, length, buffer, capacity, told)) return ENTANGLE_MISUSED;
-    return ent_c_room_table(room, name ? (const uint8_t *)name : &none, length, buffer ? (uint8_t *)buffer : &none,
-                            capacity, told);
+    return ent_c_room_table(room, entangle_bytes(name), length, entangle_buffer(buffer), capacity, told);
 }
 
 /* Tells the number of the present epoch. ENTANGLE_DONE: `*epoch` is it. */
@@ -651,9 +638,8 @@ static inline int32_t entangle_room_epoch(entangle_room **room, uint64_t *epoch)
  * ENTANGLE_OUT_OF_MEMORY: E900 is told. */
 static inline int32_t entangle_room_turn(entangle_room **room, const void *drained, size_t length, uint32_t *refusal,
                                          entangle_told *told) {
-    uint8_t none = 0;
-    if (!room || !refusal || entangle_is_misused(drained, length, &none, 0, told)) return ENTANGLE_MISUSED;
-    return ent_c_room_turn(room, drained ? (const uint8_t *)drained : &none, length, refusal, told);
+    if (!room || !refusal || entangle_is_misused(drained, length, NULL, 0, told)) return ENTANGLE_MISUSED;
+    return ent_c_room_turn(room, entangle_bytes(drained), length, refusal, told);
 }
 
 /* Gives the report of the epoch that ended last, by entangle_room_turn or by a step, in this version (1 or 2). It is
@@ -663,9 +649,8 @@ static inline int32_t entangle_room_turn(entangle_room **room, const void *drain
  * `*epoch` is as it was. ENTANGLE_OUT_OF_MEMORY: E900 is told. */
 static inline int32_t entangle_room_report(entangle_room **room, uint32_t version, void *buffer, size_t capacity,
                                            uint64_t *epoch, entangle_told *told) {
-    uint8_t none = 0;
-    if (!room || !epoch || entangle_is_misused(&none, 0, buffer, capacity, told)) return ENTANGLE_MISUSED;
-    return ent_c_room_report(room, version, buffer ? (uint8_t *)buffer : &none, capacity, epoch, told);
+    if (!room || !epoch || entangle_is_misused(NULL, 0, buffer, capacity, told)) return ENTANGLE_MISUSED;
+    return ent_c_room_report(room, version, entangle_buffer(buffer), capacity, epoch, told);
 }
 
 /* Frees a room, and sets the pointer to null; if the pointer is null, it does nothing. */
@@ -681,9 +666,8 @@ static inline void entangle_room_free(entangle_room **room) {
  * ENTANGLE_DONE: the manager is open. ENTANGLE_REFUSED, ENTANGLE_OUT_OF_MEMORY: the pointer is still null, and the
  * fault is told. ENTANGLE_MISUSED: the pointer wasn't null, and stays as it was. */
 static inline int32_t entangle_open(entangle_manager **manager, const void *input, size_t length, entangle_told *told) {
-    uint8_t none = 0;
-    if (!manager || entangle_is_misused(input, length, &none, 0, told)) return ENTANGLE_MISUSED;
-    return ent_c_open(manager, input ? (const uint8_t *)input : &none, length, told);
+    if (!manager || entangle_is_misused(input, length, NULL, 0, told)) return ENTANGLE_MISUSED;
+    return ent_c_open(manager, entangle_bytes(input), length, told);
 }
 
 /* Submits a script: the text of one script, from its BEGIN TRANSACTION on, and nothing else. It waits for a run.
@@ -693,9 +677,8 @@ static inline int32_t entangle_open(entangle_manager **manager, const void *inpu
  * ENTANGLE_OUT_OF_MEMORY: E900 is told. After a refusal nothing has changed, not even `*number`. */
 static inline int32_t entangle_submit(entangle_manager **manager, const void *script, size_t length, uint64_t *number,
                                       entangle_told *told) {
-    uint8_t none = 0;
-    if (!manager || !number || entangle_is_misused(script, length, &none, 0, told)) return ENTANGLE_MISUSED;
-    return ent_c_submit(manager, script ? (const uint8_t *)script : &none, length, number, told);
+    if (!manager || !number || entangle_is_misused(script, length, NULL, 0, told)) return ENTANGLE_MISUSED;
+    return ent_c_submit(manager, entangle_bytes(script), length, number, told);
 }
 
 /* Gives the explanation of a script's fault, as entangle_explain does for an input: for a script that entangle_submit
@@ -706,10 +689,8 @@ static inline int32_t entangle_submit(entangle_manager **manager, const void *sc
  * `E900` with an LF, or there is none. */
 static inline int32_t entangle_explain_script(entangle_manager **manager, const void *script, size_t length,
                                               void *buffer, size_t capacity, entangle_told *told) {
-    uint8_t none = 0;
     if (!manager || entangle_is_misused(script, length, buffer, capacity, told)) return ENTANGLE_MISUSED;
-    return ent_c_explain_script(manager, script ? (const uint8_t *)script : &none, length,
-                                buffer ? (uint8_t *)buffer : &none, capacity, told);
+    return ent_c_explain_script(manager, entangle_bytes(script), length, entangle_buffer(buffer), capacity, told);
 }
 
 /* Makes one run, if any script waits for one: the first 64 scripts that wait take part, and the run ends when none of
@@ -741,9 +722,8 @@ static inline int32_t entangle_make(entangle_manager **manager, uint32_t move, u
  * ENTANGLE_OUT_OF_MEMORY: E900 is told. */
 static inline int32_t entangle_why(entangle_manager **manager, uint64_t number, void *buffer, size_t capacity,
                                    entangle_told *told) {
-    uint8_t none = 0;
-    if (!manager || entangle_is_misused(&none, 0, buffer, capacity, told)) return ENTANGLE_MISUSED;
-    return ent_c_why(manager, number, buffer ? (uint8_t *)buffer : &none, capacity, told);
+    if (!manager || entangle_is_misused(NULL, 0, buffer, capacity, told)) return ENTANGLE_MISUSED;
+    return ent_c_why(manager, number, entangle_buffer(buffer), capacity, told);
 }
 
 /* Tells the state of a transaction, and its fate, if it has one.
@@ -761,9 +741,8 @@ static inline int32_t entangle_standing(entangle_manager **manager, uint64_t num
  * ENTANGLE_OUT_OF_MEMORY: E900 is told. */
 static inline int32_t entangle_answers(entangle_manager **manager, uint64_t number, void *buffer, size_t capacity,
                                        entangle_told *told) {
-    uint8_t none = 0;
-    if (!manager || entangle_is_misused(&none, 0, buffer, capacity, told)) return ENTANGLE_MISUSED;
-    return ent_c_answers(manager, number, buffer ? (uint8_t *)buffer : &none, capacity, told);
+    if (!manager || entangle_is_misused(NULL, 0, buffer, capacity, told)) return ENTANGLE_MISUSED;
+    return ent_c_answers(manager, number, entangle_buffer(buffer), capacity, told);
 }
 
 /* Gives the present rows of a table, in the lines of a report: a line with its name and how many rows it has, and a
@@ -773,10 +752,8 @@ static inline int32_t entangle_answers(entangle_manager **manager, uint64_t numb
  * ENTANGLE_OUT_OF_MEMORY: E900 is told. */
 static inline int32_t entangle_table(entangle_manager **manager, const void *name, size_t length, void *buffer,
                                      size_t capacity, entangle_told *told) {
-    uint8_t none = 0;
     if (!manager || entangle_is_misused(name, length, buffer, capacity, told)) return ENTANGLE_MISUSED;
-    return ent_c_table(manager, name ? (const uint8_t *)name : &none, length, buffer ? (uint8_t *)buffer : &none,
-                       capacity, told);
+    return ent_c_table(manager, entangle_bytes(name), length, entangle_buffer(buffer), capacity, told);
 }
 
 /* Closes a manager, if all its transactions have a fate and no run is on. A closed manager gives its report; it can be
@@ -794,9 +771,8 @@ static inline int32_t entangle_close(entangle_manager **manager) {
  * ENTANGLE_DONE: the text is the report. ENTANGLE_OUT_OF_MEMORY: E900 is told. */
 static inline int32_t entangle_closed_report(entangle_manager **manager, uint32_t version, void *buffer,
                                              size_t capacity, entangle_told *told) {
-    uint8_t none = 0;
-    if (!manager || entangle_is_misused(&none, 0, buffer, capacity, told)) return ENTANGLE_MISUSED;
-    return ent_c_closed_report(manager, version, buffer ? (uint8_t *)buffer : &none, capacity, told);
+    if (!manager || entangle_is_misused(NULL, 0, buffer, capacity, told)) return ENTANGLE_MISUSED;
+    return ent_c_closed_report(manager, version, entangle_buffer(buffer), capacity, told);
 }
 
 /* Opens a closed manager again: over the same tables, with the rows that they had at the close. It has no scripts,

@@ -1,7 +1,7 @@
 /* A library that isn't the one of the header: it answers another version, or says that its structs are of other sizes,
- * or, with -DWITHOUT_EXPLAIN, lacks a call. `tools/check bindings` shows with it that the Rust crate, the Python package
- * and entangle_is_of_this_header() refuse such a library. It is compiled without the header, since its calls take
- * nothing:
+ * or, with -DWITHOUT_EXPLAIN, lacks a call. `tools/check bindings` shows with it that the Rust crate, the Python
+ * package and entangle_is_of_this_header() refuse such a library. It is compiled without the header, since its calls
+ * take nothing:
  *
  *     cc -DSTUB_VERSION='"0.1.0, proved by nobody"' -DSTUB_TOLD=40 -c bindings/c/stub.c
  */

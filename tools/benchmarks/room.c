@@ -5,8 +5,8 @@
  *     room lonely N         N wait whom nobody may answer; then pairs come, each of which one step books
  *     room writers N        N wait for a seat; then writers come, and after each a pair
  *     room anybody N        N come whose demands anybody may meet, and whom the tables don't fit; behind them a pair
- *     room epochs N         N rounds of 2,000 pairs, after each of which the bookings are drained and the report checked,
- *                           while others wait through all of them
+ *     room epochs N         N rounds of 2,000 pairs, after each of which the bookings are drained and the report
+ *                           checked, while others wait through all of them
  *
  * Each line of its output is a name and a number. It ends with status 1 if somebody who had to commit didn't.
  */
@@ -258,8 +258,8 @@ static void anybody(size_t count) {
         if (now(CLOCK_MONOTONIC) - begun > longest_step) longest_step = now(CLOCK_MONOTONIC) - begun;
         steps++;
     }
-    printf("%zu whose demands anybody may meet: the pair behind them is booked after %llu steps, %.2f s; the longest put "
-           "%.2f ms, the longest step %.2f ms\n",
+    printf("%zu whose demands anybody may meet: the pair behind them is booked after %llu steps, %.2f s; the longest "
+           "put %.2f ms, the longest step %.2f ms\n",
            count, (unsigned long long)steps, now(CLOCK_MONOTONIC) - first, longest_put * 1e3, longest_step * 1e3);
 }
 
@@ -300,7 +300,8 @@ static void epochs(size_t count) {
         check_report();
         if (entangle_room_waiting(&room, 0, &waiting) != ENTANGLE_DONE) stop("nobody waits any more");
     }
-    printf("%zu scripts and as many bookings in %zu epochs, each with a report that is checked, while %zu wait: %.2f s\n",
+    printf("%zu scripts and as many bookings in %zu epochs, each with a report that is checked, while %zu wait: "
+           "%.2f s\n",
            4000 * count, count, lonely_ones, now(CLOCK_PROCESS_CPUTIME_ID) - begun);
 }
 
