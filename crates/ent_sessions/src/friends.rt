@@ -1,4 +1,5 @@
-//! Two friends come at different times and wait for their fates, while a third thread starts and ends the runs.
+//! Clients come at different times and wait for their fates, while another thread starts and ends the runs: two friends
+//! and somebody whose friend never comes; and three whose friends never come, who get their fates by one event.
 ghost use Rattle.std.specs.Prelude.{◌≡◌};
 
 use anyhow::{Context, Result, ensure};
@@ -36,15 +37,58 @@ SELECT 'Donald', fno AS @f INTO ANSWER R
 COMMIT;
 ";
 
+/// Three whose friends never come.
+const LONELY: &str = "BEGIN TRANSACTION WITHIN 1 RUNS;
+SELECT 'Donald', fno AS @f INTO ANSWER R
+  WHERE fno IN (SELECT fno FROM Flights WHERE dest = 'LA') AND ('Daisy', fno) IN ANSWER R CHOOSE 1;
+COMMIT;
+BEGIN TRANSACTION WITHIN 1 RUNS;
+SELECT 'Goofy', fno AS @f INTO ANSWER R
+  WHERE fno IN (SELECT fno FROM Flights WHERE dest = 'LA') AND ('Clarabelle', fno) IN ANSWER R CHOOSE 1;
+COMMIT;
+BEGIN TRANSACTION WITHIN 1 RUNS;
+SELECT 'Pluto', fno AS @f INTO ANSWER R
+  WHERE fno IN (SELECT fno FROM Flights WHERE dest = 'LA') AND ('Fifi', fno) IN ANSWER R CHOOSE 1;
+COMMIT;
+";
+
+/// How many milliseconds a run is left alone, so that all its clients sleep when it ends.
+const LEFT_ALONE: u64 = 200;
+
 /// How many seconds a client waits at most: longer than anybody does where nothing goes wrong.
 const LONG: u64 = 20;
+
+/// Whose scripts come.
+#[derive(Clone, Copy, Debug, PartialEq, Eq)]
+enum Cast {
+    Friends,
+    Lonely,
+}
+
+impl Cast {
+    /// The three scripts.
+    fn scripts(self) -> &'static str {
+        match self {
+            Cast::Friends => SCRIPTS,
+            Cast::Lonely => LONELY,
+        }
+    }
+
+    /// How many of them commit.
+    fn commits(self) -> usize {
+        match self {
+            Cast::Friends => 2,
+            Cast::Lonely => 0,
+        }
+    }
+}
 
 /// Who comes, with what is wanted.
 #[derive(Drop)]
 enum Part<L: Naming> {
     /// Comes as number so many, once as many others have, and waits for its fate.
     Client(usize, Script, Session<L>),
-    /// Starts and ends runs until all have their fates.
+    /// Starts and ends runs.
     Pace(Session<L>),
 }
 
@@ -105,9 +149,29 @@ fn pace<L: Naming, R: Wait + Clock>(
     }
 }
 
+/// Makes one run, once all three have come, and leaves it alone before it ends.
+fn pace_once<L: Naming, R: Wait + Clock>(
+    rt: &R,
+    manager: &Manager<L, Open>,
+    session: Session<L>,
+) -> ToldClient<L> {
+    await_others(rt, manager, 3);
+    for _ in rt.forever() {
+        let started = manager.start_run(rt);
+        thread::sleep(rt, Duration::from_millis(LEFT_ALONE));
+        if started.is_ok() && manager.end_run(rt) == Ok(Headway::Moved) {
+            break;
+        }
+    }
+    ToldClient {
+        session,
+        fate: None,
+    }
+}
+
 /// A part for each session.
-fn seated<L: Naming>(alloc: Global, sessions: Vec<Session<L>>) -> Result<Vec<Part<L>>> {
-    let input = parse_input(alloc, SCRIPTS).ok();
+fn seated<L: Naming>(alloc: Global, sessions: Vec<Session<L>>, cast: Cast) -> Result<Vec<Part<L>>> {
+    let input = parse_input(alloc, cast.scripts()).ok();
     let mut scripts = input
         .context("the scripts can't be read")?
         .scripts
@@ -132,28 +196,39 @@ fn has_committed(fate: Option<Fate>) -> bool {
 }
 
 /// The friends have committed, and the third one has given up.
-fn are_told<L: Naming>(told: &[ToldClient<L>]) -> Result<()> {
-    ensure!(told.len() == 4, "not all came back");
+fn are_told(fates: &[Option<Fate>]) -> Result<()> {
+    ensure!(fates.len() == 4, "not all came back");
+    ensure!(has_committed(fates[0]), "the first friend hasn't committed");
     ensure!(
-        has_committed(told[0].fate),
-        "the first friend hasn't committed"
-    );
-    ensure!(
-        has_committed(told[1].fate),
+        has_committed(fates[1]),
         "the second friend hasn't committed"
     );
     ensure!(
-        told[2].fate == Some(Fate::GaveUp { runs: 2 }),
+        fates[2] == Some(Fate::GaveUp { runs: 2 }),
         "the third has another fate"
     );
     Ok(())
 }
 
-fn check_of<L: Naming + Send + Sync, R: Threads + Wait + Clock + Sync>(
+/// All three have given up after their run, and were told.
+fn are_told_together(fates: &[Option<Fate>]) -> Result<()> {
+    ensure!(fates.len() == 4, "not all came back");
+    for fate in &fates[..3] {
+        ensure!(
+            *fate == Some(Fate::GaveUp { runs: 1 }),
+            "one isn't told that the run gave up"
+        );
+    }
+    Ok(())
+}
+
+/// The fates that the clients are told; none of whoever paces the runs, who comes last.
+fn told_of<L: Naming + Send + Sync, R: Threads + Wait + Clock + Sync>(
     rt: &R,
     alloc: Global,
     blank: Blanks,
-) -> Result<()>
+    cast: Cast,
+) -> Result<Vec<Option<Fate>>>
     requires names { (blank.scripts.name ≡ L.Scripts.name) × (blank.entries.name ≡ L.Entries.name)
         × (blank.jobs ≡ L.Scripts.book) }
     requires blank { (blank.scripts.parts ≡ 4) × (blank.entries.parts ≡ 4) }
@@ -165,43 +240,53 @@ fn check_of<L: Naming + Send + Sync, R: Threads + Wait + Clock + Sync>(
         .context("the opening can't be read")?;
     let opened = Manager::<L, Open>::open(alloc, blank, input, Open, 4).ok();
     let (manager, sessions) = opened.context("the manager can't be opened")?;
-    let parts = seated(alloc, sessions)?;
+    let parts = seated(alloc, sessions, cast)?;
     let shared = &manager;
     let act = |part: Part<L>| -> ToldClient<L> {
         match part {
             Part::Client(number, script, session) => come(rt, shared, number, script, session),
-            Part::Pace(session) => pace(rt, shared, session),
+            Part::Pace(session) => match cast {
+                Cast::Friends => pace(rt, shared, session),
+                Cast::Lonely => pace_once(rt, shared, session),
+            },
         }
     };
     let told = thread::map_vec(rt, parts, &act)?;
-    are_told(told.as_slice())?;
+    let mut fates = Vec::new(alloc);
     let mut sessions = Vec::new(alloc);
     for one in told {
+        fates.push(one.fate)?;
         sessions.push(one.session)?;
     }
     let (book, _) = manager
         .close(sessions)
         .ok()
         .context("the manager can't be closed")?;
-    ensure!(book.journal.len() == 2, "another journal");
-    Ok(())
+    ensure!(book.journal.len() == cast.commits(), "another journal");
+    Ok(fates)
 }
 
-fn check_by<S: Seats + Send + Sync, E: Seats + Send + Sync, R: Threads + Wait + Clock + Sync>(
+fn told_by<S: Seats + Send + Sync, E: Seats + Send + Sync, R: Threads + Wait + Clock + Sync>(
     rt: &R,
     alloc: Global,
     blank: Blanks,
-) -> Result<()>
+    cast: Cast,
+) -> Result<Vec<Option<Fate>>>
     requires names { (blank.scripts.name ≡ S.name) × (blank.entries.name ≡ E.name) × (blank.jobs ≡ S.book) }
     requires blank { (blank.scripts.parts ≡ 4) × (blank.entries.parts ≡ 4) }
     requires scripts { (S.seats ≡ 4) × (S.parts ≡ 4) }
     requires entries { (E.seats ≡ 4) × (E.parts ≡ 4) }
 {
-    check_of::<Both<S, E>, R>(rt, alloc, blank)
+    told_of::<Both<S, E>, R>(rt, alloc, blank, cast)
 }
 
-pub(crate) fn check<R: Threads + Wait + Clock + Sync>(rt: &R, alloc: Global) -> Result<()> {
-    check_by::<Brand, Brand, R>(
+/// What each client is told, over a manager of their own.
+fn told<R: Threads + Wait + Clock + Sync>(
+    rt: &R,
+    alloc: Global,
+    cast: Cast,
+) -> Result<Vec<Option<Fate>>> {
+    told_by::<Brand, Brand, R>(
         rt,
         alloc,
         Blanks {
@@ -209,5 +294,16 @@ pub(crate) fn check<R: Threads + Wait + Clock + Sync>(rt: &R, alloc: Global) -> 
             entries: Blank::new(4),
             jobs: BlankLog::new(),
         },
+        cast,
     )
+}
+
+pub(crate) fn check<R: Threads + Wait + Clock + Sync>(rt: &R, alloc: Global) -> Result<()> {
+    let fates = told(rt, alloc, Cast::Friends)?;
+    are_told(fates.as_slice())
+}
+
+pub(crate) fn check_lonely<R: Threads + Wait + Clock + Sync>(rt: &R, alloc: Global) -> Result<()> {
+    let fates = told(rt, alloc, Cast::Lonely)?;
+    are_told_together(fates.as_slice())
 }

@@ -6,7 +6,7 @@
 //!   that took the lock behind the gate, for the evaluation, would go through all of this. And a job that is held at
 //!   the gate is called back, and done by another session;
 //! - a service that starts and ends its runs itself, and whose clients come at different times and wait for their
-//!   fates;
+//!   fates; one event gives up three of them, and each is told;
 //! - two friends who book through one session, in one thread, where each call that runs out of memory is made again:
 //!   once with their scripts submitted one by one, and once with a manager that is opened over them;
 //! - the load of an ordinary service: eight sessions in threads, each of which submits 50 scripts while all work. Each
@@ -74,6 +74,7 @@ fn held<R: Threads + Wait + Clock + Sync>(rt: &R, alloc: Global) -> Result<()> {
     recall::check(rt, alloc).context("a job is called back")?;
     paced::check(rt, alloc).context("runs that are started and ended")?;
     friends::check(rt, alloc).context("friends who come at different times")?;
+    friends::check_lonely(rt, alloc).context("who gives up together")?;
     renewal::check(rt, alloc).context("a second epoch")
 }
 
@@ -102,6 +103,7 @@ fn main(rt: HostRuntime) -> Result<()> {
         println!(rt; "a job is called back: ok")?;
         println!(rt; "runs that are started and ended: ok")?;
         println!(rt; "friends who come at different times: ok")?;
+        println!(rt; "who gives up together: ok")?;
         println!(rt; "a second epoch: ok")?;
     }
     if part != Wanted::Load {
