@@ -310,6 +310,13 @@ impl<L: Naming, G: Gate> Manager<L, G> {
         ensures sessions_out { IfErr result (λ refused.
             (refused.refusal ≡ Fault SessionsOut) ↔ (vec_len sessions ≢ self.sessions)) }
     {
+        if sessions.len() != self.sessions {
+            return Err(UnclosedManager {
+                manager: self,
+                sessions,
+                refusal: Refusal::Fault(CloseFault::SessionsOut),
+            });
+        }
         let Manager {
             alloc,
             desk,
@@ -317,19 +324,6 @@ impl<L: Naming, G: Gate> Manager<L, G> {
             gate,
             sessions: count,
         } = self;
-        if sessions.len() != count {
-            return Err(UnclosedManager {
-                manager: Manager {
-                    alloc,
-                    desk,
-                    bell,
-                    gate,
-                    sessions: count,
-                },
-                sessions,
-                refusal: Refusal::Fault(CloseFault::SessionsOut),
-            });
-        }
         match desk.into_inner().close(sessions.as_mut_slice()) {
             Ok(book) => Ok((book, sessions)),
             Err(refused) => Err(UnclosedManager {

@@ -49,6 +49,13 @@ impl<L: Naming, G: Gate> Manager<L, G> {
         ensures sessions_out { IfErr result (λ refused.
             (refused.refusal ≡ Fault (Close SessionsOut)) ↔ (vec_len sessions ≢ self.sessions)) }
     {
+        if sessions.len() != self.sessions {
+            return Err(NotRenewed {
+                manager: self,
+                sessions,
+                refusal: Refusal::Fault(RenewFault::Close(CloseFault::SessionsOut)),
+            });
+        }
         let Manager {
             alloc,
             desk,
@@ -56,19 +63,6 @@ impl<L: Naming, G: Gate> Manager<L, G> {
             gate,
             sessions: count,
         } = self;
-        if sessions.len() != count {
-            return Err(NotRenewed {
-                manager: Manager {
-                    alloc,
-                    desk,
-                    bell,
-                    gate,
-                    sessions: count,
-                },
-                sessions,
-                refusal: Refusal::Fault(RenewFault::Close(CloseFault::SessionsOut)),
-            });
-        }
         match desk.into_inner().renew(alloc, sessions.as_mut_slice()) {
             Ok(renewed) => Ok(Renewed {
                 manager: Manager {
