@@ -46,17 +46,19 @@ def text_of(path):
 
 
 class Edit:
-    """Texts of a crate's files, each with what takes its place, and the functions in which they stand.
+    """Texts of a crate's files, each with what takes its place, and the functions at which it is tried.
 
-    It has no functions where a text stands outside of all, or doesn't stand once.
+    These are the functions in which the texts stand, and those that a line `at: FUNCTION` names, for what stands
+    outside of all: a constant. It has no functions where none is named, or a text doesn't stand once.
     """
 
     def __init__(self, path, folder):
         self.path, self.name = path, os.path.basename(path)
         self.text = text_of(path)
         self.pairs = list(self.read())
-        self.places = self.find(folder)
-        self.functions = [place[0] for place in self.places]
+        self.named = [line[len("at: ") :].strip() for line in self.text.split("\n") if line.startswith("at: ")]
+        self.fits, self.places = self.find(folder)
+        self.functions = list(dict.fromkeys([place[0] for place in self.places] + self.named if self.fits else []))
 
     def read(self):
         """Each file, text and what takes its place."""
@@ -68,23 +70,24 @@ class Edit:
                 yield name, old, text
 
     def find(self, folder):
-        """The functions in which its texts stand: the path of each, as the prover takes it, and its file and lines."""
+        """Whether it can be tried at functions, and those in which its texts stand: the path of each, as the prover
+        takes it, and its file and lines."""
         places, texts = {}, {}
         for name, old, new in self.pairs:
             text = texts[name] if name in texts else text_of(os.path.join(folder, name))
             if not name.startswith("src/") or text.count(old) != 1:
-                return []
+                return False, []
             # a text may stand in what an earlier one gave way to; each is within a line
             line, texts[name] = text[: text.index(old)].count("\n"), text.replace(old, new)
             around = [it for it in functions_in(text) if it[0] <= line <= it[1]]
-            if not around:
-                return []
-            first, last, own = around[-1]
-            module = os.path.splitext(name)[0].split("/")[1:]
-            # a method is named by its type, in whichever file it stands
-            owner = [] if len(own) > 1 or module in (["lib"], ["main"]) else module
-            places["::".join([*owner, *own])] = name, first + 1, last + 1
-        return [(function, *place) for function, place in places.items()]
+            if not around and not self.named:
+                return False, []
+            for first, last, own in around[-1:]:
+                module = os.path.splitext(name)[0].split("/")[1:]
+                # a method is named by its type, in whichever file it stands
+                owner = [] if len(own) > 1 or module in (["lib"], ["main"]) else module
+                places["::".join([*owner, *own])] = name, first + 1, last + 1
+        return True, [(function, *place) for function, place in places.items()]
 
     def make(self, folder):
         """Makes it in a copy of the crate."""
@@ -102,9 +105,8 @@ class Edit:
     def is_blamed(self, error):
         """Whether an error stands in a function that it changes, or in its proof."""
         name, line = error.removeprefix("./").split(":")[:2]
-        for function, file, first, last in self.places:
-            if name == file and first <= int(line) <= last:
-                return True
-            if name.startswith("proofs/") and "/".join(["", *function.split("::"), ""]) in name:
-                return True
-        return False
+        if any(name == file and first <= int(line) <= last for _, file, first, last in self.places):
+            return True
+        # the folder of a recursive function's proof has a + in front
+        own = name.replace("/+", "/") if name.startswith("proofs/") else ""
+        return any("/".join(["", *function.split("::"), ""]) in own for function in self.functions)
