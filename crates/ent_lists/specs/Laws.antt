@@ -22,7 +22,8 @@ use Rattle.std.proofs.lemmas.List.Folds.{list_any-append}
 use Rattle.std.proofs.lemmas.List.Kept.{IsStrictlySortedBy-dedup}
 use Rattle.std.proofs.lemmas.List.Sorted.{list_any-IsPermutation}
 use Rattle.ent_lists.specs.Elements.{all_filtered}
-use Rattle.ent_lists.specs.Sets.{Set, empty, contains, insert, retain, len, ascending, insert_all, without_all, from_list}
+use Rattle.ent_lists.specs.Sets.{Set, empty, contains, insert, retain, len, ascending, insert_all, without_all}
+use Rattle.ent_lists.specs.Sets.{from_list}
 
 -- ---- lists
 
