@@ -1,5 +1,5 @@
 -- What replies tell of an advance, and what is made.
-use Rattle.std.proofs.Common.{◌≡◌, inl, inr, ℕ, Bool, true, false, List, [], ◌∷◌, refl, sym, ap, subst, ◌∙◌}
+use Rattle.std.proofs.Common.{◌≡◌, inl, inr, ◌||◌, ℕ, Bool, true, false, List, [], ◌∷◌, refl, sym, ap, subst, ◌∙◌}
 use Rattle.std.proofs.Common.{Option, Some, None, Result, Ok, Err, IfOk, OnErr}
 use Rattle.ent_core.specs.Pick.{NoneCanBePicked}
 use Rattle.ent_form.specs.declared.fault.FormFault.{FormFault}
@@ -21,10 +21,11 @@ use Rattle.ent_protocol_laws.specs.Standing.{StandOnce}
 use Rattle.ent_termination.specs.Fates.{HaveFates}
 use Rattle.ent_desk.specs.Advance.{Told, Advances, AdvancesInRun, BeginsUnless, EndsRun, IsDone, IsNext}
 use Rattle.ent_desk.specs.Advance.{IsNextInRun, IsStill, Makes, MakesUnless, MovesInRun, MovesUnlessStill, RestsAs}
-use Rattle.ent_desk.specs.Advance.{StartsRun, advance_in, moved_unless}
+use Rattle.ent_desk.specs.Advance.{StartsRun, advance_in, is_leaving, moved_unless}
 use Rattle.ent_desk.specs.Seen.{DeskState, LeadsOn}
 use Rattle.ent_desk.specs.declared.advance.Advance.TheVariants as advances
 use Rattle.ent_desk.proofs.Keeping.{advances_on, none_on}
+use Rattle.ent_desk.proofs.Leaving.{idle_stays, stays_left}
 use Rattle.ent_desk.proofs.Standstill.{awaits, cannot_move}
 
 -- ---- what replies tell
@@ -128,13 +129,21 @@ is_done s reached closes fates =
 
 -- ---- events
 
-abbrev pub desk : ℕ → State → DeskState
-desk count core = record { core = core; count = count }
+abbrev pub desk : ℕ → State → Bool → DeskState
+desk count core left = record { core = core; count = count; left = left }
 
-module _ (count : ℕ) (old new : State) (reply : Reply FormFault) where
+module _ (count : ℕ) (old new : State) (reply : Reply FormFault) (before after : Bool)
+    (left : after ≡ (before || is_leaving reply)) where
   makes : (event : Event) (told : Option Told) → told ≡ advance_in reply
-      → Step resolved_forms old event reply new → Makes event (desk count old) told (desk count new)
-  makes event told is step = record { reply = reply; step = step; tells = sym is; count = refl }
+      → Step resolved_forms old event reply new → Makes event (desk count old before) told (desk count new after)
+  makes event told is step = record { reply = reply; step = step; tells = sym is; count = refl; left = left }
+
+  -- where nothing is told of, nobody left
+  same : None ≡ advance_in reply → new ≡ old → desk count new after ≡ desk count old before
+  same none is =
+      let stays = stays_left before (is_leaving reply) (idle_stays reply (idle_told reply (sym none))) in
+      let none_left : after ≡ before = left ∙ sym stays in
+      λ j. desk count (is j) (none_left j)
 
   told_some : (told : Told) (other : Reply FormFault) → reply ≡ other → advance_in other ≡ Some told
       → None ≡ advance_in reply → ⊥
@@ -148,9 +157,9 @@ module _ (count : ℕ) (old new : State) (reply : Reply FormFault) where
   none_picked (inr h) none = (h.1.1, h.0)
 
   pub pick_made : (told : Option Told) → told ≡ advance_in reply → Picks old reply new
-      → MakesUnless (NoneCanBePicked old) events.Pick (desk count old) told (desk count new)
+      → MakesUnless (NoneCanBePicked old) events.Pick (desk count old before) told (desk count new after)
   pick_made (Some told) is step = makes events.Pick (Some told) is step
-  pick_made None is step = let h = none_picked step is in (ap (desk count) h.0, h.1)
+  pick_made None is step = let h = none_picked step is in (same is h.0, h.1)
 
   -- ---- a deadlock
 
@@ -159,19 +168,19 @@ module _ (count : ℕ) (old new : State) (reply : Reply FormFault) where
   none_broken (inr h) none = (h.1.1, h.0)
 
   pub break_made : (told : Option Told) → told ≡ advance_in reply → BreaksIfAny old reply new
-      → MakesUnless (NoDeadlock old) events.BreakCycle (desk count old) told (desk count new)
+      → MakesUnless (NoDeadlock old) events.BreakCycle (desk count old before) told (desk count new after)
   break_made (Some told) is step = makes events.BreakCycle (Some told) is step
-  break_made None is step = let h = none_broken step is in (ap (desk count) h.0, h.1)
+  break_made None is step = let h = none_broken step is in (same is h.0, h.1)
 
   -- ---- a begin
 
   pub begin_made : (tx : ℕ) (told : Option Told) → told ≡ advance_in reply → Begins old tx reply new
       → StandByNumber old → StandOnce old → (is_idle reply ≡ true → new ≡ old)
-      → MakesUnless (¬ CanMove old tx) (events.Begin tx) (desk count old) told (desk count new)
+      → MakesUnless (¬ CanMove old tx) (events.Begin tx) (desk count old before) told (desk count new after)
   begin_made tx (Some told) is step stand once stays = makes (events.Begin tx) (Some told) is step
   begin_made tx None is step stand once stays =
       let idle = idle_told reply (sym is) in
-      (ap (desk count) (stays idle), cannot_move old once stand tx reply new step idle)
+      (same is (stays idle), cannot_move old once stand tx reply new step idle)
 
   -- ---- the end of a run
 
@@ -190,17 +199,17 @@ module _ (count : ℕ) (old new : State) (reply : Reply FormFault) where
       (is ∙ ap (λ (r : Reply FormFault). advance_in r) h.2.0)))
 
   pub ended : (told : Told) → Some told ≡ advance_in reply → old.running ≡ true → Ends old reply new
-      → EndsRun (desk count old) told (desk count new)
+      → EndsRun (desk count old before) told (desk count new after)
   ended told is on step =
       let moved = ends_told told old.running on step is in
-      subst (λ (t : Told). EndsRun (desk count old) t (desk count new)) moved
+      subst (λ (t : Told). EndsRun (desk count old before) t (desk count new after)) moved
       (makes events.EndRun (Some advances.Moved) (ap Some moved ∙ is) step)
 
   pub kept_busy : None ≡ advance_in reply → old.running ≡ true → Ends old reply new
-      → EndsRun (desk count old) advances.Idle (desk count new)
+      → EndsRun (desk count old before) advances.Idle (desk count new after)
   kept_busy none on step =
       let h = why_busy old.running on step none in
-      (ap (desk count) h.0, (λ closes. clash old.running on closes.0), (λ running. h.1))
+      (same none h.0, (λ closes. clash old.running on closes.0), (λ running. h.1))
 
   -- ---- the start of a run
 
@@ -220,18 +229,18 @@ module _ (count : ℕ) (old new : State) (reply : Reply FormFault) where
       let both : Some told ≡ Some advances.Moved = is ∙ ap (λ (r : Reply FormFault). advance_in r) step.0 in cc
 
   pub started : (told : Told) → Some told ≡ advance_in reply → old.running ≡ false → Starts old reply new
-      → StartsRun (desk count old) told (desk count new)
+      → StartsRun (desk count old before) told (desk count new after)
   started told is off step =
       let moved = starts_told told old.running old.dormant off step is in
-      subst (λ (t : Told). StartsRun (desk count old) t (desk count new)) moved
+      subst (λ (t : Told). StartsRun (desk count old before) t (desk count new after)) moved
       (makes events.StartRun (Some advances.Moved) (ap Some moved ∙ is) step)
 
   pub all_done : None ≡ advance_in reply → old.running ≡ false → Starts old reply new → IsReached resolved_forms old
       → ((s : State) → IsFinished resolved_forms s → HaveFates (book_of s))
-      → StartsRun (desk count old) advances.Done (desk count new)
+      → StartsRun (desk count old before) advances.Done (desk count new after)
   all_done none off step reached fates =
       let h = none_started old.running old.dormant off step none in
-      (ap (desk count) h.0, is_done old reached (off, h.1) fates)
+      (same none h.0, is_done old reached (off, h.1) fates)
 
 -- ---- in a run
 

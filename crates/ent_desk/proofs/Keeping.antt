@@ -1,17 +1,18 @@
 -- What an event leaves of a desk: gathered, with as many scripts and entries as its books say.
-use Rattle.std.proofs.Common.{◌≡◌, ◌+◌, ◌++◌, ◌∙◌, ℕ, suc, List, [], ◌∷◌, refl, ap, arith}
+use Rattle.std.proofs.Common.{◌≡◌, ◌+◌, ◌++◌, ◌∙◌, ◌||◌, ℕ, suc, Bool, false, List, [], ◌∷◌, refl, ap, arith, sym}
 use Rattle.std.proofs.Common.{Option, Some}
 use Rattle.ent_form.specs.declared.fault.FormFault.{FormFault}
 use Rattle.ent_protocol.specs.Event.{EndRun, Event, Reply, StartRun, Submit, Submitted}
 use Rattle.ent_protocol.specs.State.{State}
 use Rattle.ent_protocol.specs.Step.{Step}
 use Rattle.ent_core.specs.Passed.{resolved_forms}
-use Rattle.ent_desk.specs.Advance.{Told, Advances, AdvancesInRun, EndsRun, Makes, StartsRun}
+use Rattle.ent_desk.specs.Advance.{Told, Advances, AdvancesInRun, EndsRun, Makes, StartsRun, is_leaving}
 use Rattle.ent_desk.specs.Kept.{IsKeptDesk}
-use Rattle.ent_desk.specs.Seen.{DeskState, GetsReceipts, LeadsOn, SessionState}
+use Rattle.ent_desk.specs.Seen.{DeskState, GetsReceipts, LeadsOn, SessionState, TellsOfFates}
 use Rattle.ent_desk.specs.declared.advance.Advance.TheVariants as advances
 use Rattle.ent_tree.specs.declared.script.Script.{Script}
 use Rattle.ent_desk.proofs.Counting.{Adds, Keeps, adds_none, submits_one}
+use Rattle.ent_desk.proofs.Leaving.{fates_kept, none_left}
 
 pub kept_on : (count scripts entries more commits scripts' entries' : ℕ) (old new : State) (event : Event)
     (reply : Reply FormFault) → IsKeptDesk old count scripts entries → Step resolved_forms old event reply new
@@ -45,16 +46,34 @@ kept_submit count scripts entries scripts' old new script tx kept step more =
     kept_on count scripts entries 1 0 scripts' entries old new (Submit script) (Submitted tx) kept step
     (submits_one resolved_forms old new script tx step) more (omega arith)
 
+-- an event tells of the fates that come
+fates_told : (before after : DeskState) (event : Event) (reply : Reply FormFault)
+    → Step resolved_forms before.core event reply after.core → after.left ≡ (before.left || is_leaving reply)
+    → TellsOfFates before after
+fates_told before after event reply step left = λ stays.
+    let h = none_left before.left after.left (is_leaving reply) left stays in
+    (h.0, fates_kept resolved_forms before.core event reply after.core step h.1)
+
 -- one event leads on, and none
-pub one_on : (count : ℕ) (old new : State) (event : Event) (reply : Reply FormFault)
-    → Step resolved_forms old event reply new
-    → LeadsOn (record { core = old; count = count }) (record { core = new; count = count })
-one_on count old new event reply step =
-    record { events = 1; leads = (old, event, reply, refl, step); count = refl }
+pub one_on : (before after : DeskState) (event : Event) (reply : Reply FormFault)
+    → Step resolved_forms before.core event reply after.core → after.count ≡ before.count
+    → after.left ≡ (before.left || is_leaving reply) → LeadsOn before after
+one_on before after event reply step count left =
+    record {
+      events = 1;
+      leads = (before.core, event, reply, refl, step);
+      count = count;
+      tells = fates_told before after event reply step left;
+    }
 
 pub none_on : (old new : DeskState) → new ≡ old → LeadsOn old new
 none_on old new is =
-    record { events = 0; leads = ap (λ (d : DeskState). d.core) is; count = ap (λ (d : DeskState). d.count) is }
+    record {
+      events = 0;
+      leads = ap (λ (d : DeskState). d.core) is;
+      count = ap (λ (d : DeskState). d.count) is;
+      tells = λ stays. (sym (ap (λ (d : DeskState). d.left) is) ∙ stays, ap (λ (d : DeskState). d.core.fates) is);
+    }
 
 pub append_nil : {X : Type 0} (xs : List X) → xs ≡ xs ++ []
 append_nil [] = refl
@@ -63,8 +82,7 @@ append_nil (x ∷ xs) = ap (λ l. x ∷ l) (append_nil xs)
 -- what is made leads on
 pub makes_on : (event : Event) (told : Option Told) (before after : DeskState) → Makes event before told after
     → LeadsOn before after
-makes_on event told before after h =
-    record { events = 1; leads = (before.core, event, h.reply, refl, h.step); count = h.count }
+makes_on event told before after h = one_on before after event h.reply h.step h.count h.left
 
 pub advances_on : (told : Told) (before after : DeskState) → Advances before told after → LeadsOn before after
 advances_on (advances.Lent job) before after h = makes_on h.0 (Some (advances.Lent job)) before after h.2

@@ -37,7 +37,9 @@ use Rattle.ent_core.specs.Reply.{reply_seen}
 use Rattle.ent_core.specs.declared.reply.Reply.{Reply as Given}
 use Rattle.ent_core.specs.declared.reply.Reply.TheVariants as given
 use Rattle.ent_desk.proofs.Counting.{Keeps, finishes_none, joins_none}
+use Rattle.ent_desk.proofs.Leaving.{stays_left}
 use Rattle.ent_stamp.specs.Stamps.{jobs_left_by}
+use Rattle.ent_desk.specs.Seen.{DeskState}
 use Rattle.ent_desk.specs.Lending.{IsLeftBehind, IsLentBehind, TakesIn, coming_as, is_single, left_behind, left_in}
 
 -- ---- events that take no result
@@ -212,9 +214,14 @@ stale s done none true =
 stale s done none false =
     inr ((λ (out : IsOutstandingJoint s done). none (taken_from done.job s.lent out.left out.taken)), (refl, refl))
 
-pub takes_none : (s : State) (done : Done) → (Contains s.lent done.job → ⊥) → TakesIn s done s
-takes_none s done none =
-    record { reply = events.Stale done; step = stale s done none (is_single done.job.work) }
+pub takes_none : (desk : DeskState) (done : Done) → (Contains desk.core.lent done.job → ⊥) → TakesIn desk done desk
+takes_none desk done none =
+    record {
+      reply = events.Stale done;
+      step = stale desk.core done none (is_single done.job.work);
+      count = refl;
+      left = stays_left desk.left false refl;
+    }
 
 -- ---- what a core replies
 

@@ -1,4 +1,5 @@
 pub mod Counting
+pub mod Leaving
 pub mod Keeping
 pub mod Exactness
 pub mod Fates

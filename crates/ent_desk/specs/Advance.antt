@@ -1,5 +1,5 @@
 -- How far a session comes under the lock.
-use Rattle.std.specs.Prelude.{◌≡◌, ℕ, Bool, true, false, List, ◌∷◌, ◌++◌, Option, Some, None}
+use Rattle.std.specs.Prelude.{◌≡◌, ℕ, Bool, true, false, List, ◌∷◌, ◌++◌, Option, Some, None, ◌||◌}
 use Rattle.std.specs.List.{AllByRecursion}
 use Rattle.ent_core.specs.Pick.{NoneCanBePicked}
 use Rattle.ent_form.specs.declared.fault.FormFault.{FormFault}
@@ -93,6 +93,7 @@ pub record Makes (event : Event) (before : DeskState) (told : Option Told) (afte
   pub step : Step resolved_forms before.core event reply after.core
   pub tells : advance_in reply ≡ told
   pub count : after.count ≡ before.count
+  pub left : after.left ≡ (before.left || is_leaving reply)
 
 -- an event that moves something is made; or all is as before, and this holds
 abbrev pub MakesUnless : Type 0 → Event → DeskState → Option Told → DeskState → Type 0

@@ -1,5 +1,5 @@
 -- What events do to the jobs that are lent.
-use Rattle.std.specs.Prelude.{◌≡◌, ℕ, Bool, true, false, List, [], ◌∷◌, ◌++◌, Option, Some, None}
+use Rattle.std.specs.Prelude.{◌≡◌, ℕ, Bool, true, false, List, [], ◌∷◌, ◌++◌, Option, Some, None, ◌||◌}
 use Rattle.std.specs.List.{remove}
 use Rattle.ent_form.specs.declared.fault.FormFault.{FormFault}
 use Rattle.ent_core.specs.Passed.{resolved_forms}
@@ -7,8 +7,9 @@ use Rattle.ent_stamp.specs.Stamps.{jobs_left_by}
 use Rattle.ent_protocol.specs.Event.{Event, Finish, JoinAnswer, Reply}
 use Rattle.ent_protocol.specs.Event as events
 use Rattle.ent_protocol.specs.Job.{Done, Job, One, Joint, Work}
-use Rattle.ent_protocol.specs.State.{State}
 use Rattle.ent_protocol.specs.Step.{Step}
+use Rattle.ent_desk.specs.Advance.{is_leaving}
+use Rattle.ent_desk.specs.Seen.{DeskState}
 
 -- ---- events
 
@@ -68,6 +69,8 @@ abbrev pub coming_in : Done → Event
 coming_in done = coming_as (is_single done.job.work) done
 
 -- the event of a result is made
-pub record TakesIn (before : State) (done : Done) (after : State) : Type 0 where
+pub record TakesIn (before : DeskState) (done : Done) (after : DeskState) : Type 0 where
   pub reply : Reply FormFault
-  pub step : Step resolved_forms before (coming_in done) reply after
+  pub step : Step resolved_forms before.core (coming_in done) reply after.core
+  pub count : after.count ≡ before.count
+  pub left : after.left ≡ (before.left || is_leaving reply)

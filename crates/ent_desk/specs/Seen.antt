@@ -1,5 +1,5 @@
 -- What contracts see of a session and of the desk behind the lock.
-use Rattle.std.specs.Prelude.{◌≡◌, ℕ, List, [], ◌∷◌, ◌++◌, Option}
+use Rattle.std.specs.Prelude.{◌≡◌, ℕ, Bool, false, List, [], ◌∷◌, ◌++◌, Option}
 use Rattle.ent_tree.specs.declared.script.Script.{Script}
 use Rattle.ent_protocol.specs.Reached.{LeadsTo}
 use Rattle.ent_protocol.specs.State.{State}
@@ -14,10 +14,11 @@ pub record SessionState : Type 0 where
   pub receipts : List Receipt
   pub first : Option First
 
--- the core, and how many scripts the manager was opened over
+-- the core, how many scripts the manager was opened over, and whether members left the run since that was last asked
 pub record DeskState : Type 0 where
   pub core : State
   pub count : ℕ
+  pub left : Bool
 
 abbrev pub ticket : ℕ → Script → Ticket
 ticket tx script = record { tx = tx; script = script }
@@ -36,8 +37,14 @@ pub record GetsReceipts (before after : SessionState) : Type 0 where
 abbrev pub with_ticket : SessionState → ℕ → Script → SessionState
 with_ticket session tx script = record session { tickets = session.tickets ++ ticket tx script ∷ [] }
 
--- events lead the core on, and the number stays
+-- where no member is said to have left, none was said to before, and no transaction got its fate
+abbrev pub TellsOfFates : DeskState → DeskState → Type 0
+TellsOfFates before after =
+    after.left ≡ false → (before.left ≡ false) × (after.core.fates ≡ before.core.fates)
+
+-- events lead the core on, the number stays, and no fate comes unsaid
 pub record LeadsOn (before after : DeskState) : Type 0 where
   pub events : ℕ
   pub leads : LeadsTo resolved_forms events before.core after.core
   pub count : after.count ≡ before.count
+  pub tells : TellsOfFates before after

@@ -67,7 +67,7 @@ pub struct Desk<L: Naming> {
     pub(crate) count: usize,
     pub(crate) scripts: Book<L::Scripts>,
     pub(crate) entries: Book<L::Entries>,
-    /// Whether anybody left the run since that was last asked.
+    /// Whether members left the run since that was last asked.
     pub(crate) left: bool,
     pub(crate) known: LentStamps<L>,
 }
@@ -84,7 +84,7 @@ impl<L: Naming> Model for Desk<L> {
     ghost use Rattle.ent_desk.specs.Kept.{IsKeptDesk};
     ghost use Rattle.ent_stamp.specs.Stamps.{AreStampsBehind};
 
-    ghost view = { λ d. record { core = d.core; count = d.count } };
+    ghost view = { λ d. record { core = d.core; count = d.count; left = d.left } };
 
     ghost invariant = { λ d. IsKeptDesk d.core d.count d.scripts.total d.entries.total
         × AreStampsBehind d.known.older d.known.stamps.items d.core.lent };
@@ -135,7 +135,7 @@ impl<L: Naming> Desk<L> {
         requires made { IsGatheredState resolved_forms count core }
         requires scripts { scripts.total ≡ length core.submitted }
         requires entries { (entries.total ≡ 0) × (core.journal ≡ []) }
-        ensures { result ≡ record { core = core; count = count } }
+        ensures { result ≡ record { core = core; count = count; left = false } }
     {
         known.forget(core.lent_count());
         Desk {
@@ -173,6 +173,7 @@ impl<L: Naming> Desk<L> {
             Step resolved_forms self.old.core (Submit script) (Submitted tx) self.new.core) }
         ensures ticket { IfOk result (λ tx. session.new ≡ with_ticket session.old tx script) }
         ensures count { self.new.count ≡ self.old.count }
+        ensures left { self.new.left ≡ self.old.left }
         ensures err { OnErr result ((self.new ≡ self.old) × (session.new ≡ session.old)) }
         ensures returned { IfErr result (λ refused. refused.script ≡ script) }
         ensures full { IfErr result (λ refused.
@@ -365,7 +366,7 @@ impl<L: Naming> Desk<L> {
     /// Takes the result of a job, which is found by its stamp where that is known. One that isn't outstanding is
     /// dropped. Where memory runs out nothing changes, and the result comes back.
     pub fn hand_in(&mut self, done: StampedDone<L>) -> Result<(), AllocFailed<StampedDone<L>>>
-        ensures ok { OnOk result (TakesIn self.old.core done self.new.core) }
+        ensures ok { OnOk result (TakesIn self.old done self.new) }
         ensures events { LeadsOn self.old self.new }
         ensures err { OnErr result (self.new ≡ self.old) }
         ensures returned { IfErr result (λ refused. refused.value ≡ done) }
@@ -395,7 +396,7 @@ impl<L: Naming> Desk<L> {
         done: StampedDone<L>,
     ) -> Result<(), AllocFailed<StampedDone<L>>>
         requires { slice_get self.old.core.lent index ≡ Some done.job }
-        ensures ok { OnOk result (TakesIn self.old.core done self.new.core) }
+        ensures ok { OnOk result (TakesIn self.old done self.new) }
         ensures events { LeadsOn self.old self.new }
         ensures err { OnErr result (self.new ≡ self.old) }
         ensures returned { IfErr result (λ refused. refused.value ≡ done) }
@@ -415,10 +416,11 @@ impl<L: Naming> Desk<L> {
         }
     }
 
-    /// Whether anybody left the run since this was last asked, and so may have a fate. It is for who wakes those that
-    /// wait for one; no contract says what it answers.
+    /// Whether members left the run since this was last asked, so that there may be new fates. It is for who wakes those
+    /// that wait for one: where it says no, no fate came.
     pub fn take_left(&mut self) -> bool
-        ensures { self.new ≡ self.old }
+        ensures told { result ≡ self.old.left }
+        ensures asked { self.new ≡ record self.old { left = false } }
     {
         let left = self.left;
         self.left = false;

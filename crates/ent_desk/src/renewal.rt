@@ -1,5 +1,5 @@
 //! A desk goes on where its book ends.
-ghost use Rattle.std.specs.Prelude.{◌≡◌, ◌<◌, IfErr, IfOk, OnErr, OnOk, length};
+ghost use Rattle.std.specs.Prelude.{◌≡◌, ◌<◌, IfErr, IfOk, OnErr, OnOk, false, length};
 ghost use Rattle.ent_book.specs.Tables.{book_seen};
 ghost use Rattle.ent_desk.specs.Accounted.{IsAccounted};
 ghost use Rattle.ent_desk.specs.Closed.{IsClosedBook};
@@ -93,6 +93,7 @@ impl<L: Naming> Desk<L> {
         ensures renewed { IfOk result (λ renewed.
             IsRenewed self.core.opening.tables (book_of self.core).database renewed.desk.core.opening) }
         ensures count { IfOk result (λ renewed. renewed.desk.count ≡ 0) }
+        ensures left { IfOk result (λ renewed. renewed.desk.left ≡ false) }
         ensures done { OnOk result (CanClose self.core) }
         ensures err { OnErr result (sessions.new ≡ sessions.old) }
         ensures returned { IfErr result (λ refused. refused.desk ≡ self) }
@@ -133,7 +134,7 @@ impl<L: Naming> Desk<L> {
         ensures is { IfOk result (λ renewed. book_seen renewed.book ≡ book_of self.core) }
         ensures book { IfOk result (λ renewed. IsClosedBook (book_seen renewed.book) sessions.old) }
         ensures goes_on { IfOk result (λ renewed. GoOnFrom (book_seen renewed.book) sessions.old sessions.new) }
-        ensures desk { IfOk result (λ renewed. renewed.desk ≡ record { core = next.core; count = 0 }) }
+        ensures desk { IfOk result (λ renewed. renewed.desk ≡ record { core = next.core; count = 0; left = false }) }
         ensures err { OnErr result (sessions.new ≡ sessions.old) }
         ensures returned { IfErr result (λ refused. refused.desk ≡ self) }
         ensures memory { IfErr result (λ refused. refused.refusal ≡ Memory) }

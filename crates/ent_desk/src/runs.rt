@@ -83,6 +83,7 @@ impl<L: Naming> Desk<L> {
     pub fn recall(&mut self)
         ensures step { Step resolved_forms self.old.core Recall Recalled self.new.core }
         ensures events { LeadsOn self.old self.new }
+        ensures left { self.new.left ≡ self.old.left }
     {
         drop(self.core.recall());
         self.known.forget(self.core.lent_count());

@@ -13,7 +13,7 @@ use std::sync::Wait;
 use std::sync::ledger::Blank;
 use std::thread;
 use std::thread::Threads;
-use std::time::{Clock, Duration};
+use std::time::{Clock, Duration, Instant};
 
 const OPENING: &str = "CREATE TABLE Flights (fno INT, dest TEXT);
 CREATE TABLE Bookings (who TEXT, fno INT);
@@ -55,7 +55,7 @@ COMMIT;
 /// How many milliseconds a run is left alone, so that all its clients sleep when it ends.
 const LEFT_ALONE: u64 = 200;
 
-/// How many seconds a client waits at most: longer than anybody does where nothing goes wrong.
+/// How many seconds a client waits at most: longer than all of them do where nothing goes wrong.
 const LONG: u64 = 20;
 
 /// Whose scripts come.
@@ -210,7 +210,7 @@ fn are_told(fates: &[Option<Fate>]) -> Result<()> {
     Ok(())
 }
 
-/// All three have given up after their run, and were told.
+/// All three have given up after their run, and were told so.
 fn are_told_together(fates: &[Option<Fate>]) -> Result<()> {
     ensure!(fates.len() == 4, "not all came back");
     for fate in &fates[..3] {
@@ -304,6 +304,12 @@ pub(crate) fn check<R: Threads + Wait + Clock + Sync>(rt: &R, alloc: Global) -> 
 }
 
 pub(crate) fn check_lonely<R: Threads + Wait + Clock + Sync>(rt: &R, alloc: Global) -> Result<()> {
+    let start = Instant::now(rt)?;
     let fates = told(rt, alloc, Cast::Lonely)?;
+    let took = start.elapsed(rt)?;
+    ensure!(
+        took < Duration::from_secs(LONG),
+        "one isn't woken at the end of the run"
+    );
     are_told_together(fates.as_slice())
 }

@@ -1,4 +1,4 @@
-use Rattle.std.proofs.Common.{◌≡◌, ◌∙◌, suc, List, ap, drop, length, refl, subst, sym}
+use Rattle.std.proofs.Common.{◌≡◌, ◌∙◌, ◌||◌, suc, Bool, List, ap, drop, length, refl, subst, sym}
 use Rattle.ent_core.specs.Reply.{reply_seen}
 use Rattle.ent_core.specs.Passed.{resolved_forms}
 use Rattle.ent_protocol.specs.Event.{Begin}
@@ -56,11 +56,13 @@ returns-clause-ok g c =
     let tx = c.args.found.tx in
     let reply = reply_seen c.in_ok-reply.reply in
     let step = c.in_ok-reply.ensures.ok in
-    let moved = begin_made i.count i.core new reply tx c.advance_told.result c.advance_told.ensures.tells step
+    let moved = begin_made i.count i.core new reply i.left (i.left || c.is_leaving.result)
+    (ap (λ (leaves : Bool). i.left || leaves) c.is_leaving.ensures) tx c.advance_told.result
+    c.advance_told.ensures.tells step
     (c.members_stand_by_number.ensures resolved_forms i.core c.is_reached.ensures.reached)
     (c.transactions_stand_once.ensures.once resolved_forms i.core c.is_reached.ensures.reached)
     (c.refusals_change_nothing.ensures resolved_forms i.core (Begin tx) reply new step) in
-    let after : DeskState = record { core = new; count = i.count } in
+    let after : DeskState = record { core = new; count = i.count; left = i.left || c.is_leaving.result } in
     subst (λ (old : DeskState). MakesUnless (¬ CanMove old.core tx) (Begin tx) old c.advance_told.result after)
     c.self.view_is moved
 
@@ -128,12 +130,14 @@ returns-clause-same g c = λ none.
     let got = receives i.core drafts new grown before long s.receipts.items kept
     (subst (λ (l : List Receipt). AreReceived new (suc before) (drop before new.journal) l kept) c.reserve.ensures.items
     c.keep_receipts-made.ensures.received) in
-    let moved = begin_made i.count i.core new reply tx c.advance_told.result c.advance_told.ensures.tells step
+    let moved = begin_made i.count i.core new reply i.left (i.left || c.is_leaving.result)
+    (ap (λ (leaves : Bool). i.left || leaves) c.is_leaving.ensures) tx c.advance_told.result
+    c.advance_told.ensures.tells step
     (c.members_stand_by_number.ensures resolved_forms i.core c.is_reached.ensures.reached)
     (c.transactions_stand_once.ensures.once resolved_forms i.core c.is_reached.ensures.reached)
     (c.refusals_change_nothing.ensures resolved_forms i.core (Begin tx) reply new step) in
-    let before_it : DeskState = record { core = i.core; count = i.count } in
-    let after : DeskState = record { core = new; count = i.count } in
+    let before_it : DeskState = record { core = i.core; count = i.count; left = i.left } in
+    let after : DeskState = record { core = new; count = i.count; left = i.left || c.is_leaving.result } in
     let still = stayed (¬ CanMove i.core tx) (Begin tx) before_it after c.advance_told.result none moved in
     let same = none_received i.core new s.receipts.items kept (ap (λ (d : DeskState). d.core) still.0) got in
     (λ j. let now : SessionState = record { tickets = s.tickets.items; receipts = same j; first = s.first } in now)

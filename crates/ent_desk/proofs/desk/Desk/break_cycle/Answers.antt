@@ -1,4 +1,4 @@
-use Rattle.std.proofs.Common.{◌≡◌, subst}
+use Rattle.std.proofs.Common.{◌≡◌, ◌||◌, Bool, ap, subst}
 use Rattle.ent_core.specs.Reply.{reply_seen}
 use Rattle.ent_protocol.specs.Event.{BreakCycle}
 use Rattle.ent_protocol.specs.Waits.{NoDeadlock}
@@ -26,11 +26,13 @@ returns g c =
     let i = c.self.inside in
     let reply = reply_seen c.break_cycle-reply.result in
     let step = c.break_cycle-reply.ensures.step in
-    let new : DeskState = record { core = c.break_cycle-reply.new.self; count = i.count } in
+    let new : DeskState =
+    record { core = c.break_cycle-reply.new.self; count = i.count; left = i.left || c.is_leaving.result } in
     record {
       ok = subst (λ (old : DeskState). MakesUnless (NoDeadlock old.core) BreakCycle old c.advance_told.result new)
           c.self.view_is
-          (break_made i.count i.core c.break_cycle-reply.new.self reply c.advance_told.result
+          (break_made i.count i.core c.break_cycle-reply.new.self reply i.left (i.left || c.is_leaving.result)
+          (ap (λ (leaves : Bool). i.left || leaves) c.is_leaving.ensures) c.advance_told.result
           c.advance_told.ensures.tells step);
       journal = subst (λ (old : DeskState). c.break_cycle-reply.new.self.journal ≡ old.core.journal) c.self.view_is
           (breaks_none i.core c.break_cycle-reply.new.self reply step).journal;

@@ -1,4 +1,4 @@
-use Rattle.std.proofs.Common.{◌≡◌, ◌∙◌, ap, subst, sym, true, false}
+use Rattle.std.proofs.Common.{◌≡◌, ◌∙◌, ◌||◌, Bool, ap, subst, sym, true, false}
 use Rattle.ent_core.specs.Reply.{reply_seen}
 use Rattle.ent_protocol.specs.Event.{EndRun}
 use Rattle.ent_desk.specs.Advance.{EndsRun}
@@ -48,42 +48,46 @@ pub returns-in-Some-clause-ok : goal.returns-in-Some-clause-ok
 returns-in-Some-clause-ok g c =
     let i = c.self.inside in
     let reply = reply_seen c.in_ok-reply.reply in
-    let new : DeskState = record { core = c.end_run.new.self; count = i.count } in
+    let new : DeskState = record { core = c.end_run.new.self; count = i.count; left = i.left || c.is_leaving.result } in
+    let left = ap (λ (leaves : Bool). i.left || leaves) c.is_leaving.ensures in
     let on : i.core.running ≡ true = sym c.running.ensures ∙ c.if-not-running.false in
     subst (λ (old : DeskState). EndsRun old c.in-Some.ended new) c.self.view_is
-    (ended i.count i.core c.end_run.new.self reply c.in-Some.ended (sym c.in-Some.is ∙ c.advance_told.ensures.tells) on
-    c.in_ok-reply.ensures.ok)
+    (ended i.count i.core c.end_run.new.self reply i.left (i.left || c.is_leaving.result) left c.in-Some.ended
+    (sym c.in-Some.is ∙ c.advance_told.ensures.tells) on c.in_ok-reply.ensures.ok)
 
 pub returns-in-Some-clause-events : goal.returns-in-Some-clause-events
 returns-in-Some-clause-events g c =
     let i = c.self.inside in
     let reply = reply_seen c.in_ok-reply.reply in
-    let before : DeskState = record { core = i.core; count = i.count } in
-    let new : DeskState = record { core = c.end_run.new.self; count = i.count } in
+    let before : DeskState = record { core = i.core; count = i.count; left = i.left } in
+    let new : DeskState = record { core = c.end_run.new.self; count = i.count; left = i.left || c.is_leaving.result } in
+    let left = ap (λ (leaves : Bool). i.left || leaves) c.is_leaving.ensures in
     let on : i.core.running ≡ true = sym c.running.ensures ∙ c.if-not-running.false in
     subst (λ (old : DeskState). LeadsOn old new) c.self.view_is
     (ends_on c.in-Some.ended before new
-    (ended i.count i.core c.end_run.new.self reply c.in-Some.ended (sym c.in-Some.is ∙ c.advance_told.ensures.tells) on
-    c.in_ok-reply.ensures.ok))
+    (ended i.count i.core c.end_run.new.self reply i.left (i.left || c.is_leaving.result) left c.in-Some.ended
+    (sym c.in-Some.is ∙ c.advance_told.ensures.tells) on c.in_ok-reply.ensures.ok))
 
 pub returns-clause-ok : goal.returns-clause-ok
 returns-clause-ok g c =
     let i = c.self.inside in
     let reply = reply_seen c.in_ok-reply.reply in
-    let new : DeskState = record { core = c.end_run.new.self; count = i.count } in
+    let new : DeskState = record { core = c.end_run.new.self; count = i.count; left = i.left || c.is_leaving.result } in
+    let left = ap (λ (leaves : Bool). i.left || leaves) c.is_leaving.ensures in
     let on : i.core.running ≡ true = sym c.running.ensures ∙ c.if-not-running.false in
     subst (λ (old : DeskState). EndsRun old Idle new) c.self.view_is
-    (kept_busy i.count i.core c.end_run.new.self reply (sym c.in_default.is ∙ c.advance_told.ensures.tells) on
-    c.in_ok-reply.ensures.ok)
+    (kept_busy i.count i.core c.end_run.new.self reply i.left (i.left || c.is_leaving.result) left
+    (sym c.in_default.is ∙ c.advance_told.ensures.tells) on c.in_ok-reply.ensures.ok)
 
 pub returns-clause-events : goal.returns-clause-events
 returns-clause-events g c =
     let i = c.self.inside in
     let reply = reply_seen c.in_ok-reply.reply in
-    let before : DeskState = record { core = i.core; count = i.count } in
-    let new : DeskState = record { core = c.end_run.new.self; count = i.count } in
+    let before : DeskState = record { core = i.core; count = i.count; left = i.left } in
+    let new : DeskState = record { core = c.end_run.new.self; count = i.count; left = i.left || c.is_leaving.result } in
+    let left = ap (λ (leaves : Bool). i.left || leaves) c.is_leaving.ensures in
     let on : i.core.running ≡ true = sym c.running.ensures ∙ c.if-not-running.false in
     subst (λ (old : DeskState). LeadsOn old new) c.self.view_is
     (ends_on Idle before new
-    (kept_busy i.count i.core c.end_run.new.self reply (sym c.in_default.is ∙ c.advance_told.ensures.tells) on
-    c.in_ok-reply.ensures.ok))
+    (kept_busy i.count i.core c.end_run.new.self reply i.left (i.left || c.is_leaving.result) left
+    (sym c.in_default.is ∙ c.advance_told.ensures.tells) on c.in_ok-reply.ensures.ok))

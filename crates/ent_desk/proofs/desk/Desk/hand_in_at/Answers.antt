@@ -1,4 +1,4 @@
-use Rattle.std.proofs.Common.{◌≡◌, Some, ap, slice_get, subst, sym}
+use Rattle.std.proofs.Common.{◌≡◌, ◌||◌, Bool, Some, ap, refl, slice_get, subst, sym}
 use Rattle.std.proofs.lemmas.Option.{slice_get_within}
 use Rattle.ent_core.specs.Reply.{reply_seen}
 use Rattle.ent_core.specs.Passed.{resolved_forms}
@@ -48,24 +48,34 @@ invariant_of-self g c =
 pub returns-in-Ok-clause-ok : goal.returns-in-Ok-clause-ok
 returns-in-Ok-clause-ok g c =
     let i = c.self.inside in
-    let new = c.take_in.new.core in
-    subst (λ (d : DeskState). TakesIn d.core c.args.done new) c.self.view_is
-    (subst (λ (done : Done). TakesIn i.core done new) c.into_parts-done.ensures.done
-    (record { reply = reply_seen c.in-Ok.reply; step = c.in-Ok.ensures.ok }))
+    let before : DeskState = record { core = i.core; count = i.count; left = i.left } in
+    let new : DeskState =
+    record { core = c.take_in.new.core; count = i.count; left = i.left || c.is_leaving.result } in
+    subst (λ (d : DeskState). TakesIn d c.args.done new) c.self.view_is
+    (subst (λ (done : Done). TakesIn before done new) c.into_parts-done.ensures.done
+    (record {
+      reply = reply_seen c.in-Ok.reply;
+      step = c.in-Ok.ensures.ok;
+      count = refl;
+      left = ap (λ (leaves : Bool). i.left || leaves) c.is_leaving.ensures;
+    }))
 
 pub returns-in-Ok-clause-events : goal.returns-in-Ok-clause-events
 returns-in-Ok-clause-events g c =
     let i = c.self.inside in
-    let new : DeskState = record { core = c.take_in.new.core; count = i.count } in
+    let before : DeskState = record { core = i.core; count = i.count; left = i.left } in
+    let new : DeskState =
+    record { core = c.take_in.new.core; count = i.count; left = i.left || c.is_leaving.result } in
     subst (λ (old : DeskState). LeadsOn old new) c.self.view_is
-    (one_on i.count i.core c.take_in.new.core (coming_in c.into_parts-done.result.0) (reply_seen c.in-Ok.reply)
-    c.in-Ok.ensures.ok)
+    (one_on before new (coming_in c.into_parts-done.result.0) (reply_seen c.in-Ok.reply) c.in-Ok.ensures.ok refl
+    (ap (λ (leaves : Bool). i.left || leaves) c.is_leaving.ensures))
 
 pub returns-in-Err-clause-events : goal.returns-in-Err-clause-events
 returns-in-Err-clause-events g c =
     let i = c.self.inside in
-    let before : DeskState = record { core = i.core; count = i.count } in
-    let new : DeskState = record { core = c.take_in.new.core; count = i.count } in
-    let same = ap (λ (core : State). let desk : DeskState = record { core = core; count = i.count } in desk)
+    let before : DeskState = record { core = i.core; count = i.count; left = i.left } in
+    let new : DeskState = record { core = c.take_in.new.core; count = i.count; left = i.left } in
+    let same = ap
+    (λ (core : State). let desk : DeskState = record { core = core; count = i.count; left = i.left } in desk)
     c.in-Err.ensures.err in
     subst (λ (old : DeskState). LeadsOn old new) c.self.view_is (none_on before new same)
