@@ -1,5 +1,5 @@
 /* Entangle, for C: the report of an input, the explanation of its fault, the check of a report; rooms, in which scripts
- * wait until those come whom they need; and managers, which keep tables between calls and make single runs.
+ * wait until those come whom they need; and drivers, which keep tables between calls and make single runs.
  *
  * These are the calls of the static library libent_c.a, of the crate ent_c; docs/EMBEDDING.md says how to build and
  * link it. docs/LANGUAGE.md has the language of inputs, docs/REPORTS.md the reports, docs/ERRORS.md faults and
@@ -27,22 +27,22 @@
  *   - The library is the one of this header: a program that loads it as a shared object asks
  *     entangle_is_of_this_header() first.
  *
- * Calls without a room or a manager keep nothing and free what they allocate. Any number of threads may make them
+ * Calls without a room or a driver keep nothing and free what they allocate. Any number of threads may make them
  * concurrently.
  *
  * The caller keeps a room as an `entangle_room *` in one place, null at first, and so it keeps rows as an
- * `entangle_rows *`, values as an `entangle_values *`, and a manager as an `entangle_manager *`. Each of their calls
+ * `entangle_rows *`, values as an `entangle_values *`, and a driver as an `entangle_driver *`. Each of their calls
  * takes the address of that place. These conditions are added:
  *
  *   - The pointer is null, or a call of this header wrote it there. The caller neither copies nor dereferences it, and
  *     its place doesn't overlap what a call writes.
- *   - One room takes one call at a time, from any thread, and so do rows, values and a manager; if threads share them,
+ *   - One room takes one call at a time, from any thread, and so do rows, values and a driver; if threads share them,
  *     order their calls with a lock. They are independent of each other.
  *   - Give what a call opened to entangle_room_free, entangle_rows_free, entangle_values_free or entangle_free in the
- *     end, or its memory is lost. If a call says that memory ran out, the room, the rows, the values or the manager is
+ *     end, or its memory is lost. If a call says that memory ran out, the room, the rows, the values or the driver is
  *     still there; but entangle_room_open takes rows in any case.
  *
- * A room is open (by entangle_room_open) or null. A manager is open (by entangle_open or entangle_renew), closed (by
+ * A room is open (by entangle_room_open) or null. A driver is open (by entangle_open or entangle_renew), closed (by
  * entangle_close) or null. A call that requires another one of these states answers ENTANGLE_MISUSED, and changes
  * nothing.
  */
@@ -71,7 +71,7 @@ enum entangle_status {
     ENTANGLE_REFUSED = 1,       /* the input, the script or the call is refused; the check says no, or the report is too
                                    long */
     ENTANGLE_MISUSED = 2,       /* a pointer is null, the version of a report is neither 1 nor 2, there is no such move
-                                   or stay, or the room or the manager isn't in the state that the call requires */
+                                   or stay, or the room or the driver isn't in the state that the call requires */
     ENTANGLE_OUT_OF_MEMORY = 3, /* E900 */
     ENTANGLE_UNREADABLE = 4     /* no call answers this, since bytes in memory can always be read */
 };
@@ -100,54 +100,57 @@ struct entangle_limits {
 };
 typedef struct entangle_limits entangle_limits;
 
-/* For how long a script waits, where it is neither of these: in how many batches that count, 1 to 1,000,000. */
+/* For how long a script waits, where it is neither of the first two: in how many batches that count, from 1 to the
+ * third. */
 #define ENTANGLE_AS_WRITTEN (-1)    /* in as many as its WITHIN says */
 #define ENTANGLE_UNTIL_WITHDRAWN 0
+#define ENTANGLE_MOST_BATCHES 1000
 
 /* Why a call of a room, of rows or of values is refused. */
 enum entangle_room_refusal {
     ENTANGLE_ROOM_FAULTY = 1,          /* the text has a fault, which is told */
-    ENTANGLE_ROOM_FULL,                /* as many wait as there may be, or no ticket is left */
-    ENTANGLE_ROOM_BOUND_LEAST,         /* the number is -9223372036854775808, which no script can spell */
-    ENTANGLE_ROOM_BOUND_TOO_LONG,      /* the text has more than 255 bytes */
-    ENTANGLE_ROOM_BOUND_NOT_UTF8,      /* the text isn't UTF-8 */
-    ENTANGLE_ROOM_BOUND_CONTROL,       /* the text has a control character */
-    ENTANGLE_ROOM_BOUND_TWICE,         /* the name of an earlier value is the same; this and the two below tell in
+    ENTANGLE_ROOM_FULL = 2,            /* as many wait as there may be, or no ticket is left */
+    ENTANGLE_ROOM_BOUND_LEAST = 3,     /* the number is -9223372036854775808, which no script can spell */
+    ENTANGLE_ROOM_BOUND_TOO_LONG = 4,  /* the text has more than 255 bytes */
+    ENTANGLE_ROOM_BOUND_NOT_UTF8 = 5,  /* the text isn't UTF-8 */
+    ENTANGLE_ROOM_BOUND_CONTROL = 6,   /* the text has a control character */
+    ENTANGLE_ROOM_BOUND_TWICE = 7,     /* the name of an earlier value is the same; this and the two below tell in
                                           `told->offset` which value it is, from 0, and no place */
-    ENTANGLE_ROOM_BOUND_SET_BY_SCRIPT, /* the script itself gives the host variable a value */
-    ENTANGLE_ROOM_BOUND_UNUSED,        /* the script doesn't use the host variable */
-    ENTANGLE_ROOM_BOUND_NO_NAME,       /* the name is no word of the language */
-    ENTANGLE_ROOM_USED,                /* the ticket can't come in again */
-    ENTANGLE_ROOM_ABSENT,              /* nobody waits under the ticket; no table has the name (E401) */
-    ENTANGLE_ROOM_BUSY,                /* the ticket is in a batch that isn't over; a batch is on */
-    ENTANGLE_ROOM_TOO_MANY_ROWS,       /* E407: the tables have more than 65,536 rows together: those that aren't
+    ENTANGLE_ROOM_BOUND_SET_BY_SCRIPT = 8, /* the script itself gives the host variable a value */
+    ENTANGLE_ROOM_BOUND_UNUSED = 9,    /* the script doesn't use the host variable */
+    ENTANGLE_ROOM_BOUND_NO_NAME = 10,  /* the name is no word of the language */
+    ENTANGLE_ROOM_USED = 11,           /* the ticket can't come in again */
+    ENTANGLE_ROOM_ABSENT = 12,         /* nobody waits under the ticket; no table has the name (E401) */
+    ENTANGLE_ROOM_BUSY = 13,           /* the ticket is in a batch that isn't over; a batch is on */
+    ENTANGLE_ROOM_TOO_MANY_ROWS = 14,  /* E407: the tables have more than 65,536 rows together: those that aren't
                                           drained; or those of an input with the given ones */
-    ENTANGLE_ROOM_NO_NUMBER,           /* the epoch, or the next group, has the greatest number that there is */
-    ENTANGLE_ROOM_NOT_A_ROW,           /* a given row doesn't fit: there is no such table (E301), it has another number
+    ENTANGLE_ROOM_NO_NUMBER = 15,      /* the epoch, or the next group, has the greatest number that there is */
+    ENTANGLE_ROOM_NOT_A_ROW = 16,      /* a given row doesn't fit: there is no such table (E301), it has another number
                                           of values than that has columns (E303), or a value of another kind (E304);
                                           `told->offset` is which row it is, from 0, and no place is told */
-    ENTANGLE_ROOM_TOO_MANY_VALUES      /* the row has 16 values already, and no table has more columns */
+    ENTANGLE_ROOM_TOO_MANY_VALUES = 17 /* the row has 16 values already, and no table has more columns */
 };
 
 /* What a step did. */
 enum entangle_step {
-    ENTANGLE_IDLE = 1, /* there was nothing to do */
-    ENTANGLE_SEARCHED, /* those who wait were looked through, and no run was made; there is more to look at */
-    ENTANGLE_RAN       /* at least one run was made */
+    ENTANGLE_IDLE = 1,     /* there was nothing to do */
+    ENTANGLE_SEARCHED = 2, /* those who wait were looked through, and no run was made; there is more to look at */
+    ENTANGLE_RAN = 3       /* at least one run was made */
 };
 
 /* How a ticket stands. */
 enum entangle_ticket_kind {
-    ENTANGLE_TICKET_UNKNOWN = 0, /* never given out, or how it ended isn't kept any more */
-    ENTANGLE_TICKET_WAITS,
-    ENTANGLE_TICKET_LONELY,      /* it waits, and nobody who waits may offer what it demands */
-    ENTANGLE_TICKET_NO_MEETING,  /* it waits, and no meeting of it was found among those who wait */
-    ENTANGLE_TICKET_IN_BATCH,
-    ENTANGLE_TICKET_COMMITTED,   /* this one and those below are how it ended */
-    ENTANGLE_TICKET_ROLLED_BACK,
-    ENTANGLE_TICKET_FAILED,
-    ENTANGLE_TICKET_GAVE_UP,
-    ENTANGLE_TICKET_WITHDRAWN
+    ENTANGLE_TICKET_UNKNOWN = 0,    /* never given out, or how it ended isn't kept any more */
+    ENTANGLE_TICKET_WAITS = 1,
+    ENTANGLE_TICKET_LONELY = 2,     /* it waits, and nobody who waits may offer what it demands */
+    ENTANGLE_TICKET_NO_MEETING = 3, /* it waits, and no meeting of it was found among those who wait */
+    ENTANGLE_TICKET_IN_BATCH = 4,
+    ENTANGLE_TICKET_COMMITTED = 5,  /* this one and those up to 9 are how it ended */
+    ENTANGLE_TICKET_ROLLED_BACK = 6,
+    ENTANGLE_TICKET_FAILED = 7,
+    ENTANGLE_TICKET_GAVE_UP = 8,
+    ENTANGLE_TICKET_WITHDRAWN = 9,
+    ENTANGLE_TICKET_CUT = 10        /* it waits, and a bound was reached: see entangle_room_further */
 };
 
 struct entangle_ticket_state {
@@ -167,19 +170,19 @@ struct entangle_submission {
 };
 typedef struct entangle_submission entangle_submission;
 
-/* ---- what the calls of managers take and tell */
+/* ---- what the calls of drivers take and tell */
 
 /* The state of a transaction. */
 enum entangle_kind {
-    ENTANGLE_DORMANT = 1, /* it waits for a run */
-    ENTANGLE_READY,       /* a member of the present run, which may begin its next statement, or end */
-    ENTANGLE_OUT,         /* a member whose statement's job is out */
-    ENTANGLE_POSTED,      /* a member whose entangled statement waits for an answer */
-    ENTANGLE_PREPARED,    /* a member that reached its COMMIT, and waits for the others of its group */
-    ENTANGLE_COMMITTED,   /* this one and the three below are fates */
-    ENTANGLE_GAVE_UP,
-    ENTANGLE_ROLLED_BACK,
-    ENTANGLE_FAILED
+    ENTANGLE_DORMANT = 1,   /* it waits for a run */
+    ENTANGLE_READY = 2,     /* a member of the present run, which may begin its next statement, or end */
+    ENTANGLE_OUT = 3,       /* a member whose statement's job is out */
+    ENTANGLE_POSTED = 4,    /* a member whose entangled statement waits for an answer */
+    ENTANGLE_PREPARED = 5,  /* a member that reached its COMMIT, and waits for the others of its group */
+    ENTANGLE_COMMITTED = 6, /* this one and the three below are fates */
+    ENTANGLE_GAVE_UP = 7,
+    ENTANGLE_ROLLED_BACK = 8,
+    ENTANGLE_FAILED = 9
 };
 
 struct entangle_position {
@@ -190,39 +193,39 @@ struct entangle_position {
 };
 typedef struct entangle_position entangle_position;
 
-/* The moves of entangle_make. A move is one event of a manager, with the result of the job that the event lends. */
+/* The moves of entangle_make. A move is one event of a driver, with the result of the job that the event lends. */
 enum entangle_move {
-    ENTANGLE_START_RUN = 1, /* a run starts */
-    ENTANGLE_BEGIN,         /* a transaction begins its next statement, or its COMMIT or ROLLBACK */
-    ENTANGLE_PICK,          /* a component of posted statements is answered */
-    ENTANGLE_BREAK_CYCLE,   /* a deadlock is broken, if there is one */
-    ENTANGLE_END_RUN        /* the run ends, if nothing can move in it */
+    ENTANGLE_START_RUN = 1,   /* a run starts */
+    ENTANGLE_BEGIN = 2,       /* a transaction begins its next statement, or its COMMIT or ROLLBACK */
+    ENTANGLE_PICK = 3,        /* a component of posted statements is answered */
+    ENTANGLE_BREAK_CYCLE = 4, /* a deadlock is broken, if there is one */
+    ENTANGLE_END_RUN = 5      /* the run ends, if nothing can move in it */
 };
 
-/* The reply to a move, as crates/ent_event_scenarios/CALLING.md has them. The last three change nothing. */
+/* The reply to a move, as crates/ent_play_scenarios/CALLING.md has them. The last three change nothing. */
 enum entangle_reply {
     ENTANGLE_REPLY_STARTED = 1,
-    ENTANGLE_REPLY_BLOCKED,     /* it doesn't move: another transaction blocks it */
-    ENTANGLE_REPLY_HELD_BACK,   /* it doesn't move: a demand would meet offers of two statements */
-    ENTANGLE_REPLY_POSTED,      /* its entangled statement waits for an answer */
-    ENTANGLE_REPLY_PREPARED,    /* it waits for the others of its group */
-    ENTANGLE_REPLY_COMMITTED,   /* its group committed */
-    ENTANGLE_REPLY_ROLLED_BACK, /* its script ends with ROLLBACK, and its group is rolled back */
-    ENTANGLE_REPLY_STEPPED,     /* its statement is answered */
-    ENTANGLE_REPLY_FAILED,      /* its statement failed, and its group is rolled back */
-    ENTANGLE_REPLY_NOTHING,     /* there is no component to answer */
-    ENTANGLE_REPLY_ANSWERED,    /* the component is answered */
-    ENTANGLE_REPLY_NO_CHOICE,   /* the tables have no joint answer for the component */
-    ENTANGLE_REPLY_BROKEN,      /* there was a deadlock, and a group is rolled back to break it */
-    ENTANGLE_REPLY_NO_CYCLE,    /* there is no deadlock */
-    ENTANGLE_REPLY_ENDED,
-    ENTANGLE_REPLY_ABSENT,  /* E401: it is no member of the run; or no transaction waits for a run */
-    ENTANGLE_REPLY_NOT_NOW, /* E402 */
-    ENTANGLE_REPLY_BUSY     /* E404: the run can't end yet */
+    ENTANGLE_REPLY_BLOCKED = 2,     /* it doesn't move: another transaction blocks it */
+    ENTANGLE_REPLY_HELD_BACK = 3,   /* it doesn't move: a demand would meet offers of two statements */
+    ENTANGLE_REPLY_POSTED = 4,      /* its entangled statement waits for an answer */
+    ENTANGLE_REPLY_PREPARED = 5,    /* it waits for the others of its group */
+    ENTANGLE_REPLY_COMMITTED = 6,   /* its group committed */
+    ENTANGLE_REPLY_ROLLED_BACK = 7, /* its script ends with ROLLBACK, and its group is rolled back */
+    ENTANGLE_REPLY_STEPPED = 8,     /* its statement is answered */
+    ENTANGLE_REPLY_FAILED = 9,      /* its statement failed, and its group is rolled back */
+    ENTANGLE_REPLY_NOTHING = 10,    /* there is no component to answer */
+    ENTANGLE_REPLY_ANSWERED = 11,   /* the component is answered */
+    ENTANGLE_REPLY_NO_CHOICE = 12,  /* the tables have no joint answer for the component */
+    ENTANGLE_REPLY_BROKEN = 13,     /* there was a deadlock, and a group is rolled back to break it */
+    ENTANGLE_REPLY_NO_CYCLE = 14,   /* there is no deadlock */
+    ENTANGLE_REPLY_ENDED = 15,
+    ENTANGLE_REPLY_ABSENT = 16,     /* E401: it is no member of the run; or no transaction waits for a run */
+    ENTANGLE_REPLY_NOT_NOW = 17,    /* E402 */
+    ENTANGLE_REPLY_BUSY = 18        /* E404: the run can't end yet */
 };
 
-/* A manager. C code doesn't see what it has. */
-typedef struct entangle_manager entangle_manager;
+/* A driver. C code doesn't see what it has. */
+typedef struct entangle_driver entangle_driver;
 
 /* The structs are laid out as the library has them. */
 #if defined(__cplusplus) && __cplusplus >= 201103L
@@ -258,24 +261,24 @@ int32_t ent_c_report(const uint8_t *input, size_t length, uint32_t version, uint
                      entangle_told *told);
 int32_t ent_c_explain(const uint8_t *input, size_t length, uint8_t *buffer, size_t capacity, entangle_told *told);
 int32_t ent_c_check(const uint8_t *report, size_t length, uint8_t *buffer, size_t capacity, entangle_told *told);
-int32_t ent_c_open(entangle_manager **manager, const uint8_t *input, size_t length, entangle_told *told);
-int32_t ent_c_submit(entangle_manager **manager, const uint8_t *script, size_t length, uint64_t *number,
+int32_t ent_c_open(entangle_driver **driver, const uint8_t *input, size_t length, entangle_told *told);
+int32_t ent_c_submit(entangle_driver **driver, const uint8_t *script, size_t length, uint64_t *number,
                      entangle_told *told);
-int32_t ent_c_explain_script(entangle_manager **manager, const uint8_t *script, size_t length, uint8_t *buffer,
+int32_t ent_c_explain_script(entangle_driver **driver, const uint8_t *script, size_t length, uint8_t *buffer,
                              size_t capacity, entangle_told *told);
-int32_t ent_c_run(entangle_manager **manager);
-int32_t ent_c_make(entangle_manager **manager, uint32_t move, uint64_t number, uint32_t *reply);
-int32_t ent_c_why(entangle_manager **manager, uint64_t number, uint8_t *buffer, size_t capacity, entangle_told *told);
-int32_t ent_c_standing(entangle_manager **manager, uint64_t number, entangle_position *position);
-int32_t ent_c_answers(entangle_manager **manager, uint64_t number, uint8_t *buffer, size_t capacity,
+int32_t ent_c_run(entangle_driver **driver);
+int32_t ent_c_make(entangle_driver **driver, uint32_t move, uint64_t number, uint32_t *reply);
+int32_t ent_c_why(entangle_driver **driver, uint64_t number, uint8_t *buffer, size_t capacity, entangle_told *told);
+int32_t ent_c_standing(entangle_driver **driver, uint64_t number, entangle_position *position);
+int32_t ent_c_answers(entangle_driver **driver, uint64_t number, uint8_t *buffer, size_t capacity,
                       entangle_told *told);
-int32_t ent_c_table(entangle_manager **manager, const uint8_t *name, size_t length, uint8_t *buffer, size_t capacity,
+int32_t ent_c_table(entangle_driver **driver, const uint8_t *name, size_t length, uint8_t *buffer, size_t capacity,
                     entangle_told *told);
-int32_t ent_c_close(entangle_manager **manager);
-int32_t ent_c_renew(entangle_manager **manager);
-int32_t ent_c_closed_report(entangle_manager **manager, uint32_t version, uint8_t *buffer, size_t capacity,
+int32_t ent_c_close(entangle_driver **driver);
+int32_t ent_c_renew(entangle_driver **driver);
+int32_t ent_c_closed_report(entangle_driver **driver, uint32_t version, uint8_t *buffer, size_t capacity,
                             entangle_told *told);
-void ent_c_free(entangle_manager **manager);
+void ent_c_free(entangle_driver **driver);
 int32_t ent_c_values_int(entangle_values **values, const uint8_t *name, size_t name_length, int64_t number,
                          uint32_t *refusal);
 int32_t ent_c_values_text(entangle_values **values, const uint8_t *name, size_t name_length, const uint8_t *text,
@@ -297,6 +300,7 @@ int32_t ent_c_room_restore(entangle_room **room, uint64_t ticket, const uint8_t 
                            entangle_told *told);
 int32_t ent_c_room_withdraw(entangle_room **room, uint64_t ticket, uint32_t *refusal);
 int32_t ent_c_room_step(entangle_room **room, uint32_t *step, uint32_t *refusal);
+int32_t ent_c_room_further(entangle_room **room, uint32_t *refusal);
 int32_t ent_c_room_state(entangle_room **room, uint64_t ticket, entangle_ticket_state *state);
 int32_t ent_c_room_why(entangle_room **room, uint64_t ticket, uint8_t *buffer, size_t capacity, entangle_told *told);
 int32_t ent_c_room_waiting(entangle_room **room, uint64_t from, uint64_t *ticket);
@@ -471,7 +475,8 @@ static inline int32_t entangle_room_open(entangle_room **room, const void *input
 /* Puts a script into a room: the text of one script, from its BEGIN TRANSACTION on, and nothing else. It waits from
  * then on. In the places of host variables stand the values that are bound to their names; `values` is the address of
  * a null pointer if there are none, and the values stay as they are. `stay` is ENTANGLE_AS_WRITTEN,
- * ENTANGLE_UNTIL_WITHDRAWN, or in how many batches that count the script takes part before it gives up, 1 to 1,000,000.
+ * ENTANGLE_UNTIL_WITHDRAWN, or in how many batches that count the script takes part before it gives up, from 1 to
+ * ENTANGLE_MOST_BATCHES.
  *
  * ENTANGLE_DONE: `*ticket` is the script's ticket; none is given out twice. ENTANGLE_REFUSED: the first fault is told:
  * of the text, whose place counts from its start, else of the values, else of the form; or it is FULL.
@@ -524,9 +529,9 @@ static inline int32_t entangle_room_withdraw(entangle_room **room, uint64_t tick
     return ent_c_room_withdraw(room, ticket, refusal);
 }
 
-/* Makes a step: at most two runs, first of ordinary scripts that wait, then of meetings, each to its end. Who has no
- * fate then waits again, or gives up. What it did is told by entangle_room_groups. If memory ran out in the step
- * before, it goes on there, and does no more.
+/* Makes a step: runs, each of an ordinary script alone or of a meeting alone, and each to its end, as many as a step's
+ * work allows. Who has no fate then waits again, or gives up. What it did is told by entangle_room_groups. If memory ran
+ * out in the step before, it goes on there.
  *
  * ENTANGLE_DONE: `*step` says what it did, an enum entangle_step. ENTANGLE_REFUSED: the epoch has to end first, and
  * can't: TOO_MANY_ROWS, or NO_NUMBER; or a group has no number left (NO_NUMBER), and then what was done stays done, and
@@ -534,6 +539,14 @@ static inline int32_t entangle_room_withdraw(entangle_room **room, uint64_t tick
 static inline int32_t entangle_room_step(entangle_room **room, uint32_t *step, uint32_t *refusal) {
     if (!room || !step || !refusal) return ENTANGLE_MISUSED;
     return ent_c_room_step(room, step, refusal);
+}
+
+/* Has those go on who are cut (ENTANGLE_TICKET_CUT): each may try as many meetings again, in the next steps. For callers
+ * who have time: without it they go on once something changes for them. ENTANGLE_DONE, or ENTANGLE_OUT_OF_MEMORY: some
+ * of them go on. */
+static inline int32_t entangle_room_further(entangle_room **room, uint32_t *refusal) {
+    if (!room || !refusal) return ENTANGLE_MISUSED;
+    return ent_c_room_further(room, refusal);
 }
 
 /* Tells how a ticket stands. ENTANGLE_DONE: `*state` has it. */
@@ -658,16 +671,16 @@ static inline void entangle_room_free(entangle_room **room) {
     if (room) ent_c_room_free(room);
 }
 
-/* ---- managers */
+/* ---- drivers */
 
-/* Opens a manager over an input: makes its tables, loads their rows, and submits its scripts, if it has any, in order.
+/* Opens a driver over an input: makes its tables, loads their rows, and submits its scripts, if it has any, in order.
  * They wait for a run. The pointer has to be null.
  *
- * ENTANGLE_DONE: the manager is open. ENTANGLE_REFUSED, ENTANGLE_OUT_OF_MEMORY: the pointer is still null, and the
+ * ENTANGLE_DONE: the driver is open. ENTANGLE_REFUSED, ENTANGLE_OUT_OF_MEMORY: the pointer is still null, and the
  * fault is told. ENTANGLE_MISUSED: the pointer wasn't null, and stays as it was. */
-static inline int32_t entangle_open(entangle_manager **manager, const void *input, size_t length, entangle_told *told) {
-    if (!manager || entangle_is_misused(input, length, NULL, 0, told)) return ENTANGLE_MISUSED;
-    return ent_c_open(manager, entangle_bytes(input), length, told);
+static inline int32_t entangle_open(entangle_driver **driver, const void *input, size_t length, entangle_told *told) {
+    if (!driver || entangle_is_misused(input, length, NULL, 0, told)) return ENTANGLE_MISUSED;
+    return ent_c_open(driver, entangle_bytes(input), length, told);
 }
 
 /* Submits a script: the text of one script, from its BEGIN TRANSACTION on, and nothing else. It waits for a run.
@@ -675,22 +688,22 @@ static inline int32_t entangle_open(entangle_manager **manager, const void *inpu
  * ENTANGLE_DONE: `*number` is the number of its transaction, from 1 in order of submission. ENTANGLE_REFUSED: the fault
  * is told, whose place counts from the start of this text; or E406, if 10,000 scripts were submitted before.
  * ENTANGLE_OUT_OF_MEMORY: E900 is told. After a refusal nothing has changed, not even `*number`. */
-static inline int32_t entangle_submit(entangle_manager **manager, const void *script, size_t length, uint64_t *number,
+static inline int32_t entangle_submit(entangle_driver **driver, const void *script, size_t length, uint64_t *number,
                                       entangle_told *told) {
-    if (!manager || !number || entangle_is_misused(script, length, NULL, 0, told)) return ENTANGLE_MISUSED;
-    return ent_c_submit(manager, entangle_bytes(script), length, number, told);
+    if (!driver || !number || entangle_is_misused(script, length, NULL, 0, told)) return ENTANGLE_MISUSED;
+    return ent_c_submit(driver, entangle_bytes(script), length, number, told);
 }
 
 /* Gives the explanation of a script's fault, as entangle_explain does for an input: for a script that entangle_submit
- * refused. The lines are those of this text, and hints name the manager's tables. Nothing is submitted.
+ * refused. The lines are those of this text, and hints name the driver's tables. Nothing is submitted.
  *
  * ENTANGLE_REFUSED: the text is the explanation, and the fault is told, whose place counts from the start of this text.
  * ENTANGLE_DONE: the script has no fault, and there is no text. ENTANGLE_OUT_OF_MEMORY: E900 is told, and the text is
  * `E900` with an LF, or there is none. */
-static inline int32_t entangle_explain_script(entangle_manager **manager, const void *script, size_t length,
+static inline int32_t entangle_explain_script(entangle_driver **driver, const void *script, size_t length,
                                               void *buffer, size_t capacity, entangle_told *told) {
-    if (!manager || entangle_is_misused(script, length, buffer, capacity, told)) return ENTANGLE_MISUSED;
-    return ent_c_explain_script(manager, entangle_bytes(script), length, entangle_buffer(buffer), capacity, told);
+    if (!driver || entangle_is_misused(script, length, buffer, capacity, told)) return ENTANGLE_MISUSED;
+    return ent_c_explain_script(driver, entangle_bytes(script), length, entangle_buffer(buffer), capacity, told);
 }
 
 /* Makes one run, if any script waits for one: the first 64 scripts that wait take part, and the run ends when none of
@@ -699,20 +712,20 @@ static inline int32_t entangle_explain_script(entangle_manager **manager, const 
  *
  * ENTANGLE_DONE: the run was made, or no script waited. ENTANGLE_OUT_OF_MEMORY: what was done stays done, and another
  * call goes on from there. */
-static inline int32_t entangle_run(entangle_manager **manager) {
-    if (!manager) return ENTANGLE_MISUSED;
-    return ent_c_run(manager);
+static inline int32_t entangle_run(entangle_driver **driver) {
+    if (!driver) return ENTANGLE_MISUSED;
+    return ent_c_run(driver);
 }
 
 /* Makes one move, an enum entangle_move, for a caller that orders the events of a run itself. `number` is the
  * transaction that begins; the other moves ignore it.
  *
  * ENTANGLE_DONE: `*reply` is the reply, an enum entangle_reply. ENTANGLE_OUT_OF_MEMORY: what was done stays done, the
- * move may be made again, and `*reply` is as it was. ENTANGLE_MISUSED: there is no such move, or the manager isn't
+ * move may be made again, and `*reply` is as it was. ENTANGLE_MISUSED: there is no such move, or the driver isn't
  * open. */
-static inline int32_t entangle_make(entangle_manager **manager, uint32_t move, uint64_t number, uint32_t *reply) {
-    if (!manager || !reply) return ENTANGLE_MISUSED;
-    return ent_c_make(manager, move, number, reply);
+static inline int32_t entangle_make(entangle_driver **driver, uint32_t move, uint64_t number, uint32_t *reply) {
+    if (!driver || !reply) return ENTANGLE_MISUSED;
+    return ent_c_make(driver, move, number, reply);
 }
 
 /* Gives a line, with its LF, that says what keeps a transaction from moving now (docs/EXPLAIN.md). The line begins with
@@ -720,18 +733,18 @@ static inline int32_t entangle_make(entangle_manager **manager, uint32_t move, u
  *
  * ENTANGLE_DONE: the text is the line. ENTANGLE_REFUSED: no script has this number, and E401 is told.
  * ENTANGLE_OUT_OF_MEMORY: E900 is told. */
-static inline int32_t entangle_why(entangle_manager **manager, uint64_t number, void *buffer, size_t capacity,
+static inline int32_t entangle_why(entangle_driver **driver, uint64_t number, void *buffer, size_t capacity,
                                    entangle_told *told) {
-    if (!manager || entangle_is_misused(NULL, 0, buffer, capacity, told)) return ENTANGLE_MISUSED;
-    return ent_c_why(manager, number, entangle_buffer(buffer), capacity, told);
+    if (!driver || entangle_is_misused(NULL, 0, buffer, capacity, told)) return ENTANGLE_MISUSED;
+    return ent_c_why(driver, number, entangle_buffer(buffer), capacity, told);
 }
 
 /* Tells the state of a transaction, and its fate, if it has one.
  *
  * ENTANGLE_DONE: `*position` has them. ENTANGLE_REFUSED: no script has this number, and `*position` is as it was. */
-static inline int32_t entangle_standing(entangle_manager **manager, uint64_t number, entangle_position *position) {
-    if (!manager || !position) return ENTANGLE_MISUSED;
-    return ent_c_standing(manager, number, position);
+static inline int32_t entangle_standing(entangle_driver **driver, uint64_t number, entangle_position *position) {
+    if (!driver || !position) return ENTANGLE_MISUSED;
+    return ent_c_standing(driver, number, position);
 }
 
 /* Gives the answers of a transaction, in the lines of a report: all of them if it has committed; if it is a member of
@@ -739,10 +752,10 @@ static inline int32_t entangle_standing(entangle_manager **manager, uint64_t num
  *
  * ENTANGLE_DONE: the text is these lines. ENTANGLE_REFUSED: no script has this number, and E401 is told.
  * ENTANGLE_OUT_OF_MEMORY: E900 is told. */
-static inline int32_t entangle_answers(entangle_manager **manager, uint64_t number, void *buffer, size_t capacity,
+static inline int32_t entangle_answers(entangle_driver **driver, uint64_t number, void *buffer, size_t capacity,
                                        entangle_told *told) {
-    if (!manager || entangle_is_misused(NULL, 0, buffer, capacity, told)) return ENTANGLE_MISUSED;
-    return ent_c_answers(manager, number, entangle_buffer(buffer), capacity, told);
+    if (!driver || entangle_is_misused(NULL, 0, buffer, capacity, told)) return ENTANGLE_MISUSED;
+    return ent_c_answers(driver, number, entangle_buffer(buffer), capacity, told);
 }
 
 /* Gives the present rows of a table, in the lines of a report: a line with its name and how many rows it has, and a
@@ -750,44 +763,44 @@ static inline int32_t entangle_answers(entangle_manager **manager, uint64_t numb
  *
  * ENTANGLE_DONE: the text is these lines. ENTANGLE_REFUSED: no table has this name, and E401 is told.
  * ENTANGLE_OUT_OF_MEMORY: E900 is told. */
-static inline int32_t entangle_table(entangle_manager **manager, const void *name, size_t length, void *buffer,
+static inline int32_t entangle_table(entangle_driver **driver, const void *name, size_t length, void *buffer,
                                      size_t capacity, entangle_told *told) {
-    if (!manager || entangle_is_misused(name, length, buffer, capacity, told)) return ENTANGLE_MISUSED;
-    return ent_c_table(manager, entangle_bytes(name), length, entangle_buffer(buffer), capacity, told);
+    if (!driver || entangle_is_misused(name, length, buffer, capacity, told)) return ENTANGLE_MISUSED;
+    return ent_c_table(driver, entangle_bytes(name), length, entangle_buffer(buffer), capacity, told);
 }
 
-/* Closes a manager, if all its transactions have a fate and no run is on. A closed manager gives its report; it can be
+/* Closes a driver, if all its transactions have a fate and no run is on. A closed driver gives its report; it can be
  * opened again by entangle_renew, or freed.
  *
  * ENTANGLE_DONE: it is closed. ENTANGLE_REFUSED: a run is on, or a transaction waits for one (E405), and it stays open.
  * ENTANGLE_OUT_OF_MEMORY: it stays open. */
-static inline int32_t entangle_close(entangle_manager **manager) {
-    if (!manager) return ENTANGLE_MISUSED;
-    return ent_c_close(manager);
+static inline int32_t entangle_close(entangle_driver **driver) {
+    if (!driver) return ENTANGLE_MISUSED;
+    return ent_c_close(driver);
 }
 
-/* Gives the report of a closed manager, in this version (1 or 2), as often as the caller asks.
+/* Gives the report of a closed driver, in this version (1 or 2), as often as the caller asks.
  *
  * ENTANGLE_DONE: the text is the report. ENTANGLE_OUT_OF_MEMORY: E900 is told. */
-static inline int32_t entangle_closed_report(entangle_manager **manager, uint32_t version, void *buffer,
+static inline int32_t entangle_closed_report(entangle_driver **driver, uint32_t version, void *buffer,
                                              size_t capacity, entangle_told *told) {
-    if (!manager || entangle_is_misused(NULL, 0, buffer, capacity, told)) return ENTANGLE_MISUSED;
-    return ent_c_closed_report(manager, version, entangle_buffer(buffer), capacity, told);
+    if (!driver || entangle_is_misused(NULL, 0, buffer, capacity, told)) return ENTANGLE_MISUSED;
+    return ent_c_closed_report(driver, version, entangle_buffer(buffer), capacity, told);
 }
 
-/* Opens a closed manager again: over the same tables, with the rows that they had at the close. It has no scripts,
+/* Opens a closed driver again: over the same tables, with the rows that they had at the close. It has no scripts,
  * numbers begin at 1 again, and its report is gone. So a service can go on after 10,000 scripts.
  *
  * ENTANGLE_DONE: it is open. ENTANGLE_REFUSED: its tables have more than 65,536 rows together (E407), and it stays
  * closed. ENTANGLE_OUT_OF_MEMORY: it stays closed. */
-static inline int32_t entangle_renew(entangle_manager **manager) {
-    if (!manager) return ENTANGLE_MISUSED;
-    return ent_c_renew(manager);
+static inline int32_t entangle_renew(entangle_driver **driver) {
+    if (!driver) return ENTANGLE_MISUSED;
+    return ent_c_renew(driver);
 }
 
-/* Frees a manager in any state, and sets the pointer to null; if the pointer is null, it does nothing. */
-static inline void entangle_free(entangle_manager **manager) {
-    if (manager) ent_c_free(manager);
+/* Frees a driver in any state, and sets the pointer to null; if the pointer is null, it does nothing. */
+static inline void entangle_free(entangle_driver **driver) {
+    if (driver) ent_c_free(driver);
 }
 
 #ifdef __cplusplus

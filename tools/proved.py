@@ -4,14 +4,16 @@ What passes is kept beside the kit, for the gate and for the next time. No wrong
 """
 
 import contextlib
+import functools
 import os
 import re
 import shutil
 import subprocess
 import sys
-import tempfile
 import threading
 import time
+
+import children
 
 HERE = os.path.dirname(os.path.dirname(os.path.realpath(__file__)))
 ENDED = re.compile(r"rt: (\w+) (proved|is kept|NOT PROVED)\b")
@@ -28,8 +30,12 @@ def listed():
     return {name: (line, [it for it in below if it in lines]) for name, (line, below) in lines.items()}
 
 
+@functools.lru_cache(maxsize=None)
 def kit():
     """The kit's folder."""
+    if not shutil.which("rt"):
+        tool = os.path.basename(sys.argv[0])
+        sys.exit(f"{tool}: it lacks rt, the Rattle kit's command, on the PATH: README.md says how to get it")
     page = subprocess.run(["rt", "doc"], capture_output=True, text=True, check=True).stdout.strip()
     return os.path.dirname(page)
 
@@ -110,7 +116,7 @@ def prove(tree, names, lanes):
     environment = {**os.environ, "RT_JOBS": str(lanes)} if lanes else os.environ
     how = {"stdin": subprocess.DEVNULL, "stdout": subprocess.PIPE, "stderr": subprocess.STDOUT, "errors": "replace"}
     progress = Progress(tree, names)
-    with subprocess.Popen(["rt", "ci"], cwd=tree, env=environment, **how) as process:
+    with children.CHILDREN.started(["rt", "ci"], cwd=tree, env=environment, **how) as process:
         watching = threading.Thread(target=progress.watch, args=(process,))
         watching.start()
         for line in process.stdout:
@@ -124,9 +130,9 @@ def prove(tree, names, lanes):
 @contextlib.contextmanager
 def proved_tree(name, lanes=0):
     """A tree in which a crate and all below it are proved and built; None where they aren't all proved."""
+    kit()
     crates = listed()
     names = needed(crates, name)
-    with tempfile.TemporaryDirectory(prefix="entangle-") as room:
-        tree = os.path.realpath(room)
+    with children.folder("entangle-") as tree:
         copy_to(tree, crates, names)
         yield tree if prove(tree, names, lanes) else None

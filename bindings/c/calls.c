@@ -31,7 +31,18 @@ static bool tells_fault(const entangle_told *told, size_t needed) {
            told->column == 28;
 }
 
-/* The library is the one of the header, and says its version. */
+/* The version of a library that says by which logic it is proved, or that it is built without proof; its length. */
+static size_t version_of(char *version, size_t size, const char *said, size_t length) {
+    static const char logic[] = ENTANGLE_VERSION ", proved by logic ";
+    static const char none[] = ENTANGLE_VERSION ", built without proof";
+    bool is_proved = length >= sizeof logic - 1 && !memcmp(said, logic, sizeof logic - 1);
+    size_t needed = is_proved ? sizeof logic - 1 + 16 : sizeof none - 1;
+    CHECK(length == needed && needed < size);
+    memcpy(version, is_proved ? said : none, needed);
+    return needed;
+}
+
+/* The library is the one of the header, and says its version, and whether it is proved. */
 static void version(void) {
     char buffer[64], expected[64];
     entangle_told told;
@@ -39,10 +50,9 @@ static void version(void) {
     CHECK(ent_c_size_of_told() == sizeof told && ent_c_size_of_position() == sizeof(entangle_position));
     memset(buffer, '#', sizeof buffer);
     CHECK(entangle_version(buffer, sizeof buffer, &told) == ENTANGLE_DONE && tells_text(&told, told.needed));
-    int length = snprintf(expected, sizeof expected, "%s, proved by logic ", ENTANGLE_VERSION);
-    CHECK(told.needed == (size_t)length + 16 && buffer[told.needed] == '#');
-    CHECK(!memcmp(buffer, expected, (size_t)length));
-    CHECK(entangle_version(NULL, 0, &told) == ENTANGLE_DONE && tells_text(&told, (size_t)length + 16));
+    size_t length = version_of(expected, sizeof expected, buffer, told.needed);
+    CHECK(!memcmp(buffer, expected, length) && buffer[length] == '#');
+    CHECK(entangle_version(NULL, 0, &told) == ENTANGLE_DONE && tells_text(&told, length));
     CHECK(entangle_version(buffer, 1, NULL) == ENTANGLE_MISUSED);
     CHECK(entangle_version(NULL, 1, &told) == ENTANGLE_MISUSED);
 }
@@ -110,7 +120,7 @@ static const char SCRIPT[] = "BEGIN TRANSACTION;\nINSERT INTO T VALUES (1);\nCOM
 static const char AFTER[] = "report 1\ntx 1 committed 1 after 1\n1 count 1\ntable T 1\n(1)\nend\n";
 
 /* The events of a run of one script, one at a time. */
-static void moves(entangle_manager **manager) {
+static void moves(entangle_driver **driver) {
     static const uint32_t made[] = {ENTANGLE_START_RUN, ENTANGLE_BEGIN, ENTANGLE_PICK, ENTANGLE_BREAK_CYCLE,
                                     ENTANGLE_END_RUN,   ENTANGLE_BEGIN, ENTANGLE_BEGIN, ENTANGLE_END_RUN};
     static const uint32_t replied[] = {ENTANGLE_REPLY_STARTED,  ENTANGLE_REPLY_STEPPED,   ENTANGLE_REPLY_NOTHING,
@@ -120,16 +130,16 @@ static void moves(entangle_manager **manager) {
     char buffer[64];
     entangle_told told;
     uint32_t reply = 77;
-    CHECK(entangle_make(manager, 6, 1, &reply) == ENTANGLE_MISUSED && reply == 77);
-    CHECK(entangle_make(manager, ENTANGLE_BEGIN, 1, NULL) == ENTANGLE_MISUSED);
-    CHECK(entangle_why(manager, 1, buffer, sizeof buffer, &told) == ENTANGLE_DONE);
+    CHECK(entangle_make(driver, 6, 1, &reply) == ENTANGLE_MISUSED && reply == 77);
+    CHECK(entangle_make(driver, ENTANGLE_BEGIN, 1, NULL) == ENTANGLE_MISUSED);
+    CHECK(entangle_why(driver, 1, buffer, sizeof buffer, &told) == ENTANGLE_DONE);
     CHECK(tells_text(&told, sizeof dormant - 1) && !memcmp(buffer, dormant, sizeof dormant - 1));
     for (size_t at = 0; at < sizeof made / sizeof *made; at++) {
-        CHECK(entangle_make(manager, made[at], 1, &reply) == ENTANGLE_DONE && reply == replied[at]);
-        CHECK(entangle_why(manager, 1, buffer, sizeof buffer, &told) == ENTANGLE_DONE);
+        CHECK(entangle_make(driver, made[at], 1, &reply) == ENTANGLE_DONE && reply == replied[at]);
+        CHECK(entangle_why(driver, 1, buffer, sizeof buffer, &told) == ENTANGLE_DONE);
         CHECK(at > 4 || !memcmp(buffer, ready, sizeof ready - 1));
     }
-    CHECK(entangle_why(manager, 2, buffer, sizeof buffer, &told) == ENTANGLE_REFUSED && told.code == 401);
+    CHECK(entangle_why(driver, 2, buffer, sizeof buffer, &told) == ENTANGLE_REFUSED && told.code == 401);
 }
 
 static const char BAD_SCRIPT[] = "BEGIN TRANSACTION;\nINSERT INTO U VALUES (1);\nCOMMIT;\n";
@@ -137,90 +147,90 @@ static const char BAD_SAID[] = "E301 at 31\nline 2, column 13: there is no table
                                "              ^\nthe tables are T\n";
 
 /* The fault of a script is explained in the script's own lines, as far as the buffer reaches; nothing is submitted. */
-static void explained_script(entangle_manager **manager) {
+static void explained_script(entangle_driver **driver) {
     char buffer[256];
     entangle_told told;
     entangle_position position;
     size_t length = sizeof BAD_SCRIPT - 1, needed = sizeof BAD_SAID - 1;
     for (size_t capacity = 0; capacity <= needed + 4; capacity++) {
         memset(buffer, '#', sizeof buffer);
-        CHECK(entangle_explain_script(manager, BAD_SCRIPT, length, buffer, capacity, &told) == ENTANGLE_REFUSED);
+        CHECK(entangle_explain_script(driver, BAD_SCRIPT, length, buffer, capacity, &told) == ENTANGLE_REFUSED);
         CHECK(told.needed == needed && told.code == 301 && told.has_place && told.offset == 31);
         CHECK(told.line == 2 && told.column == 13);
         size_t written = capacity < needed ? capacity : needed;
         CHECK(!memcmp(buffer, BAD_SAID, written) && buffer[written] == '#');
     }
-    CHECK(entangle_explain_script(manager, NULL, 0, buffer, sizeof buffer, &told) == ENTANGLE_REFUSED);
+    CHECK(entangle_explain_script(driver, NULL, 0, buffer, sizeof buffer, &told) == ENTANGLE_REFUSED);
     CHECK(told.code == 201 && told.offset == 0 && !memcmp(buffer, "E201 at 0\n", 10));
-    CHECK(entangle_explain_script(manager, SCRIPT, sizeof SCRIPT - 1, buffer, sizeof buffer, &told) == ENTANGLE_DONE);
-    CHECK(tells_text(&told, 0) && entangle_standing(manager, 1, &position) == ENTANGLE_REFUSED);
+    CHECK(entangle_explain_script(driver, SCRIPT, sizeof SCRIPT - 1, buffer, sizeof buffer, &told) == ENTANGLE_DONE);
+    CHECK(tells_text(&told, 0) && entangle_standing(driver, 1, &position) == ENTANGLE_REFUSED);
     CHECK(entangle_explain_script(NULL, SCRIPT, 1, buffer, 1, &told) == ENTANGLE_MISUSED);
-    CHECK(entangle_explain_script(manager, NULL, 1, buffer, 1, &told) == ENTANGLE_MISUSED);
-    CHECK(entangle_explain_script(manager, SCRIPT, 1, NULL, 1, &told) == ENTANGLE_MISUSED);
-    CHECK(entangle_explain_script(manager, SCRIPT, 1, buffer, 1, NULL) == ENTANGLE_MISUSED);
+    CHECK(entangle_explain_script(driver, NULL, 1, buffer, 1, &told) == ENTANGLE_MISUSED);
+    CHECK(entangle_explain_script(driver, SCRIPT, 1, NULL, 1, &told) == ENTANGLE_MISUSED);
+    CHECK(entangle_explain_script(driver, SCRIPT, 1, buffer, 1, NULL) == ENTANGLE_MISUSED);
 }
 
-/* A manager from its opening to its end; the calls that want another state change nothing. */
-static void managers(void) {
+/* A driver from its opening to its end; the calls that want another state change nothing. */
+static void drivers(void) {
     char buffer[256];
-    entangle_manager *manager = NULL;
+    entangle_driver *driver = NULL;
     entangle_told told;
     entangle_position position = {7, 7, 7, 7};
     uint64_t number = 7;
-    CHECK(entangle_run(&manager) == ENTANGLE_MISUSED && entangle_close(&manager) == ENTANGLE_MISUSED);
-    CHECK(entangle_submit(&manager, SCRIPT, sizeof SCRIPT - 1, &number, &told) == ENTANGLE_MISUSED && number == 7);
-    CHECK(entangle_standing(&manager, 1, &position) == ENTANGLE_MISUSED && position.kind == 7);
-    CHECK(entangle_answers(&manager, 1, buffer, sizeof buffer, &told) == ENTANGLE_MISUSED && tells_text(&told, 0));
-    CHECK(entangle_explain_script(&manager, SCRIPT, sizeof SCRIPT - 1, buffer, 9, &told) == ENTANGLE_MISUSED);
-    CHECK(tells_text(&told, 0) && !manager);
-    CHECK(entangle_open(&manager, WRONG, WRONG_LENGTH, &told) == ENTANGLE_REFUSED && tells_fault(&told, 0) && !manager);
-    CHECK(entangle_open(&manager, TABLE, sizeof TABLE - 1, &told) == ENTANGLE_DONE && manager && tells_text(&told, 0));
-    entangle_manager *at = manager;
-    CHECK(entangle_open(&manager, TABLE, sizeof TABLE - 1, &told) == ENTANGLE_MISUSED && manager == at);
-    explained_script(&manager);
-    CHECK(entangle_submit(&manager, TABLE, sizeof TABLE - 1, &number, &told) == ENTANGLE_REFUSED && number == 7);
+    CHECK(entangle_run(&driver) == ENTANGLE_MISUSED && entangle_close(&driver) == ENTANGLE_MISUSED);
+    CHECK(entangle_submit(&driver, SCRIPT, sizeof SCRIPT - 1, &number, &told) == ENTANGLE_MISUSED && number == 7);
+    CHECK(entangle_standing(&driver, 1, &position) == ENTANGLE_MISUSED && position.kind == 7);
+    CHECK(entangle_answers(&driver, 1, buffer, sizeof buffer, &told) == ENTANGLE_MISUSED && tells_text(&told, 0));
+    CHECK(entangle_explain_script(&driver, SCRIPT, sizeof SCRIPT - 1, buffer, 9, &told) == ENTANGLE_MISUSED);
+    CHECK(tells_text(&told, 0) && !driver);
+    CHECK(entangle_open(&driver, WRONG, WRONG_LENGTH, &told) == ENTANGLE_REFUSED && tells_fault(&told, 0) && !driver);
+    CHECK(entangle_open(&driver, TABLE, sizeof TABLE - 1, &told) == ENTANGLE_DONE && driver && tells_text(&told, 0));
+    entangle_driver *at = driver;
+    CHECK(entangle_open(&driver, TABLE, sizeof TABLE - 1, &told) == ENTANGLE_MISUSED && driver == at);
+    explained_script(&driver);
+    CHECK(entangle_submit(&driver, TABLE, sizeof TABLE - 1, &number, &told) == ENTANGLE_REFUSED && number == 7);
     CHECK(told.code == 201 && told.has_place && told.offset == 0 && told.line == 1 && told.column == 1);
-    CHECK(entangle_submit(&manager, SCRIPT, sizeof SCRIPT - 1, &number, &told) == ENTANGLE_DONE && number == 1);
-    CHECK(entangle_standing(&manager, 2, &position) == ENTANGLE_REFUSED && position.runs == 7);
-    CHECK(entangle_standing(&manager, 1, &position) == ENTANGLE_DONE && position.kind == ENTANGLE_DORMANT);
-    CHECK(!position.runs && !position.number && !position.failure && entangle_close(&manager) == ENTANGLE_REFUSED);
-    CHECK(entangle_run(&manager) == ENTANGLE_DONE && entangle_standing(&manager, 1, &position) == ENTANGLE_DONE);
+    CHECK(entangle_submit(&driver, SCRIPT, sizeof SCRIPT - 1, &number, &told) == ENTANGLE_DONE && number == 1);
+    CHECK(entangle_standing(&driver, 2, &position) == ENTANGLE_REFUSED && position.runs == 7);
+    CHECK(entangle_standing(&driver, 1, &position) == ENTANGLE_DONE && position.kind == ENTANGLE_DORMANT);
+    CHECK(!position.runs && !position.number && !position.failure && entangle_close(&driver) == ENTANGLE_REFUSED);
+    CHECK(entangle_run(&driver) == ENTANGLE_DONE && entangle_standing(&driver, 1, &position) == ENTANGLE_DONE);
     CHECK(position.kind == ENTANGLE_COMMITTED && position.number == 1 && position.runs == 1 && !position.failure);
     memset(buffer, '#', sizeof buffer);
-    CHECK(entangle_answers(&manager, 1, buffer, 4, &told) == ENTANGLE_DONE && tells_text(&told, 10));
-    CHECK(!memcmp(buffer, "1 co#", 5) && entangle_table(&manager, "T", 1, buffer, 256, &told) == ENTANGLE_DONE);
+    CHECK(entangle_answers(&driver, 1, buffer, 4, &told) == ENTANGLE_DONE && tells_text(&told, 10));
+    CHECK(!memcmp(buffer, "1 co#", 5) && entangle_table(&driver, "T", 1, buffer, 256, &told) == ENTANGLE_DONE);
     CHECK(tells_text(&told, 14) && !memcmp(buffer, "table T 1\n(1)\n#", 15));
-    CHECK(entangle_table(&manager, "U", 1, buffer, 256, &told) == ENTANGLE_REFUSED && told.code == 401);
-    CHECK(entangle_closed_report(&manager, 1, buffer, 256, &told) == ENTANGLE_MISUSED && tells_text(&told, 0));
-    CHECK(entangle_renew(&manager) == ENTANGLE_MISUSED);
-    CHECK(entangle_close(&manager) == ENTANGLE_DONE && entangle_run(&manager) == ENTANGLE_MISUSED);
-    CHECK(entangle_explain_script(&manager, SCRIPT, sizeof SCRIPT - 1, buffer, 9, &told) == ENTANGLE_MISUSED);
-    CHECK(entangle_closed_report(&manager, 3, buffer, 256, &told) == ENTANGLE_MISUSED && tells_text(&told, 0));
-    CHECK(entangle_closed_report(&manager, 1, buffer, 256, &told) == ENTANGLE_DONE);
+    CHECK(entangle_table(&driver, "U", 1, buffer, 256, &told) == ENTANGLE_REFUSED && told.code == 401);
+    CHECK(entangle_closed_report(&driver, 1, buffer, 256, &told) == ENTANGLE_MISUSED && tells_text(&told, 0));
+    CHECK(entangle_renew(&driver) == ENTANGLE_MISUSED);
+    CHECK(entangle_close(&driver) == ENTANGLE_DONE && entangle_run(&driver) == ENTANGLE_MISUSED);
+    CHECK(entangle_explain_script(&driver, SCRIPT, sizeof SCRIPT - 1, buffer, 9, &told) == ENTANGLE_MISUSED);
+    CHECK(entangle_closed_report(&driver, 3, buffer, 256, &told) == ENTANGLE_MISUSED && tells_text(&told, 0));
+    CHECK(entangle_closed_report(&driver, 1, buffer, 256, &told) == ENTANGLE_DONE);
     CHECK(tells_text(&told, sizeof AFTER - 1) && !memcmp(buffer, AFTER, sizeof AFTER - 1));
-    CHECK(entangle_renew(&manager) == ENTANGLE_DONE && entangle_standing(&manager, 1, &position) == ENTANGLE_REFUSED);
-    CHECK(entangle_table(&manager, "T", 1, buffer, 256, &told) == ENTANGLE_DONE && tells_text(&told, 14));
-    CHECK(entangle_submit(&manager, SCRIPT, sizeof SCRIPT - 1, &number, &told) == ENTANGLE_DONE && number == 1);
-    moves(&manager);
+    CHECK(entangle_renew(&driver) == ENTANGLE_DONE && entangle_standing(&driver, 1, &position) == ENTANGLE_REFUSED);
+    CHECK(entangle_table(&driver, "T", 1, buffer, 256, &told) == ENTANGLE_DONE && tells_text(&told, 14));
+    CHECK(entangle_submit(&driver, SCRIPT, sizeof SCRIPT - 1, &number, &told) == ENTANGLE_DONE && number == 1);
+    moves(&driver);
     CHECK(entangle_open(NULL, TABLE, 1, &told) == ENTANGLE_MISUSED && entangle_run(NULL) == ENTANGLE_MISUSED);
-    CHECK(entangle_submit(&manager, NULL, 1, &number, &told) == ENTANGLE_MISUSED && manager == at);
-    entangle_free(&manager);
-    CHECK(!manager);
-    entangle_free(&manager);
+    CHECK(entangle_submit(&driver, NULL, 1, &number, &told) == ENTANGLE_MISUSED && driver == at);
+    entangle_free(&driver);
+    CHECK(!driver);
+    entangle_free(&driver);
     entangle_free(NULL);
 }
 
-/* Managers come and go, with all that they came to. */
-static void many_managers(void) {
+/* Drivers come and go, with all that they came to. */
+static void many_drivers(void) {
     for (int count = 0; count < 1000; count++) {
-        entangle_manager *manager = NULL;
+        entangle_driver *driver = NULL;
         entangle_told told;
         uint64_t number;
-        CHECK(entangle_open(&manager, TABLE, sizeof TABLE - 1, &told) == ENTANGLE_DONE);
-        CHECK(entangle_submit(&manager, SCRIPT, sizeof SCRIPT - 1, &number, &told) == ENTANGLE_DONE);
-        CHECK(count % 3 == 0 || entangle_run(&manager) == ENTANGLE_DONE);
-        CHECK(count % 3 != 2 || entangle_close(&manager) == ENTANGLE_DONE);
-        entangle_free(&manager);
+        CHECK(entangle_open(&driver, TABLE, sizeof TABLE - 1, &told) == ENTANGLE_DONE);
+        CHECK(entangle_submit(&driver, SCRIPT, sizeof SCRIPT - 1, &number, &told) == ENTANGLE_DONE);
+        CHECK(count % 3 == 0 || entangle_run(&driver) == ENTANGLE_DONE);
+        CHECK(count % 3 != 2 || entangle_close(&driver) == ENTANGLE_DONE);
+        entangle_free(&driver);
     }
 }
 
@@ -265,57 +275,57 @@ static long told_refusals = 0;
     for (int32_t status; (status = (call)) != (wanted); told_refusals++)                                               \
     CHECK(status == ENTANGLE_OUT_OF_MEMORY && (holds))
 
-/* Submits a script to a manager and makes its run event by event, each call again if memory ran out for it. */
-static void moved(entangle_manager **manager) {
+/* Submits a script to a driver and makes its run event by event, each call again if memory ran out for it. */
+static void moved(entangle_driver **driver) {
     static const uint32_t made[] = {ENTANGLE_START_RUN, ENTANGLE_BEGIN, ENTANGLE_BEGIN, ENTANGLE_END_RUN};
     static const uint32_t replied[] = {ENTANGLE_REPLY_STARTED, ENTANGLE_REPLY_STEPPED, ENTANGLE_REPLY_COMMITTED,
                                        ENTANGLE_REPLY_ENDED};
     char buffer[64];
     entangle_told told;
     uint64_t tx = 0;
-    REPEATED(entangle_submit(manager, SCRIPT, sizeof SCRIPT - 1, &tx, &told), ENTANGLE_DONE, told.code == 900 && !tx);
+    REPEATED(entangle_submit(driver, SCRIPT, sizeof SCRIPT - 1, &tx, &told), ENTANGLE_DONE, told.code == 900 && !tx);
     for (size_t at = 0; at < sizeof made / sizeof *made; at++) {
         uint32_t reply = 0;
-        REPEATED(entangle_why(manager, tx, buffer, sizeof buffer, &told), ENTANGLE_DONE, told.code == 900);
-        REPEATED(entangle_make(manager, made[at], tx, &reply), ENTANGLE_DONE, !reply);
+        REPEATED(entangle_why(driver, tx, buffer, sizeof buffer, &told), ENTANGLE_DONE, told.code == 900);
+        REPEATED(entangle_make(driver, made[at], tx, &reply), ENTANGLE_DONE, !reply);
         CHECK(reply == replied[at]);
     }
 }
 
-/* Opens a manager, explains a script, makes a run, closes the manager and goes on with its tables, while one allocation
+/* Opens a driver, explains a script, makes a run, closes the driver and goes on with its tables, while one allocation
  * fails. Each call that tells so is made again, and comes to the same. Whether there were so many allocations. */
 static bool driven(long number) {
     char buffer[256];
-    entangle_manager *manager = NULL;
+    entangle_driver *driver = NULL;
     entangle_told told;
     uint64_t tx = 0;
     until = number;
-    REPEATED(entangle_open(&manager, TABLE, sizeof TABLE - 1, &told), ENTANGLE_DONE, told.code == 900 && !manager);
-    REPEATED(entangle_explain_script(&manager, BAD_SCRIPT, sizeof BAD_SCRIPT - 1, buffer, 256, &told), ENTANGLE_REFUSED,
+    REPEATED(entangle_open(&driver, TABLE, sizeof TABLE - 1, &told), ENTANGLE_DONE, told.code == 900 && !driver);
+    REPEATED(entangle_explain_script(&driver, BAD_SCRIPT, sizeof BAD_SCRIPT - 1, buffer, 256, &told), ENTANGLE_REFUSED,
              told.code == 900 && told.needed <= 5);
     CHECK(told.needed == sizeof BAD_SAID - 1 && !memcmp(buffer, BAD_SAID, sizeof BAD_SAID - 1));
-    REPEATED(entangle_submit(&manager, SCRIPT, sizeof SCRIPT - 1, &tx, &told), ENTANGLE_DONE, told.code == 900 && !tx);
-    REPEATED(entangle_run(&manager), ENTANGLE_DONE, true);
-    REPEATED(entangle_answers(&manager, 1, buffer, 256, &told), ENTANGLE_DONE, told.code == 900);
-    REPEATED(entangle_table(&manager, "T", 1, buffer, 256, &told), ENTANGLE_DONE, told.code == 900);
-    REPEATED(entangle_close(&manager), ENTANGLE_DONE, true);
-    REPEATED(entangle_closed_report(&manager, 1, buffer, 256, &told), ENTANGLE_DONE, told.code == 900);
+    REPEATED(entangle_submit(&driver, SCRIPT, sizeof SCRIPT - 1, &tx, &told), ENTANGLE_DONE, told.code == 900 && !tx);
+    REPEATED(entangle_run(&driver), ENTANGLE_DONE, true);
+    REPEATED(entangle_answers(&driver, 1, buffer, 256, &told), ENTANGLE_DONE, told.code == 900);
+    REPEATED(entangle_table(&driver, "T", 1, buffer, 256, &told), ENTANGLE_DONE, told.code == 900);
+    REPEATED(entangle_close(&driver), ENTANGLE_DONE, true);
+    REPEATED(entangle_closed_report(&driver, 1, buffer, 256, &told), ENTANGLE_DONE, told.code == 900);
     CHECK(told.needed == sizeof AFTER - 1 && !memcmp(buffer, AFTER, sizeof AFTER - 1));
-    REPEATED(entangle_renew(&manager), ENTANGLE_DONE, true);
-    moved(&manager);
+    REPEATED(entangle_renew(&driver), ENTANGLE_DONE, true);
+    moved(&driver);
     bool is_reached = until < 0;
     until = -1;
-    CHECK(entangle_table(&manager, "T", 1, buffer, 256, &told) == ENTANGLE_DONE && tells_text(&told, 14));
-    entangle_free(&manager);
+    CHECK(entangle_table(&driver, "T", 1, buffer, 256, &told) == ENTANGLE_DONE && tells_text(&told, 14));
+    entangle_free(&driver);
     return is_reached;
 }
 
-/* Each allocation of a manager's calls fails in turn. The library may do with less memory, and tell nothing. */
+/* Each allocation of a driver's calls fails in turn. The library may do with less memory, and tell nothing. */
 static void driven_refusals(void) {
     long count = 0;
     while (driven(count)) count++;
     CHECK(told_refusals > 100 && told_refusals <= count);
-    printf("%ld allocations of a manager's calls refused, %ld of them told\n", count, told_refusals);
+    printf("%ld allocations of a driver's calls refused, %ld of them told\n", count, told_refusals);
 }
 #endif
 
@@ -325,8 +335,8 @@ int main(void) {
     faults();
     checks();
     misuse();
-    managers();
-    many_managers();
+    drivers();
+    many_drivers();
 #ifdef REFUSING
     driven_refusals();
     refusals(false, ENTANGLE_DONE);

@@ -212,6 +212,27 @@ static void opened(void) {
     CHECK(!room);
 }
 
+/* A script waits for as many batches as the header says at most, and for no more. */
+static void longest_stay(void) {
+    const int64_t most = ENTANGLE_MOST_BATCHES;
+    entangle_room *room = NULL;
+    entangle_rows *rows = NULL;
+    entangle_values *none = NULL;
+    entangle_told told;
+    entangle_ticket_state state;
+    uint64_t ticket = 77;
+    uint32_t refusal = 77;
+    CHECK(entangle_room_open(&room, TEXT(TABLES), &rows, 1, 5, 1, &LIMITS, &refusal, &told) == ENTANGLE_DONE);
+    CHECK(entangle_room_put(&room, TEXT(WRITER), &none, most + 1, &ticket, &refusal, &told) == ENTANGLE_MISUSED);
+    CHECK(entangle_room_restore(&room, 1, TEXT(WRITER), &none, most + 1, 0, &refusal, &told) == ENTANGLE_MISUSED);
+    CHECK(ticket == 77 && kind_of(&room, 1, &state) == ENTANGLE_TICKET_UNKNOWN);
+    CHECK(entangle_room_put(&room, TEXT(WRITER), &none, most, &ticket, &refusal, &told) == ENTANGLE_DONE);
+    CHECK(ticket == 5 && kind_of(&room, 5, &state) == ENTANGLE_TICKET_WAITS);
+    CHECK(entangle_room_restore(&room, 1, TEXT(WRITER), &none, most, 0, &refusal, &told) == ENTANGLE_DONE);
+    CHECK(kind_of(&room, 1, &state) == ENTANGLE_TICKET_WAITS);
+    entangle_room_free(&room);
+}
+
 /* Whether a table is told in these lines. */
 static bool shows(entangle_room **room, const char *name, const char *lines) {
     char buffer[256];
@@ -367,7 +388,6 @@ static void put_refused(entangle_room **room) {
     entangle_values_free(&values);
     refusal = 77;
     CHECK(entangle_room_put(room, TEXT(WRITER), &none, -2, &ticket, &refusal, &told) == ENTANGLE_MISUSED);
-    CHECK(entangle_room_put(room, TEXT(WRITER), &none, 1000001, &ticket, &refusal, &told) == ENTANGLE_MISUSED);
     CHECK(entangle_room_put(room, NULL, 1, &none, -1, &ticket, &refusal, &told) == ENTANGLE_MISUSED);
     CHECK(entangle_room_put(room, TEXT(WRITER), NULL, -1, &ticket, &refusal, &told) == ENTANGLE_MISUSED);
     CHECK(entangle_room_put(room, TEXT(WRITER), &none, -1, NULL, &refusal, &told) == ENTANGLE_MISUSED);
@@ -695,6 +715,7 @@ int main(void) {
     collected();
     closed();
     opened();
+    longest_stay();
     given();
     misfits();
     whole();

@@ -1,5 +1,5 @@
 /* Calls from threads, each on a stack of ENTANGLE_STACK_BYTES with a page below it that nothing may touch. Half of the
- * threads have managers of their own, half share one behind a lock. It ends with status 0, or at the first check that
+ * threads have drivers of their own, half share one behind a lock. It ends with status 0, or at the first check that
  * fails, and says how many bytes of its stack a thread has used at most: the stacks are filled with a byte before, and
  * what is changed of it afterwards was used.
  *
@@ -34,7 +34,7 @@ struct input {
 
 static struct input inputs[MOST_INPUTS];
 static size_t input_count;
-static entangle_manager *shared;
+static entangle_driver *shared;
 static pthread_mutex_t lock = PTHREAD_MUTEX_INITIALIZER;
 
 static void add_input(char *text, size_t length) {
@@ -113,7 +113,7 @@ static void read_input(const char *path) {
 /* ---- the calls */
 
 /* The report of an input of version 2, which is checked; or the explanation of its fault. */
-static void without_manager(struct input input) {
+static void without_driver(struct input input) {
     entangle_told told;
     size_t capacity = 8 * input.length + 65536;
     char *text = malloc(capacity);
@@ -130,51 +130,51 @@ static void without_manager(struct input input) {
 }
 
 /* Makes a run event by event, and asks about each member between the events. */
-static void events(entangle_manager **manager) {
+static void events(entangle_driver **driver) {
     uint32_t reply;
     entangle_told told;
     entangle_position position;
-    CHECK(entangle_make(manager, ENTANGLE_START_RUN, 0, &reply) == ENTANGLE_DONE);
+    CHECK(entangle_make(driver, ENTANGLE_START_RUN, 0, &reply) == ENTANGLE_DONE);
     for (bool moved = reply == ENTANGLE_REPLY_STARTED; moved;) {
         moved = false;
         for (uint64_t tx = 1; tx <= MEMBERS; tx++) {
-            CHECK(entangle_make(manager, ENTANGLE_BEGIN, tx, &reply) == ENTANGLE_DONE);
+            CHECK(entangle_make(driver, ENTANGLE_BEGIN, tx, &reply) == ENTANGLE_DONE);
             moved = moved || reply == ENTANGLE_REPLY_STEPPED || reply == ENTANGLE_REPLY_POSTED ||
                     reply == ENTANGLE_REPLY_PREPARED || reply == ENTANGLE_REPLY_COMMITTED;
-            if (entangle_standing(manager, tx, &position) != ENTANGLE_DONE) break;
-            CHECK(entangle_why(manager, tx, NULL, 0, &told) == ENTANGLE_DONE);
-            CHECK(entangle_answers(manager, tx, NULL, 0, &told) == ENTANGLE_DONE);
+            if (entangle_standing(driver, tx, &position) != ENTANGLE_DONE) break;
+            CHECK(entangle_why(driver, tx, NULL, 0, &told) == ENTANGLE_DONE);
+            CHECK(entangle_answers(driver, tx, NULL, 0, &told) == ENTANGLE_DONE);
         }
-        CHECK(entangle_make(manager, ENTANGLE_PICK, 0, &reply) == ENTANGLE_DONE);
+        CHECK(entangle_make(driver, ENTANGLE_PICK, 0, &reply) == ENTANGLE_DONE);
         moved = moved || reply != ENTANGLE_REPLY_NOTHING;
-        CHECK(entangle_make(manager, ENTANGLE_BREAK_CYCLE, 0, &reply) == ENTANGLE_DONE);
+        CHECK(entangle_make(driver, ENTANGLE_BREAK_CYCLE, 0, &reply) == ENTANGLE_DONE);
         moved = moved || reply == ENTANGLE_REPLY_BROKEN;
     }
-    CHECK(entangle_make(manager, ENTANGLE_END_RUN, 0, &reply) == ENTANGLE_DONE);
+    CHECK(entangle_make(driver, ENTANGLE_END_RUN, 0, &reply) == ENTANGLE_DONE);
 }
 
-/* A manager of the thread's own, from its opening to its renewal. */
-static void with_manager(struct input input, bool event_by_event) {
+/* A driver of the thread's own, from its opening to its renewal. */
+static void with_driver(struct input input, bool event_by_event) {
     static const char wrong[] = "BEGIN TRANSACTION;\nSELECT bb FROM T;\nCOMMIT;", unended[] = "BEGIN TRANSACTION; SET";
-    entangle_manager *manager = NULL;
+    entangle_driver *driver = NULL;
     entangle_told told;
     uint64_t tx;
-    if (entangle_open(&manager, input.text, input.length, &told) != ENTANGLE_DONE) return;
-    CHECK(entangle_submit(&manager, wrong, sizeof wrong - 1, &tx, &told) == ENTANGLE_REFUSED);
-    CHECK(entangle_explain_script(&manager, wrong, sizeof wrong - 1, NULL, 0, &told) == ENTANGLE_REFUSED);
-    CHECK(entangle_explain_script(&manager, unended, sizeof unended - 1, NULL, 0, &told) == ENTANGLE_REFUSED);
-    while (entangle_close(&manager) == ENTANGLE_REFUSED) {
-        if (event_by_event) events(&manager);
-        CHECK(entangle_run(&manager) == ENTANGLE_DONE);
+    if (entangle_open(&driver, input.text, input.length, &told) != ENTANGLE_DONE) return;
+    CHECK(entangle_submit(&driver, wrong, sizeof wrong - 1, &tx, &told) == ENTANGLE_REFUSED);
+    CHECK(entangle_explain_script(&driver, wrong, sizeof wrong - 1, NULL, 0, &told) == ENTANGLE_REFUSED);
+    CHECK(entangle_explain_script(&driver, unended, sizeof unended - 1, NULL, 0, &told) == ENTANGLE_REFUSED);
+    while (entangle_close(&driver) == ENTANGLE_REFUSED) {
+        if (event_by_event) events(&driver);
+        CHECK(entangle_run(&driver) == ENTANGLE_DONE);
     }
-    CHECK(entangle_closed_report(&manager, 2, NULL, 0, &told) == ENTANGLE_DONE);
-    CHECK(entangle_renew(&manager) == ENTANGLE_DONE);
-    int32_t shown = entangle_table(&manager, "T", 1, NULL, 0, &told);
+    CHECK(entangle_closed_report(&driver, 2, NULL, 0, &told) == ENTANGLE_DONE);
+    CHECK(entangle_renew(&driver) == ENTANGLE_DONE);
+    int32_t shown = entangle_table(&driver, "T", 1, NULL, 0, &told);
     CHECK(shown == ENTANGLE_DONE || told.code == 401);
-    entangle_free(&manager);
+    entangle_free(&driver);
 }
 
-/* The manager that the threads share. */
+/* The driver that the threads share. */
 static void with_shared(int number) {
     char script[128];
     entangle_told told;
@@ -191,8 +191,8 @@ static void with_shared(int number) {
 static void *work(void *given) {
     int number = *(int *)given;
     for (size_t at = 0; at < input_count; at++) {
-        without_manager(inputs[at]);
-        with_manager(inputs[at], number % 2 == 0);
+        without_driver(inputs[at]);
+        with_driver(inputs[at], number % 2 == 0);
     }
     for (int count = 0; count < 50; count++) with_shared(50 * number + count);
     return NULL;

@@ -75,7 +75,8 @@ static void open_room(const char *opening, size_t length, uint64_t most_waiters)
     entangle_rows *rows = NULL;
     entangle_told told;
     uint32_t refusal;
-    check(entangle_room_open(&room, opening, length, &rows, 1, 1, &limits, &refusal, &told), "the room isn't opened");
+    check(entangle_room_open(&room, opening, length, &rows, 1, 1, 1, &limits, &refusal, &told),
+          "the room isn't opened");
 }
 
 /* Puts a script with the names bound in it that are given. */

@@ -1,7 +1,8 @@
 /* Loaded before a program (LD_PRELOAD), it disturbs one call of its run. REFUSE_ALLOCATION=N refuses the Nth
- * allocation. Of the reads of standard input, REFUSE_READ=N has the Nth fail and SHORTEN_READ=N has it move one byte.
- * Of the writes to standard output, so do REFUSE_WRITE=N and SHORTEN_WRITE=N; with EMPTY_WRITE=N the Nth takes no
- * byte. With COUNT_TO=FILE it writes to FILE how many allocations, reads and writes there were. */
+ * allocation; with REFUSALS=M that one and those behind it, M in all. Of the reads of standard input, REFUSE_READ=N has
+ * the Nth fail and SHORTEN_READ=N has it move one byte. Of the writes to standard output, so do REFUSE_WRITE=N and
+ * SHORTEN_WRITE=N; with EMPTY_WRITE=N the Nth takes no byte. With COUNT_TO=FILE it writes to FILE how many allocations,
+ * reads and writes there were. */
 #define _GNU_SOURCE
 #include <dlfcn.h>
 #include <errno.h>
@@ -27,16 +28,24 @@ static int is_refused(const char *variable, long number, int fault) {
     return 1;
 }
 
+/* Whether the allocation of that number is one of those that are refused, one after the other. */
+static int is_refused_in_turn(long number) {
+    const char *first = getenv("REFUSE_ALLOCATION"), *all = getenv("REFUSALS");
+    if (!first || number < atol(first) || number >= atol(first) + (all ? atol(all) : 1)) return 0;
+    errno = ENOMEM;
+    return 1;
+}
+
 static size_t room(const char *variable, long number, size_t size) {
     return is_chosen(variable, number) && size > 1 ? 1 : size;
 }
 
 void *malloc(size_t size) {
-    return is_refused("REFUSE_ALLOCATION", ++allocations, ENOMEM) ? NULL : __libc_malloc(size);
+    return is_refused_in_turn(++allocations) ? NULL : __libc_malloc(size);
 }
 
 void *realloc(void *old, size_t size) {
-    return is_refused("REFUSE_ALLOCATION", ++allocations, ENOMEM) ? NULL : __libc_realloc(old, size);
+    return is_refused_in_turn(++allocations) ? NULL : __libc_realloc(old, size);
 }
 
 ssize_t read(int file, void *bytes, size_t size) {

@@ -57,9 +57,9 @@ class Client:
 
     room_class = DurableRoom
 
-    def __init__(self, engine, place, notes, hook=None, timeout=5.0, tickets=None, side=FIRST):
+    def __init__(self, engine, place, notes, hook=None, timeout=5.0, tickets=None, side=FIRST, **times):
         self.engine, self.place, self.notes = engine, place, notes
-        self.store = engine.store(place, name=side.name, timeout=timeout)
+        self.store = engine.store(place, name=side.name, timeout=timeout, **times)
         self.store.hook = hook
         self.room = insisting(self.room_class, side.tables, self.store, opens=FakeRoom)
         # the tickets that were told to clients, by key; and those of which no end was told
@@ -82,8 +82,6 @@ class Client:
         else:
             tickets = insisting(self.room.put_all, wanted)
         for request, ticket in zip(wanted, tickets):
-            if isinstance(ticket, Exception):
-                raise ticket
             self.notes.note(key=request.key, ticket=ticket.number)
             self.told(request.key, ticket)
 

@@ -12,7 +12,7 @@ from dataclasses import dataclass
 
 from entangle import stores
 from entangle.stores import Table
-from trial import psycopg
+from trial import PACKAGE, psycopg
 
 MOST_SECONDS = 300
 
@@ -70,6 +70,13 @@ def make_users_tables(connection, **types):
 # ---- engines
 
 
+def kept(form, engine):
+    """The statements that make a store as this form of it had it: tests/kept says what stands there."""
+    path = os.path.join(PACKAGE, "tests", "kept", f"form{form}.{engine}.sql")
+    with open(path, encoding="utf-8") as file:
+        return file.read()
+
+
 def hooked(base):
     """A store that tells a hook of each statement, before it and behind it."""
 
@@ -103,6 +110,14 @@ class Sqlite:
         with self.reading(place) as connection:
             make_users_tables(connection, serial="INTEGER", text="TEXT", integer="BIGINT")
             connection.commit()
+        return place
+
+    def of_form(self, form):
+        """A place with a store that was written by an earlier version."""
+        self.count += 1
+        place = os.path.join(self.folder, f"case{self.count}.sqlite")
+        with self.reading(place) as connection:
+            connection.executescript(kept(form, "sqlite"))
         return place
 
     def store(self, place, **how):
@@ -173,6 +188,13 @@ class Postgres:
     def stop(self, mode):
         self.run("pg_ctl", "-w", "-t", "60", "-m", mode, "stop", check=False)
 
+    def processes(self):
+        """The numbers of the server's processes, its first one before all others."""
+        with open(os.path.join(self.data, "postmaster.pid"), encoding="ascii") as file:
+            first = int(file.readline())
+        found = subprocess.run(["ps", "-o", "pid=", "--ppid", str(first)], capture_output=True, text=True, check=False)
+        return [first, *map(int, found.stdout.split())]
+
     def dsn(self, schema):
         return f"host={self.folder} user=tester dbname=postgres options='-c search_path={schema}'"
 
@@ -184,6 +206,15 @@ class Postgres:
             make_users_tables(
                 connection, serial="BIGINT GENERATED ALWAYS AS IDENTITY", text="TEXT", integer="BIGINT"
             )
+        return place
+
+    def of_form(self, form):
+        """A place with a store that was written by an earlier version."""
+        self.count += 1
+        place = f"case{self.count}"
+        with self.reading(place) as connection:
+            connection.execute(f"CREATE SCHEMA {place}")
+            connection.execute(kept(form, "postgres"))
         return place
 
     def store(self, place, **how):

@@ -1,9 +1,12 @@
 """Wrong versions of stores and rooms, with which the check has to fail."""
 
+import os
+from dataclasses import replace
+
 from clients import Client
 from engines import Sqlite
 from entangle import stores
-from entangle.stores import DurableRoom
+from entangle.stores import DurableRoom, _connections, _durable, _memory, _postgres, _sql
 
 
 def without_compare(engine):
@@ -12,7 +15,7 @@ def without_compare(engine):
     class Planted(engine.store_class):
         def _run(self, sql, parameters=()):
             if sql.startswith("UPDATE") and " WHERE claim = " in sql:
-                sql, parameters = sql.partition(" WHERE claim = ")[0], parameters[:-2]
+                sql, parameters = sql.partition(" WHERE claim = ")[0], parameters[:-3]
             return super()._run(sql, parameters)
 
     engine.store_class = Planted
@@ -34,7 +37,9 @@ def in_two_transactions(engine):
 
 
 def claims_nothing(engine):
-    """load() leaves the number of the claim."""
+    """load() leaves the number of the claim, and nobody draws a token."""
+
+    _sql._drawn_token = lambda: 1
 
     class Planted(engine.store_class):
         def _run(self, sql, parameters=()):
@@ -59,15 +64,10 @@ def tells_ends_first(engine):
     """A room tells fates before they are written."""
 
     class Planted(DurableRoom):
-        def _gathered(self):
-            update = super()._gathered()
-            if update is not None:
-                super()._tell(update)
-            return update
-
-        def _tell(self, update):
-            if not update.ended:
-                super()._tell(update)
+        def _write(self, pending):
+            for outcome in pending.update.ended:
+                self._waits.tell(outcome.ticket, outcome.ending)
+            super()._write(pending)
 
     Client.room_class = Planted
 
@@ -76,19 +76,20 @@ def tells_tickets_first(engine):
     """A room tells tickets before they are written."""
 
     class Planted(DurableRoom):
-        def put_all(self, requests):
+        def put_each(self, units):
             store, self._store = self._store, Later(self._store)
             try:
-                return super().put_all(requests)
+                return super().put_each(units)
             finally:
-                self._store = store
-                self._pending = Update((), (), tuple(store_waiters(self)), self._next_ticket, self._epoch)
+                self._store, now = store, self._now
+                update = Update((), (), tuple(store_waiters(self)), now.next_ticket, now.epoch)
+                now.pending = Pending(update, now.rows)
 
     class Later:
         """A store that writes nothing yet."""
 
         def __init__(self, store):
-            self.ticket_of, self.check = store.ticket_of, store.check
+            self.tickets_of, self.check = store.tickets_of, store.check
 
         def apply(self, groups, ended, waiting, next_ticket, epoch):
             later.extend(waiting)
@@ -100,6 +101,7 @@ def tells_tickets_first(engine):
         return written
 
     from entangle.stores._kept import Update
+    from entangle.stores._memory import Pending
 
     Client.room_class = Planted
 
@@ -112,7 +114,7 @@ def takes_a_failure_for_success(engine):
             try:
                 super().apply(*given, **named)
             except stores.StoreFailed:
-                self._unsure, self._may_stand = None, False
+                self._held = replace(self._held, unsure=None)
 
     engine.store_class = Planted
 
@@ -125,11 +127,245 @@ def gives_up_after_a_failure(engine):
             try:
                 super()._settle()
             except stores.StoreFailed:
-                self._pending = None
-                self._store._unsure = None
+                self._now.pending = None
+                self._store._held = replace(self._store._held, unsure=None)
                 raise
 
     Client.room_class = Planted
+
+
+# ---- of claims and servers
+
+
+def without_tokens(engine):
+    """Claims and writes are told apart by their numbers alone."""
+    _sql._drawn_token = lambda: 1
+
+
+def shared_with_forks(engine):
+    """Who is forked from a process that has the store has it as well."""
+
+    class Planted(engine.store_class):
+        def _claimed(self):
+            self._held = self._held and replace(self._held, process=os.getpid())
+            return super()._claimed()
+
+    engine.store_class = Planted
+
+
+def ignores_the_form(engine):
+    """load() takes each store as one of the present form."""
+
+    class Planted(engine.store_class):
+        def _take_up(self):
+            pass
+
+    engine.store_class = Planted
+
+
+def makes_tables_always(engine):
+    """load() makes the store's own tables if they aren't there, without looking."""
+
+    class Planted(engine.store_class):
+        def _has_own_tables(self):
+            return False
+
+    engine.store_class = Planted
+
+
+def tells_what_no_standby_has(engine):
+    """A write that is found to stand is told without waiting for the standby."""
+
+    class Planted(engine.store_class):
+        def _run(self, sql, parameters=()):
+            return None if sql.endswith("SET write = write") else super()._run(sql, parameters)
+
+    engine.store_class = Planted
+
+
+def ignores_warnings(engine):
+    """A COMMIT counts though the server warns that it didn't wait for its standby."""
+
+    class Planted(engine.store_class):
+        def _noticed(self, said):
+            pass
+
+    engine.store_class = Planted
+
+
+def waits_for_ever(engine):
+    """Nobody ends the silence of a server."""
+    _connections.Watch._watch = lambda self: None
+
+
+def tries_hosts_together(engine):
+    """The engine is left to try the hosts of a dsn."""
+
+    def all_hosts(engine, dsn, **settings):
+        return [engine.conninfo.make_conninfo(**{**settings, **engine.conninfo.conninfo_to_dict(dsn)})]
+
+    _postgres.each_host = all_hosts
+
+
+def takes_any_server(engine):
+    """A store doesn't look whether its server may lose what it has."""
+
+    class Planted(engine.store_class):
+        def _prepare(self, connection):
+            self._allowed = {"fsync", "full_page_writes"}
+            super()._prepare(connection)
+
+    engine.store_class = Planted
+
+
+# ---- of what gets a room past a lock-out
+
+
+def claims_before_it_is_ready(engine):
+    """load() claims the store, and then the room is made."""
+
+    class Planted(engine.store_class):
+        def load(self, tables, ready):
+            loaded = super().load(tables)
+            ready(loaded)
+            return loaded
+
+    engine.store_class = Planted
+
+
+def sets_nobody_aside(engine):
+    """Who is set aside is so in memory alone."""
+
+    class Planted(engine.store_class):
+        def _load(self, tables, ready):
+            return super()._load(tables, lambda loaded: [] if ready(loaded) is None else [])
+
+    engine.store_class = Planted
+
+
+def names_no_group(engine):
+    """A change that a constraint refuses is a failure as any other."""
+
+    class Planted(engine.store_class):
+        def _is_refusal(self, error):
+            return False
+
+    engine.store_class = Planted
+
+
+def checks_nothing_before_commit(engine):
+    """What is checked at COMMIT isn't checked behind each group."""
+
+    class Planted(engine.store_class):
+        def _check_constraints(self):
+            pass
+
+    engine.store_class = Planted
+
+
+def puts_by_halves(engine):
+    """Who came before a request that is refused waits."""
+    _memory.Memory.roll_back = lambda memory, tickets: None
+
+
+def takes_each_key(engine):
+    """A key stands for whatever it was used for."""
+    _durable._check_same = lambda request, used: None
+
+
+def forgets_until_when(engine):
+    """A store doesn't keep until when somebody waits."""
+
+    class Planted(engine.store_class):
+        def _waiting_change(self, waiter, *more):
+            return super()._waiting_change(replace(waiter, until=None), *more)
+
+    engine.store_class = Planted
+
+
+def expires_one_by_one(engine):
+    """Each withdrawal is a transaction."""
+    withdrawn = DurableRoom._withdrawn
+    DurableRoom._withdrawn = lambda room, tickets: [one for ticket in tickets for one in withdrawn(room, [ticket])]
+
+
+def forgets_who_waits(engine):
+    """forget() takes tickets out by their numbers alone."""
+
+    class Planted(engine.store_class):
+        def _forget(self, before, first):
+            answer = super()._forget(before, first)
+            self._run("DELETE FROM entangle_tickets")
+            return answer
+
+    engine.store_class = Planted
+
+
+def forgets_keys_too(engine):
+    """forget() keeps nothing of a key."""
+
+    class Planted(engine.store_class):
+        def _forget(self, before, first):
+            answer = super()._forget(before, first)
+            self._run("DELETE FROM entangle_keys")
+            return answer
+
+    engine.store_class = Planted
+
+
+def forgets_its_claim(engine):
+    """A claim that was made anew, and whose answer was lost, is taken for another process's."""
+
+    class Planted(engine.store_class):
+        def _reload(self, ready):
+            answer = super()._reload(ready)
+            self._held = replace(self._held, reclaimed=())
+            return answer
+
+    engine.store_class = Planted
+
+
+# ---- of tables and of many changes
+
+
+def collects_as_it_is(engine):
+    """A table that has a row once at most collects as it stands."""
+
+    class Planted(engine.store_class):
+        def _keys_of(self, table):
+            return []
+
+    engine.store_class = Planted
+
+
+def counts_whole_runs(engine):
+    """Of many changes by one statement only the number of rows is looked at."""
+
+    class Planted(engine.store_class):
+        def _deletion(self, place, columns):
+            return replace(super()._deletion(place, columns), returns=False)
+
+    engine.store_class = Planted
+
+
+def makes_many_one_by_one(engine):
+    """There is a statement for each change."""
+
+    class Planted(engine.store_class):
+        def _insertion(self, place, columns):
+            return replace(super()._insertion(place, columns), many=None)
+
+    engine.store_class = Planted
+
+
+def asks_each_key(engine):
+    """Keys are asked for one by one."""
+
+    class Planted(engine.store_class):
+        def tickets_of(self, keys):
+            return {key: used for one in keys for key, used in super(Planted, self).tickets_of([one]).items()}
+
+    engine.store_class = Planted
 
 
 PLANTS = {
@@ -143,5 +379,29 @@ PLANTS = {
         tells_tickets_first,
         takes_a_failure_for_success,
         gives_up_after_a_failure,
+        without_tokens,
+        shared_with_forks,
+        ignores_the_form,
+        makes_tables_always,
+        tells_what_no_standby_has,
+        ignores_warnings,
+        waits_for_ever,
+        tries_hosts_together,
+        takes_any_server,
+        claims_before_it_is_ready,
+        sets_nobody_aside,
+        names_no_group,
+        checks_nothing_before_commit,
+        puts_by_halves,
+        takes_each_key,
+        forgets_until_when,
+        expires_one_by_one,
+        forgets_who_waits,
+        forgets_keys_too,
+        collects_as_it_is,
+        counts_whole_runs,
+        makes_many_one_by_one,
+        asks_each_key,
+        forgets_its_claim,
     )
 }

@@ -1,7 +1,8 @@
 """Builds the package for pip (PEP 517 and PEP 660), with nothing but Python's own library.
 
-The wheel has the package with the shared object inside: that of the folder that ENTANGLE_ARCHIVE names; else
-entangle/libentangle.so, which a source distribution has, or ../archive/libentangle.so, where tools/archive links it.
+The wheel has the package with the shared object inside, and beside it the file `built`, which says whether that is
+proved: those of the folder that ENTANGLE_ARCHIVE names; else those of entangle, which a source distribution has, or of
+../archive, where tools/archive puts them.
 """
 
 from __future__ import annotations
@@ -19,7 +20,7 @@ from typing import Optional
 
 HERE = Path(__file__).resolve().parent.parent
 PACKAGE = HERE / "entangle"
-LIBRARY = "entangle/libentangle.so"
+LIBRARY, BUILT = "entangle/libentangle.so", "entangle/built"
 # the least time that a file of a zip can have: two builds of the same files are the same
 THEN = (1980, 1, 1, 0, 0, 0)
 
@@ -36,8 +37,8 @@ def project(key: str) -> str:
     return found.group(1)
 
 
-def library() -> bytes:
-    """The shared object, if it is there and of this version."""
+def library() -> Files:
+    """The shared object, if it is there and of this version, and how it was built."""
     folder = os.environ.get("ENTANGLE_ARCHIVE")
     places = [Path(folder)] if folder else [PACKAGE, HERE.parent / "archive"]
     found = next((place for place in places if (place / "libentangle.so").is_file()), None)
@@ -48,12 +49,21 @@ def library() -> bytes:
     if number != project("version"):
         wanted = project("version")
         raise ValueError(f"the library in {found} is of version {number}, and this package of {wanted}: build it anew")
-    return (found / "libentangle.so").read_bytes()
+    if not (found / "built").is_file():
+        raise FileNotFoundError(f"{found / 'built'} isn't there: tools/archive writes it")
+    return {LIBRARY: (found / "libentangle.so").read_bytes(), BUILT: (found / "built").read_bytes()}
+
+
+def listed(table: str) -> dict[str, str]:
+    """The lines of a table of pyproject.toml, each a key with a value."""
+    _, _, rest = (HERE / "pyproject.toml").read_text(encoding="utf-8").partition(f"[{table}]\n")
+    lines = rest.split("\n\n")[0].splitlines()
+    return {key: value for key, _, value in (line.partition(" = ") for line in lines)}
 
 
 def sources() -> Files:
     """The package's own files."""
-    files = sorted(file for file in PACKAGE.rglob("*") if file.suffix == ".py" or file.name == "py.typed")
+    files = sorted(file for file in PACKAGE.rglob("*") if file.suffix in (".py", ".html") or file.name == "py.typed")
     return {file.relative_to(PACKAGE.parent).as_posix(): file.read_bytes() for file in files}
 
 
@@ -62,6 +72,9 @@ def description() -> bytes:
     lines = ["Metadata-Version: 2.1"]
     for word, key in [("Name", "name"), ("Version", "version"), ("Summary", "description"), ("License", "license")]:
         lines.append(f"{word}: {project(key)}")
+    for extra, names in listed("project.optional-dependencies").items():
+        lines.append(f"Provides-Extra: {extra}")
+        lines += [f'Requires-Dist: {name}; extra == "{extra}"' for name in re.findall(r'"([^"]*)"', names)]
     lines += [f"Requires-Python: {project('requires-python')}", "Description-Content-Type: text/markdown", ""]
     return "\n".join(lines).encode() + b"\n" + (HERE / project("readme")).read_bytes()
 
@@ -75,7 +88,12 @@ def tag() -> str:
 def about() -> Files:
     """The files that tell installers what a wheel is, but RECORD."""
     lines = ["Wheel-Version: 1.0", "Generator: entangle", "Root-Is-Purelib: false", f"Tag: {tag()}", ""]
-    return {f"{info()}/METADATA": description(), f"{info()}/WHEEL": "\n".join(lines).encode()}
+    scripts = ["[console_scripts]", *(f"{name} = {call[1:-1]}" for name, call in listed("project.scripts").items()), ""]
+    return {
+        f"{info()}/METADATA": description(),
+        f"{info()}/WHEEL": "\n".join(lines).encode(),
+        f"{info()}/entry_points.txt": "\n".join(scripts).encode(),
+    }
 
 
 def info() -> str:
@@ -104,7 +122,7 @@ def wheel(folder: str, files: Files) -> str:
 
 
 def build_wheel(folder: str, settings: Settings = None, metadata: Optional[str] = None) -> str:
-    return wheel(folder, {**sources(), LIBRARY: library(), **about()})
+    return wheel(folder, {**sources(), **library(), **about()})
 
 
 def build_editable(folder: str, settings: Settings = None, metadata: Optional[str] = None) -> str:
@@ -116,7 +134,7 @@ def build_sdist(folder: str, settings: Settings = None) -> str:
     """A source distribution, with the shared object inside: nobody else can build that."""
     stem = f"{project('name')}-{project('version')}"
     others = ["pyproject.toml", project("readme"), "backend/build_wheel.py"]
-    files = {**{name: (HERE / name).read_bytes() for name in others}, **sources(), LIBRARY: library()}
+    files = {**{name: (HERE / name).read_bytes() for name in others}, **sources(), **library()}
     with tarfile.open(os.path.join(folder, f"{stem}.tar.gz"), "w:gz", format=tarfile.PAX_FORMAT) as archive:
         for path, content in {"PKG-INFO": description(), **files}.items():
             entry = tarfile.TarInfo(f"{stem}/{path}")

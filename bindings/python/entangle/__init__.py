@@ -35,19 +35,19 @@ In an event loop, `await room.fate(mickey)` waits. Calls without a room take an 
         print(fault.code, fault.line, fault.column)  # 201 1 19
         print(fault.explanation)
 
-A Manager has no waiting room: each script takes part in the next runs, whoever is there:
+A Driver has no waiting room: each script takes part in the next runs, whoever is there:
 
-    with entangle.Manager("CREATE TABLE T (a INT);") as manager:
-        tx = manager.submit("BEGIN TRANSACTION; INSERT INTO T VALUES (1); COMMIT;")
-        manager.run()
-        manager.standing(tx)                         # Committed(number=1, runs=1)
-        manager.answers(tx)                          # [CountAnswer(count=1)]
-        manager.table("T")                           # [(1,)]
+    with entangle.Driver("CREATE TABLE T (a INT);") as driver:
+        tx = driver.submit("BEGIN TRANSACTION; INSERT INTO T VALUES (1); COMMIT;")
+        driver.run()
+        driver.standing(tx)                         # Committed(number=1, runs=1)
+        driver.answers(tx)                          # [CountAnswer(count=1)]
+        driver.table("T")                           # [(1,)]
 
 The work is done by a core that is proved, in the shared object that the environment's ENTANGLE_LIBRARY names; else in
 libentangle.so of this package, or, in a checkout, that of bindings/archive. A call runs scripts on the thread that
-makes it, and other threads of Python go on meanwhile. Calls that need neither a room nor a manager stand alone: any
-number may be made at once. Threads may share a room or a manager, which has a lock inside.
+makes it, and other threads of Python go on meanwhile. Calls that need neither a room nor a driver stand alone: any
+number may be made at once. Threads may share a room or a driver, which has a lock inside.
 
 `entangle.stores` keeps a room in SQLite or PostgreSQL, so that it outlives the process.
 
@@ -62,14 +62,14 @@ from ._errors import Error, Fault, LibraryError, OutOfMemory, Refused, StateErro
 from ._given import Rows, Values
 from ._groups import EndedTicket, Group, GroupCommit, TableChange
 from ._library import Text, __version__, library_version
-from ._manager import Manager, Reply, Step
+from ._driver import Driver, Reply, Step
 from ._refusals import BatchIsOn, BindingFault, NoMoreNumbers, NobodyWaits, NotARow, NotBound, RoomError, RoomFull
 from ._refusals import RowFault, TicketUsed, UnknownTicket
 from ._room import EpochReport, Patience, Room, Stepped
 from ._standing import Committed, Failed, Failure, Fate, GaveUp, RolledBack, Running, Standing, Waiting
-from ._tickets import Ending, Submission, Ticket, TicketCommitted, TicketFailed, TicketGaveUp, TicketInBatch
-from ._tickets import TicketLonely, TicketNoMeeting, TicketRolledBack, TicketState, TicketUnknown, TicketWaits
-from ._tickets import TicketWithdrawn
+from ._tickets import Ending, Submission, Ticket, TicketCommitted, TicketCut, TicketFailed, TicketGaveUp
+from ._tickets import TicketInBatch, TicketLonely, TicketNoMeeting, TicketNotRestored, TicketRefusedByStore
+from ._tickets import TicketRolledBack, TicketState, TicketUnknown, TicketWaits, TicketWithdrawn
 from ._values import Answer, CountAnswer, EntangledAnswer, Fact, Row, RowsAnswer, SetAnswer, Value
 
 __all__ = [
@@ -92,7 +92,7 @@ __all__ = [
     "Group",
     "GroupCommit",
     "LibraryError",
-    "Manager",
+    "Driver",
     "NoMoreNumbers",
     "NobodyWaits",
     "NotARow",
@@ -120,11 +120,14 @@ __all__ = [
     "Text",
     "Ticket",
     "TicketCommitted",
+    "TicketCut",
     "TicketFailed",
     "TicketGaveUp",
     "TicketInBatch",
     "TicketLonely",
     "TicketNoMeeting",
+    "TicketNotRestored",
+    "TicketRefusedByStore",
     "TicketRolledBack",
     "TicketState",
     "TicketUnknown",

@@ -1,4 +1,4 @@
-"""Calls that need no manager."""
+"""Calls that need no driver."""
 
 from __future__ import annotations
 

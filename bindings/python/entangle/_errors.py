@@ -56,7 +56,7 @@ class OutOfMemory(Fault, MemoryError):
 
 
 class StateError(Error):
-    """The manager is closed or freed; or, for a report or a renewal, it isn't closed."""
+    """The driver is closed or freed; or, for a report or a renewal, it isn't closed."""
 
 
 class LibraryError(Error, ImportError):

@@ -53,32 +53,42 @@ def _is_taken(status: int) -> bool:
     return status == DONE
 
 
-def _bind(place: Any, name: str, value: Value) -> None:
-    """Binds a value to a host variable."""
-    given, refusal = _checked_name(name, "the name of a host variable"), ctypes.c_uint32()
-    value = _checked_value(value)
-    if isinstance(value, str):
-        text = encoded(value, "a value")
-        status = LIBRARY.ent_c_values_text(place, given, len(given), text, len(text), ctypes.byref(refusal))
-    elif _is_too_large(value):
-        raise NotBound(name, BindingFault.TOO_LARGE)
-    else:
-        status = LIBRARY.ent_c_values_int(place, given, len(given), value, ctypes.byref(refusal))
-    if not _is_taken(status):
-        raise NotBound(name, BINDING_FAULTS[refusal.value])
+class BoundValues:
+    """Where the library finds values that are bound to host variables, for one call, as `with` gives it."""
 
+    def __init__(self, values: Values) -> None:
+        _checked_mapping(values, "the values of host variables")
+        self._values = values
+        self._place = ctypes.byref(ctypes.c_void_p())
 
-@contextmanager
-def bound(values: Values) -> Iterator[Any]:
-    """Where the library finds values that are bound to host variables, for one call."""
-    _checked_mapping(values, "the values of host variables")
-    place = ctypes.byref(ctypes.c_void_p())
-    try:
-        for name, value in values.items():
-            _bind(place, name, value)
-        yield place
-    finally:
-        LIBRARY.ent_c_values_free(place)
+    def __enter__(self) -> Any:
+        refusal = ctypes.c_uint32()
+        into = ctypes.byref(refusal)
+        try:
+            for name, value in self._values.items():
+                if not _is_taken(self._bind(name, value, into)):
+                    raise NotBound(name, BINDING_FAULTS[refusal.value])
+        except BaseException:
+            LIBRARY.ent_c_values_free(self._place)
+            raise
+        return self._place
+
+    def _bind(self, name: str, value: Value, refusal: Any) -> int:
+        """Binds a value to a host variable; the status."""
+        given = _checked_name(name, "the name of a host variable")
+        value = _checked_value(value)
+        status: int
+        if isinstance(value, str):
+            text = encoded(value, "a value")
+            status = LIBRARY.ent_c_values_text(self._place, given, len(given), text, len(text), refusal)
+        elif _is_too_large(value):
+            raise NotBound(name, BindingFault.TOO_LARGE)
+        else:
+            status = LIBRARY.ent_c_values_int(self._place, given, len(given), value, refusal)
+        return status
+
+    def __exit__(self, *_: object) -> None:
+        LIBRARY.ent_c_values_free(self._place)
 
 
 class GivenRows:

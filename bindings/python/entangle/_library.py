@@ -88,8 +88,8 @@ class SubmissionSeen(ctypes.Structure):
 _TEXT = (ctypes.c_char_p, ctypes.c_size_t)
 _TOLD = ctypes.POINTER(Told)
 _OUT = (ctypes.c_char_p, ctypes.c_size_t, _TOLD)
-_MANAGER = ctypes.POINTER(ctypes.c_void_p)
-_ROOM = _VALUES = _ROWS = _MANAGER
+_DRIVER = ctypes.POINTER(ctypes.c_void_p)
+_ROOM = _VALUES = _ROWS = _DRIVER
 _NUMBER = ctypes.c_uint64
 _TO_NUMBER = ctypes.POINTER(_NUMBER)
 _REFUSAL = ctypes.POINTER(ctypes.c_uint32)
@@ -100,18 +100,18 @@ _STATUSES = {
     "report": (*_TEXT, ctypes.c_uint32, *_OUT),
     "explain": (*_TEXT, *_OUT),
     "check": (*_TEXT, *_OUT),
-    "open": (_MANAGER, *_TEXT, _TOLD),
-    "submit": (_MANAGER, *_TEXT, ctypes.POINTER(_NUMBER), _TOLD),
-    "explain_script": (_MANAGER, *_TEXT, *_OUT),
-    "run": (_MANAGER,),
-    "make": (_MANAGER, ctypes.c_uint32, _NUMBER, ctypes.POINTER(ctypes.c_uint32)),
-    "why": (_MANAGER, _NUMBER, *_OUT),
-    "standing": (_MANAGER, _NUMBER, ctypes.POINTER(Position)),
-    "answers": (_MANAGER, _NUMBER, *_OUT),
-    "table": (_MANAGER, *_TEXT, *_OUT),
-    "close": (_MANAGER,),
-    "renew": (_MANAGER,),
-    "closed_report": (_MANAGER, ctypes.c_uint32, *_OUT),
+    "open": (_DRIVER, *_TEXT, _TOLD),
+    "submit": (_DRIVER, *_TEXT, ctypes.POINTER(_NUMBER), _TOLD),
+    "explain_script": (_DRIVER, *_TEXT, *_OUT),
+    "run": (_DRIVER,),
+    "make": (_DRIVER, ctypes.c_uint32, _NUMBER, ctypes.POINTER(ctypes.c_uint32)),
+    "why": (_DRIVER, _NUMBER, *_OUT),
+    "standing": (_DRIVER, _NUMBER, ctypes.POINTER(Position)),
+    "answers": (_DRIVER, _NUMBER, *_OUT),
+    "table": (_DRIVER, *_TEXT, *_OUT),
+    "close": (_DRIVER,),
+    "renew": (_DRIVER,),
+    "closed_report": (_DRIVER, ctypes.c_uint32, *_OUT),
     "values_int": (_VALUES, *_TEXT, ctypes.c_int64, _REFUSAL),
     "values_text": (_VALUES, *_TEXT, *_TEXT, _REFUSAL),
     "rows_begin": (_ROWS, *_TEXT, _REFUSAL),
@@ -123,6 +123,7 @@ _STATUSES = {
     "room_restore": (_ROOM, _NUMBER, *_TEXT, _VALUES, ctypes.c_int64, _NUMBER, _REFUSAL, _TOLD),
     "room_withdraw": (_ROOM, _NUMBER, _REFUSAL),
     "room_step": (_ROOM, ctypes.POINTER(ctypes.c_uint32), _REFUSAL),
+    "room_further": (_ROOM, _REFUSAL),
     "room_state": (_ROOM, _NUMBER, ctypes.POINTER(TicketPosition)),
     "room_why": (_ROOM, _NUMBER, *_OUT),
     "room_waiting": (_ROOM, _NUMBER, _TO_NUMBER),
@@ -179,7 +180,7 @@ def _loaded(path: str) -> ctypes.CDLL:
         function.argtypes, function.restype = taken, ctypes.c_int32
     for name in _FREES:
         function = _function(library, path, name)
-        function.argtypes, function.restype = (_MANAGER,), None
+        function.argtypes, function.restype = (_DRIVER,), None
     return library
 
 
@@ -216,9 +217,9 @@ def fault_of(status: int, told: Told) -> Fault:
 
 
 def raise_for(status: int, told: Told) -> None:
-    """Raises what the status of a manager's call says."""
+    """Raises what the status of a driver's call says."""
     if status == MISUSED:
-        raise StateError("the manager is closed or freed; or, for a report or a renewal, it isn't closed")
+        raise StateError("the driver is closed or freed; or, for a report or a renewal, it isn't closed")
     if status != DONE:
         raise fault_of(status, told)
 
@@ -239,7 +240,7 @@ LIBRARY = _loaded(_path())
 
 def library_version() -> str:
     """The version of the library, as `entangle --version` prints it behind the program's name: its number, and by what
-    it is proved."""
+    it is proved, or that it is built without proof."""
     _, text, _ = buffered(LIBRARY.ent_c_version)
     return text
 

@@ -9,16 +9,17 @@ import threading
 from contextlib import suppress
 from dataclasses import dataclass
 from types import TracebackType
-from typing import TYPE_CHECKING, Any, Literal, NoReturn, Optional, Union
+from typing import TYPE_CHECKING, Any, Iterable, Literal, NoReturn, Optional, Union
 
 from ._calls import keep_explanation
 from ._errors import OutOfMemory, Refused, StateError
-from ._given import Rows, Values, bound, given_rows
+from ._given import BoundValues, Rows, Values, given_rows
 from ._groups import Group, groups_in
 from ._library import DONE, LIBRARY, MISUSED, REFUSED, Limits, SubmissionSeen, Text, TicketPosition, Told
 from ._library import buffered, checked_version, encoded, fault_of
 from ._refusals import BINDING_FAULTS, FAULTY, NOT_A_ROW, NotBound, UnknownTicket, refusal_of
-from ._tickets import Ending, Submission, Ticket, TicketState, TicketUnknown, checked_ticket, ending_of, state_of
+from ._tickets import WAITS, Ending, Submission, Ticket, TicketState, TicketUnknown, checked_ticket, ending_of
+from ._tickets import state_of
 from ._values import Row, table_in
 from ._waits import Broken, News, Tell, Waits, ending
 
@@ -184,7 +185,7 @@ class Room:
         given, stay = encoded(script, "a script"), _stay(patience)
         values = {} if values is None else values
         ticket, refusal, told = ctypes.c_uint64(), ctypes.c_uint32(), Told()
-        with bound(values) as place, self._lock:
+        with BoundValues(values) as place, self._lock:
             status = LIBRARY.ent_c_room_put(
                 self._place(),
                 given,
@@ -215,7 +216,7 @@ class Room:
         values = {} if values is None else values
         number, after = checked_ticket(ticket), _checked_number(batches, "batches")
         refusal, told = ctypes.c_uint32(), Told()
-        with bound(values) as place, self._lock:
+        with BoundValues(values) as place, self._lock:
             status = LIBRARY.ent_c_room_restore(
                 self._place(),
                 number,
@@ -251,7 +252,7 @@ class Room:
         Raises NotBound for a value that no host variable can have, or a name that none can have; and OutOfMemory.
         """
         given = encoded(script, "a script")
-        with bound({} if values is None else values) as place, self._lock:
+        with BoundValues({} if values is None else values) as place, self._lock:
             return self._said(given, place)
 
     def _said(self, script: bytes, place: Any) -> Optional[str]:
@@ -275,7 +276,7 @@ class Room:
         _raise_for(status, Told(), refusal.value)
 
     def step(self) -> Stepped:
-        """Makes at most two runs: one of scripts that need nobody, and one of scripts that may meet.
+        """Makes runs, each of a script that needs nobody or of scripts that may meet, as many as a step's work allows.
 
         It answers "ran" if it made one; "searched" if it made none and there is more to look at; and "idle" if there is
         nothing to do until a script is put or restored. So make steps until one is "idle".
@@ -292,6 +293,14 @@ class Room:
         _raise_for(status, Told(), refusal.value)
         return _STEPPED[step.value - 1]
 
+    def further(self) -> None:
+        """Has those go on who are cut (TicketCut): each may try as many meetings again, in the next steps. Without it they
+        go on once something changes for them. Raises OutOfMemory: then some of them go on."""
+        refusal = ctypes.c_uint32()
+        with self._lock:
+            status = LIBRARY.ent_c_room_further(self._place(), ctypes.byref(refusal))
+        _raise_for(status, Told(), refusal.value)
+
     def state(self, ticket: Ticket) -> TicketState:
         """How a ticket stands."""
         number, position = checked_ticket(ticket), TicketPosition()
@@ -307,16 +316,38 @@ class Room:
         _raise_for(status, told)
         return line.rstrip("\n")
 
-    def waiting(self) -> list[Ticket]:
-        """The tickets under which somebody waits, ascending."""
-        first = ctypes.c_uint64()
+    def waiting(self, first: Ticket = Ticket(0)) -> list[Ticket]:
+        """The tickets from this one on under which somebody waits, ascending."""
+        start, found = checked_ticket(first), ctypes.c_uint64()
         tickets: list[Ticket] = []
         with self._lock:
-            place, start = self._place(), 0
-            while start < 2**64 and LIBRARY.ent_c_room_waiting(place, start, ctypes.byref(first)) == DONE:
-                tickets.append(Ticket(first.value))
-                start = first.value + 1
+            place = self._place()
+            while start < 2**64 and LIBRARY.ent_c_room_waiting(place, start, ctypes.byref(found)) == DONE:
+                tickets.append(Ticket(found.value))
+                start = found.value + 1
         return tickets
+
+    def ended(self) -> list[Ticket]:
+        """The tickets that ended and of which it is kept how, the last first."""
+        found = ctypes.c_uint64()
+        tickets: list[Ticket] = []
+        with self._lock:
+            place = self._place()
+            while LIBRARY.ent_c_room_ended(place, len(tickets), ctypes.byref(found)) == DONE:
+                tickets.append(Ticket(found.value))
+        return tickets
+
+    def batches(self, tickets: Iterable[Ticket]) -> list[Optional[int]]:
+        """In how many batches each of these tickets was that count against its patience; None of those whose state
+        isn't TicketWaits. It costs a fraction of as many calls of state()."""
+        position, batches = TicketPosition(), []
+        into, state = ctypes.byref(position), LIBRARY.ent_c_room_state
+        with self._lock:
+            place = self._place()
+            for ticket in tickets:
+                state(place, ticket.number, into)
+                batches.append(position.batches if position.kind == WAITS else None)
+        return batches
 
     def submissions(self, ticket: Ticket) -> list[Submission]:
         """The transactions that the script of a ticket was, in order: each is in the report of its epoch."""

@@ -50,6 +50,15 @@ class TicketNoMeeting:
 
 
 @dataclass(frozen=True)
+class TicketCut:
+    """It waits, and a bound was reached: there may be more meetings of it. It goes on once something changes for it, or
+    after Room.further."""
+
+    kind: ClassVar[Literal["cut"]] = "cut"
+    is_over: ClassVar[Literal[False]] = False
+
+
+@dataclass(frozen=True)
 class TicketInBatch:
     """It is in a batch that isn't over, since memory ran out. The next step goes on with it."""
 
@@ -101,6 +110,26 @@ class TicketWithdrawn:
 
 
 @dataclass(frozen=True)
+class TicketNotRestored:
+    """It waited in a store, and its script can't wait any more, as the tables are declared now; `fault` says why. Only
+    rooms over stores have such tickets, which were set aside when the room was opened."""
+
+    fault: str
+    kind: ClassVar[Literal["not restored"]] = "not restored"
+    is_over: ClassVar[Literal[True]] = True
+
+
+@dataclass(frozen=True)
+class TicketRefusedByStore:
+    """Its commit breaks a constraint of the store's database, as `fault` says, so it didn't commit. Only rooms over
+    stores have such tickets, which were set aside."""
+
+    fault: str
+    kind: ClassVar[Literal["refused by the store"]] = "refused by the store"
+    is_over: ClassVar[Literal[True]] = True
+
+
+@dataclass(frozen=True)
 class TicketUnknown:
     """It was never given out, or how it ended isn't kept any more."""
 
@@ -109,19 +138,39 @@ class TicketUnknown:
 
 
 # How a script ended that waits no more.
-Ending = Union[TicketCommitted, TicketRolledBack, TicketFailed, TicketGaveUp, TicketWithdrawn]
+Ending = Union[
+    TicketCommitted,
+    TicketRolledBack,
+    TicketFailed,
+    TicketGaveUp,
+    TicketWithdrawn,
+    TicketNotRestored,
+    TicketRefusedByStore,
+]
+_ENDINGS = (
+    TicketCommitted,
+    TicketRolledBack,
+    TicketFailed,
+    TicketGaveUp,
+    TicketWithdrawn,
+    TicketNotRestored,
+    TicketRefusedByStore,
+)
 
 # How a ticket stands. Each has its `kind`, and tells by `is_over` whether it is an Ending.
 TicketState = Union[
     TicketWaits,
     TicketLonely,
     TicketNoMeeting,
+    TicketCut,
     TicketInBatch,
     TicketCommitted,
     TicketRolledBack,
     TicketFailed,
     TicketGaveUp,
     TicketWithdrawn,
+    TicketNotRestored,
+    TicketRefusedByStore,
     TicketUnknown,
 ]
 
@@ -144,22 +193,25 @@ def checked_ticket(ticket: Ticket) -> int:
 
 def ending_of(state: TicketState) -> Optional[Ending]:
     """How a ticket ended, if it has."""
-    if isinstance(state, (TicketCommitted, TicketRolledBack, TicketFailed, TicketGaveUp, TicketWithdrawn)):
-        return state
-    return None
+    return state if isinstance(state, _ENDINGS) else None
+
+
+# The number of the state that says in how many batches a ticket was, and the states that say nothing more.
+WAITS = 1
+_STATES: dict[int, TicketState] = {
+    0: TicketUnknown(),
+    3: TicketNoMeeting(),
+    4: TicketInBatch(),
+    6: TicketRolledBack(),
+    8: TicketGaveUp(),
+    9: TicketWithdrawn(),
+    10: TicketCut(),
+}
 
 
 def state_of(position: TicketPosition) -> TicketState:
     """What the library tells of a ticket."""
-    states: dict[int, TicketState] = {
-        0: TicketUnknown(),
-        3: TicketNoMeeting(),
-        4: TicketInBatch(),
-        6: TicketRolledBack(),
-        8: TicketGaveUp(),
-        9: TicketWithdrawn(),
-    }
-    if position.kind == 1:
+    if position.kind == WAITS:
         return TicketWaits(position.batches)
     if position.kind == 2:
         return TicketLonely(position.demand)
@@ -167,7 +219,7 @@ def state_of(position: TicketPosition) -> TicketState:
         return TicketCommitted(position.epoch, position.number)
     if position.kind == 7:
         return TicketFailed(FAILURES[position.failure])
-    return states[position.kind]
+    return _STATES[position.kind]
 
 
 def ending_of_words(kind: str, epoch: Optional[int], number: Optional[int], failure: Optional[str]) -> Ending:
@@ -176,6 +228,10 @@ def ending_of_words(kind: str, epoch: Optional[int], number: Optional[int], fail
         return TicketCommitted(epoch, number)
     if kind == "failed" and failure is not None:
         return TicketFailed(Failure(failure))
+    if kind == "not restored":
+        return TicketNotRestored(failure or "")
+    if kind == "refused by the store":
+        return TicketRefusedByStore(failure or "")
     others: dict[str, Ending] = {
         "rolled back": TicketRolledBack(),
         "gave up": TicketGaveUp(),

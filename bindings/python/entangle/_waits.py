@@ -53,11 +53,14 @@ class Waits:
                 self._of_ticket.pop(ticket, None)
 
     def tell(self, ticket: Ticket, told: News) -> None:
-        """Tells all who wait for a ticket."""
+        """Tells all who wait for a ticket. They are forgotten behind that: whoever is interrupted meanwhile tells them
+        again."""
         with self._lock:
-            tells = self._of_ticket.pop(ticket, [])
+            tells = list(self._of_ticket.get(ticket, ()))
         for tell in tells:
             tell(told)
+        for tell in tells:
+            self.forget(ticket, tell)
 
     def has(self, ticket: Ticket) -> bool:
         """Whether anybody waits for a ticket."""

@@ -3,6 +3,7 @@
 import json
 import os
 import signal
+import sqlite3
 import traceback
 from contextlib import suppress
 
@@ -21,6 +22,14 @@ COMMIT;
 """
 FULL = "BEGIN TRANSACTION; INSERT INTO Bookings VALUES ('x', 1); SET @d = 9223372036854775807 + 1; COMMIT;"
 UNTIL = entangle.Patience.UNTIL_WITHDRAWN
+
+
+def kept(name, path):
+    """Makes a file of SQLite that has a store as an earlier version wrote it (tests/kept)."""
+    with open(os.path.join(os.path.dirname(__file__), "kept", f"{name}.sqlite.sql"), encoding="utf-8") as file:
+        connection = sqlite3.connect(path)
+        connection.executescript(file.read())
+        connection.close()
 
 
 class Killed(SqliteStore):

@@ -98,11 +98,14 @@ class FakeRoom:
 
     def step(self):
         """At most so many scripts that need nobody, and so many that have their partner, by ticket."""
-        done = 0
+        done, self.counted = 0, False
         for ticket in sorted(self.waiters):
             if ticket in self.waiters and done < MOST_OF_A_STEP:
                 done += self.moved(ticket)
-        return "ran" if done else "idle"
+        return "ran" if done or self.counted else "idle"
+
+    def further(self):
+        """Nobody is cut."""
 
     def moved(self, ticket):
         """How many ended by this one's turn."""
@@ -119,6 +122,7 @@ class FakeRoom:
             batches = self.states[ticket].batches + 1
             if most is None or batches < most:
                 self.states[ticket] = TicketWaits(batches)
+                self.counted |= most is not None
                 return 0
             self.group((), {}, [(ticket, TicketGaveUp())])
             return 1
@@ -169,8 +173,12 @@ class FakeRoom:
     def explain(self, script, values=None):
         return None
 
-    def waiting(self):
-        return sorted(self.waiters)
+    def batches(self, tickets):
+        states = map(self.state, tickets)
+        return [state.batches if isinstance(state, TicketWaits) else None for state in states]
+
+    def waiting(self, first=Ticket(0)):
+        return sorted(ticket for ticket in self.waiters if ticket >= first)
 
     def table(self, name):
         if name not in self.tables:

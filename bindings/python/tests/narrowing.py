@@ -53,7 +53,9 @@ def said_of_ticket(state: entangle.TicketState) -> str:
         return f"waits after {state.batches + 0}"
     if isinstance(state, entangle.TicketLonely):
         return f"lacks demand {state.demand + 0}"
-    if isinstance(state, (entangle.TicketNoMeeting, entangle.TicketInBatch, entangle.TicketUnknown)):
+    if isinstance(state, (entangle.TicketNoMeeting, entangle.TicketCut, entangle.TicketInBatch)):
+        return state.kind
+    if isinstance(state, entangle.TicketUnknown):
         return state.kind
     ending: entangle.Ending = state
     if isinstance(ending, entangle.TicketCommitted):
@@ -62,6 +64,8 @@ def said_of_ticket(state: entangle.TicketState) -> str:
         return ending.failure.value
     if isinstance(ending, (entangle.TicketRolledBack, entangle.TicketGaveUp, entangle.TicketWithdrawn)):
         return ending.kind
+    if isinstance(ending, (entangle.TicketNotRestored, entangle.TicketRefusedByStore)):
+        return ending.fault
     never(ending)
 
 
@@ -130,19 +134,19 @@ def tell_of_room() -> None:
 
 def main() -> None:
     tell_of_room()
-    with entangle.Manager("CREATE TABLE T (a INT);") as manager:
-        tx: int = manager.submit("BEGIN TRANSACTION; INSERT INTO T VALUES (1); SET @a = 'x'; SELECT * FROM T; COMMIT;")
-        assert said_of_standing(manager.standing(tx)) == "waiting"
-        manager.run()
-        assert [said_of_answer(answer) for answer in manager.answers(tx)] == ["1 rows", "X", "1 rows"]
-        assert said_of_standing(manager.standing(tx)) == "commit 1"
-        assert said_by_kind(manager.standing(tx)) == 1
-        rows: list[entangle.Row] = manager.table("T")
+    with entangle.Driver("CREATE TABLE T (a INT);") as driver:
+        tx: int = driver.submit("BEGIN TRANSACTION; INSERT INTO T VALUES (1); SET @a = 'x'; SELECT * FROM T; COMMIT;")
+        assert said_of_standing(driver.standing(tx)) == "waiting"
+        driver.run()
+        assert [said_of_answer(answer) for answer in driver.answers(tx)] == ["1 rows", "X", "1 rows"]
+        assert said_of_standing(driver.standing(tx)) == "commit 1"
+        assert said_by_kind(driver.standing(tx)) == 1
+        rows: list[entangle.Row] = driver.table("T")
         assert rows == [(1,)]
-        reply: entangle.Reply = manager.step("start run")
+        reply: entangle.Reply = driver.step("start run")
         assert reply == "absent"
         try:
-            manager.submit("COMMIT")
+            driver.submit("COMMIT")
         except entangle.Error as error:
             assert said_of_error(error) == "E201 at 0"
 

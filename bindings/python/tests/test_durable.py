@@ -7,9 +7,9 @@ import threading
 import unittest
 
 import entangle
-from entangle.stores import DurableRoom, SqliteStore
+from entangle.stores import DurableRoom, KeyUsedOtherwise, SqliteStore
 
-from .booking import FULL, TABLES, TRIP, UNTIL, booked, settle
+from .booking import FULL, TABLES, TRIP, UNTIL, booked, kept, settle
 
 ANN, BOB = {"me": "Ann", "friend": "Bob's"}, {"me": "Bob's", "friend": "Ann"}
 CLEO = {"me": "Cleo", "friend": "nobody"}
@@ -56,20 +56,37 @@ class DurableRooms(unittest.TestCase):
         self.assertEqual((last.waiting(), last.outcome(ann)), ([cleo], outcome))
         self.assertEqual(self.sql('SELECT * FROM "Bookings" ORDER BY who'), [("Ann", 122), ("Bob's", 122)])
 
+    def test_friends_of_an_earlier_version_book(self):
+        kept("form1.trips", self.path)
+        room = self.room()
+        self.assertEqual([ticket.number for ticket in room.waiting()], [5, 6, 7])
+        endings = {1: entangle.TicketCommitted(1, 1), 4: entangle.TicketWithdrawn(), 8: entangle.TicketRolledBack()}
+        self.assertEqual({number: room.state(entangle.Ticket(number)) for number in endings}, endings)
+        self.assertEqual(room.put(TRIP, ANN, UNTIL, key="a"), entangle.Ticket(1))
+        self.assertRaises(KeyUsedOtherwise, room.put, TRIP, BOB, UNTIL, "a")
+        hal = room.put(TRIP, {"me": "Hal", "friend": "Gus"})
+        room.put("BEGIN TRANSACTION; INSERT INTO Flights VALUES (7, 'Rome'); COMMIT;")
+        settle(room)
+        self.assertEqual((hal.number, room.waiting()), (9, []))
+        booked = [("Ann", 122), ("Bob's", 122), ("Eve", 7), ("Finn", 7), ("Gus", 122), ("Hal", 122)]
+        self.assertEqual(self.sql('SELECT * FROM "Bookings" ORDER BY who'), booked)
+        self.assertEqual(self.room().outcome(entangle.Ticket(5)), room.outcome(entangle.Ticket(5)))
+
     def test_each_ending_is_kept(self):
         room = self.room()
         full = room.put(FULL)
         rolled_back = room.put("BEGIN TRANSACTION; DELETE FROM Flights; ROLLBACK;")
         paris = {"me": "Eve", "friend": "Finn"}
         script = TRIP.replace("'LA'", "'Rome'")
-        gave_up = [room.put(script, values, 1) for values in (paris, {"me": "Finn", "friend": "Eve"})]
+        # their meeting is tried for her, who came first
+        gave_up, _finn = room.put(script, paris, 1), room.put(script, {"me": "Finn", "friend": "Eve"}, 1)
         withdrawn = room.put(TRIP, CLEO)
         settle(room)
         room.withdraw(withdrawn)
         endings = {
             full: entangle.TicketFailed(entangle.Failure.OVERFLOW),
             rolled_back: entangle.TicketRolledBack(),
-            **{ticket: entangle.TicketGaveUp() for ticket in gave_up},
+            gave_up: entangle.TicketGaveUp(),
             withdrawn: entangle.TicketWithdrawn(),
         }
         for one in (room, self.room()):
@@ -87,7 +104,7 @@ class DurableRooms(unittest.TestCase):
             ticket = room.put("BEGIN TRANSACTION; INSERT INTO Flights VALUES (@fno, 'LA'); COMMIT;", {"fno": fno})
             settle(room)
             numbers.append(room.outcome(ticket).group)
-            self.assertEqual(room._room.groups(), [])  # what the store has needs no memory
+            self.assertEqual(room._now.room.groups(), [])  # what the store has needs no memory
         self.assertEqual(numbers, [1, 2, 3])
         rows = [(0, "LA"), (1, "LA"), (2, "LA"), (122, "LA"), (136, "Paris")]
         self.assertEqual(room.table("Flights"), rows)

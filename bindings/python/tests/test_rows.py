@@ -21,14 +21,14 @@ def file(name, ending):
 
 
 def driven(text, version):
-    """The report of a manager that is opened over an input and run until it can be closed."""
-    with entangle.Manager(text) as manager:
+    """The report of a driver that is opened over an input and run until it can be closed."""
+    with entangle.Driver(text) as driver:
         while True:
             try:
-                manager.finish()
-                return manager.report(version)
+                driver.finish()
+                return driver.report(version)
             except entangle.Refused:
-                manager.run()
+                driver.run()
 
 
 class Rows(unittest.TestCase):
@@ -46,7 +46,7 @@ class Rows(unittest.TestCase):
         print(f"{count} rows of a run")
         self.assertGreater(count, 100)
 
-    def test_managers_tell_what_the_program_does(self):
+    def test_drivers_tell_what_the_program_does(self):
         count = 0
         for name, version, status, line in rows("run", "run --report 2"):
             with self.subTest(name):

@@ -5,6 +5,7 @@ test_durable has real rooms. tools/check stores tries stores with faults, and ov
 
 import asyncio
 import copy
+import datetime
 import os
 import pickle
 import sqlite3
@@ -16,6 +17,7 @@ import entangle
 from entangle import stores
 from entangle.stores import DurableRoom, Request, SqliteStore, StoredFault, Table
 
+from .booking import kept
 from .fake_room import FakeRoom
 
 TABLES = [
@@ -94,20 +96,46 @@ class Stores(unittest.TestCase):
     def test_a_request_with_a_key_is_put_once(self):
         room = self.room()
         ticket = room.put("pair", ANN, UNTIL, key="a")
-        self.assertEqual(room.put("add", ANN, key="a"), ticket)
+        self.assertEqual(room.put("pair", ANN, key="a"), ticket)
         other, same = room.put_all([Request("add", BOB, key="b"), Request("add", BOB, key="b")])
         self.assertEqual(other, same)
         settle(room)
         later = self.room()
-        self.assertEqual(later.put_all([Request("add", BOB, key=key) for key in "ab"]), [ticket, other])
+        self.assertEqual(later.put_all([Request("pair", ANN, key="a"), Request("add", BOB, key="b")]), [ticket, other])
         self.assertEqual(SqliteStore(self.path).ticket_of("b"), other)
 
-    def test_of_many_requests_each_has_its_ticket_or_its_error(self):
+    def test_a_key_that_was_used_otherwise_is_refused(self):
+        room = self.room()
+        ticket = room.put("pair", ANN, UNTIL, key="a")
+        room.put("add", BOB, key="b")
+        settle(room)
+        for one in (room, self.room()):
+            for script, values, key in (("add", ANN, "a"), ("pair", BOB, "a"), ("add", ANN, "b"), ("pair", BOB, "b")):
+                with self.assertRaises(stores.KeyUsedOtherwise) as caught:
+                    one.put(script, values, key=key)
+                self.assertEqual(caught.exception.key, key)
+            self.assertEqual(one.put("pair", dict(reversed(ANN.items())), 3, key="a"), ticket)
+            self.assertEqual(one.waiting(), [ticket])
+        sentence = "the key 'b' was used for another script or other values, under ticket 2"
+        self.assertEqual(str(caught.exception), sentence)
+
+    def test_many_requests_are_put_all_or_none(self):
         room = self.room(most_waiters=2)
-        told = room.put_all([Request("add", ANN), Request("nonsense", ANN), Request("add", BOB), Request("add", BOB)])
-        self.assertIsInstance(told[1], entangle.Refused)
-        self.assertIsInstance(told[3], entangle.RoomFull)
-        self.assertEqual(room.waiting(), [told[0], told[2]])
+        add, wrong = [Request("add", values) for values in (ANN, BOB, ANN)], Request("nonsense", ANN)
+        self.assertRaises(entangle.Refused, room.put_all, [add[0], wrong])
+        self.assertRaises(entangle.RoomFull, room.put_all, add)
+        keyed = [Request("add", ANN, key="a"), wrong]
+        self.assertRaises(entangle.Refused, room.put_all, keyed)
+        self.assertEqual((room.waiting(), room.put_all([]), self.sql("SELECT * FROM entangle_tickets")), ([], [], []))
+        one, none, full, two = room.put_each([[add[0]], keyed, add[:2], [add[1]]])
+        self.assertEqual((type(none), type(full)), (entangle.Refused, entangle.RoomFull))
+        self.assertEqual(room.waiting(), [*one, *two])
+        settle(room)
+        self.assertEqual(room.table("Counters"), [("all", 2)])
+        self.assertEqual(room.put_all(keyed[:1]), room.waiting())
+
+    def test_a_request_is_checked(self):
+        room = self.room()
         with self.assertRaises(entangle.Refused):
             room.put("nonsense", ANN)
         for script, key in (("add\0", None), ("add", ""), ("add", "a\0"), ("add", "é" * 128)):
@@ -155,8 +183,9 @@ class Stores(unittest.TestCase):
         with self.assertRaises(AssertionError):
             room.put_all([Request("add", ANN), Request("add", {"me": 7})])
         settle(room)
-        self.assertEqual(room.state(entangle.Ticket(1)), entangle.TicketWithdrawn())
-        self.assertEqual(room.table("Counters"), [("all", 0)])
+        self.assertEqual((room.state(entangle.Ticket(1)), room.waiting()), (entangle.TicketUnknown(), []))
+        self.assertEqual((room.table("Counters"), room._now.room.waiting()), ([("all", 0)], []))
+        self.assertEqual(room.put("add", ANN), entangle.Ticket(2))
 
     def test_who_comes_later_has_the_store(self):
         room = self.room()
@@ -203,11 +232,14 @@ class Stores(unittest.TestCase):
 
     def test_batches_that_count_are_kept(self):
         room = self.room()
-        ticket = room.put("alone", ANN, 3)
+        ticket = room.put("alone", ANN, 66)
+        for _ in range(63):
+            room.step()
+        self.assertEqual(room.state(ticket), entangle.TicketWaits(0))  # what isn't written isn't told
         room.step()
-        self.assertEqual(self.sql("SELECT batches FROM entangle_tickets"), [(1,)])
+        self.assertEqual(self.sql("SELECT batches FROM entangle_tickets"), [(64,)])
         later = self.room()
-        self.assertEqual(later.state(ticket), entangle.TicketWaits(1))
+        self.assertEqual(later.state(ticket), entangle.TicketWaits(64))
         later.step()
         later.step()
         self.assertEqual(later.wait(ticket), entangle.TicketGaveUp())
@@ -265,7 +297,9 @@ class Stores(unittest.TestCase):
         unknown = entangle.Group(1, 1, (), {"Nowhere": change}, ())
         self.assertRaises(ValueError, store.apply, (unknown,), (), (), 1, 1)
         store.apply((group,), (), (), 1, 1)
-        self.assertRaises(ValueError, store.apply, (group,), (), (), 1, 1)
+        store.apply((group,), (), (), 1, 1)  # the same stands
+        self.assertEqual(self.sql('SELECT * FROM "Bookings"'), [("Ann", 122)])
+        self.assertRaises(ValueError, store.apply, (group,), (), (), 2, 1)
         store.check()
         store.close()
 
@@ -280,6 +314,60 @@ class Stores(unittest.TestCase):
         self.assertEqual(self.sql("SELECT write FROM entangle_claim"), [(1,)])
         store.close()
 
+    def test_a_store_of_an_earlier_version_is_taken_up(self):
+        kept("form1", self.path)
+        tables = [
+            Table("Counters", {"name": "TEXT", "n": "INT"}, stored_as="counted", stored_columns={"n": "how_many"}),
+            *TABLES[1:],
+        ]
+        for _ in range(2):
+            room = self.room(tables)
+            self.assertEqual([ticket.number for ticket in room.waiting()], [9, 10, 11])
+            self.assertEqual(room.state(entangle.Ticket(8)), entangle.TicketCommitted(3, 1))
+            self.assertEqual(room.ticket_of("k1"), entangle.Ticket(1))
+            self.assertRaises(stores.KeyUsedOtherwise, room.put, "add", ANN, key="k1")
+        self.assertEqual(room.put("pair", {"me": "Max", "friend": "Lea"}).number, 12)
+        settle(room)
+        self.assertEqual((room.outcome(entangle.Ticket(11)).group, room.outcome(entangle.Ticket(12)).group), (7, 7))
+        self.assertEqual(self.sql("SELECT form, claim FROM entangle_claim"), [(2, 4)])
+
+    def test_a_store_of_a_later_version_is_left_as_it_is(self):
+        self.room()
+        self.sql("UPDATE entangle_claim SET form = 3")
+        before = self.sql("SELECT * FROM entangle_claim")
+        with self.assertRaisesRegex(stores.StoreError, "of form 3, which a later version writes"):
+            self.room()
+        self.assertEqual(self.sql("SELECT * FROM entangle_claim"), before)
+        # what a version that knows form 1 only writes first
+        with self.assertRaises(sqlite3.OperationalError):
+            self.sql("INSERT INTO entangle_claim VALUES (1, 0, 0, 0, 0, 1) ON CONFLICT DO NOTHING")
+
+    def test_a_time_to_wait_until_is_kept(self):
+        store = SqliteStore(self.path)
+        store.load(TABLES)
+        until = datetime.datetime(2026, 12, 1, 8, 30, 0, 1, tzinfo=datetime.timezone(datetime.timedelta(hours=1)))
+        waiter = stores.Waiter(entangle.Ticket(1), "add", {"me": "Ann"}, UNTIL, key="a", until=until)
+        store.apply((), (), (waiter,), 2, 1)
+        self.assertEqual(self.sql("SELECT until FROM entangle_tickets"), [(1796110200000001,)])
+        later = SqliteStore(self.path)
+        self.assertEqual(later.load(TABLES).waiting, (waiter,))
+        store.close()
+        later.close()
+
+    def test_what_was_asked_under_a_key_is_known(self):
+        store = SqliteStore(self.path)
+        store.load(TABLES)
+        waiters = [
+            stores.Waiter(entangle.Ticket(n), "add", {"me": "Ann", "n": n}, UNTIL, key=f"k{n}") for n in range(1, 1201)
+        ]
+        store.apply((), (), waiters, 1201, 1)
+        used = store.tickets_of([f"k{n}" for n in range(1100, 1300)])
+        self.assertEqual({key: one.ticket.number for key, one in used.items()}, {f"k{n}": n for n in range(1100, 1201)})
+        self.assertEqual(used["k1100"].asked, stores.asked_digest("add", {"n": 1100, "me": "Ann"}))
+        self.assertNotEqual(used["k1100"].asked, stores.asked_digest("add", {"n": "1100", "me": "Ann"}))
+        self.assertEqual((len(store.tickets_of([f"k{n}" for n in range(2000)])), store.tickets_of(())), (1200, {}))
+        store.close()
+
     def test_declared_tables(self):
         for wrong in (
             lambda: Table("2", {"a": "INT"}),
@@ -292,6 +380,8 @@ class Stores(unittest.TestCase):
             lambda: SqliteStore(self.path).load([Table("T", {"a": "INT"}), Table("t", {"a": "INT"})]),
             lambda: SqliteStore(self.path).load([Table("T", {"a": "INT", "A": "INT"})]),
             lambda: SqliteStore(self.path).load([Table("Entangle_Tickets", {"a": "INT"})]),
+            lambda: SqliteStore(self.path).load([Table("Entangle_Waiting", {"a": "INT"})]),
+            lambda: SqliteStore(self.path).load([Table("Entangle_Keys", {"a": "INT"})]),
         ):
             self.assertRaises(ValueError, wrong)
         self.assertEqual(TABLES[1].declaration, "CREATE TABLE Bookings (who TEXT, fno INT);")
@@ -310,6 +400,34 @@ class Stores(unittest.TestCase):
         store = SqliteStore(self.path)
         self.assertEqual(store.load([table]).rows, {"Seen": [("Ann", 1), ("Bob", 2)]})
         store.close()
+
+    def test_a_file_stays_where_it_was_when_the_store_was_made(self):
+        folder = os.getcwd()
+        self.addCleanup(os.chdir, folder)
+        os.chdir(os.path.dirname(self.path))
+        store = SqliteStore("rooms.sqlite")
+        os.chdir("/")
+        room = self.room(store=store)
+        ticket = room.put("pair", ANN, UNTIL)
+        store.close()
+        self.assertEqual(self.room().waiting(), [ticket])
+
+    def test_who_is_forked_has_no_store(self):
+        room = self.room()
+        room.put("pair", ANN, UNTIL)
+        child = os.fork()
+        if not child:
+            status = 1
+            try:
+                room.put("pair", BOB)
+            except stores.StoreTaken:
+                status = 0
+            finally:
+                os._exit(status)
+        self.assertEqual(os.waitpid(child, 0)[1], 0)
+        room.put("pair", BOB)
+        settle(room)
+        self.assertEqual(self.sql("SELECT count(*) FROM entangle_tickets WHERE ending = 'committed'"), [(2,)])
 
     def test_a_store_that_lasts_nowhere_is_refused(self):
         self.assertRaises(stores.StoreError, SqliteStore(":memory:").load, TABLES)

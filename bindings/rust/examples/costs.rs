@@ -1,12 +1,12 @@
 //! What calls cost: the least time of several calls, over inputs of more and more pairs of friends; of a room's calls,
-//! over more and more people who wait for somebody who doesn't come; and of a manager's calls, over more and more
+//! over more and more people who wait for somebody who doesn't come; and of a driver's calls, over more and more
 //! scripts that wait.
 //!
 //! ```sh
 //! cargo run --offline --release --example costs
 //! ```
 
-use entangle::{Manager, Patience, Room, RoomOptions, Stepped, Ticket, Value, Version, check, report};
+use entangle::{Driver, Patience, Room, RoomOptions, Stepped, Ticket, Value, Version, check, report};
 use std::time::{Duration, Instant};
 
 const TABLES: &str = "CREATE TABLE Flights (fno INT, dest TEXT);
@@ -95,28 +95,28 @@ fn least_of_room(count: usize, calls: usize) -> [Duration; 3] {
     least
 }
 
-/// A manager over which so many scripts wait, each for a friend who doesn't come, behind one run of them.
-fn waiting(count: usize) -> Manager {
-    let mut manager = Manager::open(TABLES).expect("the tables are right");
+/// A driver over which so many scripts wait, each for a friend who doesn't come, behind one run of them.
+fn waiting(count: usize) -> Driver {
+    let mut driver = Driver::open(TABLES).expect("the tables are right");
     for who in 0..count {
         let waits = script(who, count + who).replace("BEGIN TRANSACTION", "BEGIN TRANSACTION WITHIN 1000 RUNS");
-        manager.submit(&waits).expect("the script is right");
+        driver.submit(&waits).expect("the script is right");
     }
-    manager.run().expect("memory is there");
-    manager
+    driver.run().expect("memory is there");
+    driver
 }
 
 /// The least times of a submit, and of the run behind it, of so many.
-fn least_of_manager(count: usize, calls: usize) -> (Duration, Duration) {
-    let mut manager = waiting(count);
+fn least_of_driver(count: usize, calls: usize) -> (Duration, Duration) {
+    let mut driver = waiting(count);
     let mut least = (Duration::MAX, Duration::MAX);
     for _ in 0..calls {
         let alone = "BEGIN TRANSACTION; INSERT INTO Bookings VALUES ('alone', 1); COMMIT;";
         let begun = Instant::now();
-        manager.submit(alone).expect("the script is right");
+        driver.submit(alone).expect("the script is right");
         least.0 = least.0.min(begun.elapsed());
         let begun = Instant::now();
-        manager.run().expect("memory is there");
+        driver.run().expect("memory is there");
         least.1 = least.1.min(begun.elapsed());
     }
     least
@@ -137,9 +137,9 @@ fn main() {
         let [put, step, wait] = least_of_room(count, 50);
         println!("{count:>7}  {put:>9.1?}  {step:>9.1?}  {wait:>9.1?}");
     }
-    println!("waiting  submit     run, of a manager");
+    println!("waiting  submit     run, of a driver");
     for count in [0, 1, 10, 64, 100, 1000] {
-        let (submit, run) = least_of_manager(count, 20);
+        let (submit, run) = least_of_driver(count, 20);
         println!("{count:>7}  {submit:>9.1?}  {run:>9.1?}");
     }
 }

@@ -1,4 +1,4 @@
-//! The calls of the archive, made safely: those of managers and those without one; `room` has those of rooms.
+//! The calls of the archive, made safely: those of drivers and those without one; `room` has those of rooms.
 
 pub(crate) mod room;
 
@@ -58,7 +58,7 @@ pub(crate) struct SubmissionSeen {
     pub(crate) tx: u64,
 }
 
-/// What stands behind the pointer of a manager, a room, bound values or rows: nothing looks there.
+/// What stands behind the pointer of a driver, a room, bound values or rows: nothing looks there.
 #[repr(C)]
 struct Opaque {
     _private: [u8; 0],
@@ -92,10 +92,10 @@ unsafe extern "C" {
 
     fn ent_c_check(report: *const u8, length: usize, buffer: *mut u8, capacity: usize, told: *mut Told) -> i32;
 
-    fn ent_c_open(manager: *mut *mut Opaque, input: *const u8, length: usize, told: *mut Told) -> i32;
+    fn ent_c_open(driver: *mut *mut Opaque, input: *const u8, length: usize, told: *mut Told) -> i32;
 
     fn ent_c_submit(
-        manager: *mut *mut Opaque,
+        driver: *mut *mut Opaque,
         script: *const u8,
         length: usize,
         number: *mut u64,
@@ -103,7 +103,7 @@ unsafe extern "C" {
     ) -> i32;
 
     fn ent_c_explain_script(
-        manager: *mut *mut Opaque,
+        driver: *mut *mut Opaque,
         script: *const u8,
         length: usize,
         buffer: *mut u8,
@@ -111,18 +111,18 @@ unsafe extern "C" {
         told: *mut Told,
     ) -> i32;
 
-    fn ent_c_run(manager: *mut *mut Opaque) -> i32;
+    fn ent_c_run(driver: *mut *mut Opaque) -> i32;
 
-    fn ent_c_make(manager: *mut *mut Opaque, step: u32, number: u64, reply: *mut u32) -> i32;
+    fn ent_c_make(driver: *mut *mut Opaque, step: u32, number: u64, reply: *mut u32) -> i32;
 
-    fn ent_c_why(manager: *mut *mut Opaque, number: u64, buffer: *mut u8, capacity: usize, told: *mut Told) -> i32;
+    fn ent_c_why(driver: *mut *mut Opaque, number: u64, buffer: *mut u8, capacity: usize, told: *mut Told) -> i32;
 
-    fn ent_c_standing(manager: *mut *mut Opaque, number: u64, position: *mut Position) -> i32;
+    fn ent_c_standing(driver: *mut *mut Opaque, number: u64, position: *mut Position) -> i32;
 
-    fn ent_c_answers(manager: *mut *mut Opaque, number: u64, buffer: *mut u8, capacity: usize, told: *mut Told) -> i32;
+    fn ent_c_answers(driver: *mut *mut Opaque, number: u64, buffer: *mut u8, capacity: usize, told: *mut Told) -> i32;
 
     fn ent_c_table(
-        manager: *mut *mut Opaque,
+        driver: *mut *mut Opaque,
         name: *const u8,
         length: usize,
         buffer: *mut u8,
@@ -130,18 +130,18 @@ unsafe extern "C" {
         told: *mut Told,
     ) -> i32;
 
-    fn ent_c_close(manager: *mut *mut Opaque) -> i32;
-    fn ent_c_renew(manager: *mut *mut Opaque) -> i32;
+    fn ent_c_close(driver: *mut *mut Opaque) -> i32;
+    fn ent_c_renew(driver: *mut *mut Opaque) -> i32;
 
     fn ent_c_closed_report(
-        manager: *mut *mut Opaque,
+        driver: *mut *mut Opaque,
         version: u32,
         buffer: *mut u8,
         capacity: usize,
         told: *mut Told,
     ) -> i32;
 
-    fn ent_c_free(manager: *mut *mut Opaque);
+    fn ent_c_free(driver: *mut *mut Opaque);
 
     fn ent_c_size_of_limits() -> usize;
     fn ent_c_size_of_ticket_state() -> usize;
@@ -219,6 +219,7 @@ unsafe extern "C" {
 
     fn ent_c_room_withdraw(room: *mut *mut Opaque, ticket: u64, refusal: *mut u32) -> i32;
     fn ent_c_room_step(room: *mut *mut Opaque, step: *mut u32, refusal: *mut u32) -> i32;
+    fn ent_c_room_further(room: *mut *mut Opaque, refusal: *mut u32) -> i32;
     fn ent_c_room_state(room: *mut *mut Opaque, ticket: u64, state: *mut TicketPosition) -> i32;
     fn ent_c_room_why(room: *mut *mut Opaque, ticket: u64, buffer: *mut u8, capacity: usize, told: *mut Told) -> i32;
     fn ent_c_room_waiting(room: *mut *mut Opaque, from: u64, ticket: *mut u64) -> i32;
@@ -394,7 +395,7 @@ fn status_said(status: i32, told: Told) -> Result<(), Error> {
     }
 }
 
-/// The one owner of what stands behind a manager's pointer.
+/// The one owner of what stands behind a driver's pointer.
 pub(crate) struct Handle {
     at: *mut Opaque,
 }

@@ -63,7 +63,7 @@ impl fmt::Display for Fault {
 
 impl StandardError for Fault {}
 
-/// Why a call of a manager does nothing.
+/// Why a call of a driver does nothing.
 ///
 /// Printed it is a sentence. Its [source](StandardError::source) is the fault, if it has one: its line has the number.
 #[derive(Clone, Copy, Debug, PartialEq, Eq, Hash)]
@@ -71,7 +71,7 @@ impl StandardError for Fault {}
 pub enum Error {
     /// The text that was handed in is refused, it isn't there, or memory ran out.
     Fault(Fault),
-    /// The manager is closed; or, for a report or a renewal, it isn't.
+    /// The driver is closed; or, for a report or a renewal, it isn't.
     State,
 }
 
@@ -101,7 +101,7 @@ impl From<TryReserveError> for Error {
 impl fmt::Display for Error {
     fn fmt(&self, f: &mut fmt::Formatter<'_>) -> fmt::Result {
         let Error::Fault(fault) = self else {
-            return f.write_str("the manager is closed; or, for a report or a renewal, it isn't");
+            return f.write_str("the driver is closed; or, for a report or a renewal, it isn't");
         };
         if let Some(Place { line, column, .. }) = fault.place {
             return write!(f, "the text is refused at line {line}, column {column}");

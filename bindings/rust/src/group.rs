@@ -1,7 +1,7 @@
 //! What the steps of a room brought: groups, read from the lines of JSON in which the library tells them.
 
 use crate::answer::{Answer, Fact, Read, Unread, push, push_text};
-use crate::manager::Failure;
+use crate::driver::Failure;
 use crate::ticket::{Ending, Ticket};
 use crate::value::{Row, Value};
 use std::str::FromStr;

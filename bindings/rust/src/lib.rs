@@ -5,10 +5,10 @@
 //! | Type or call | What it is for |
 //! |---|---|
 //! | [`Room`] | tables, and scripts that wait for those whom they need; threads and tasks are told how theirs end |
-//! | [`Manager`] | tables, and scripts that take part in the next runs, whoever is there |
+//! | [`Driver`] | tables, and scripts that take part in the next runs, whoever is there |
 //! | [`report`], [`explain`], [`check`] | whole inputs and reports: each call stands alone, and keeps nothing |
 //!
-//! Scripts are run on the thread that calls. Calls that need neither a room nor a manager may be made from any number
+//! Scripts are run on the thread that calls. Calls that need neither a room nor a driver may be made from any number
 //! of threads.
 //!
 //! ```
@@ -25,7 +25,7 @@
 //! ```
 //!
 //! A [`Fault`] says where an input is wrong, and is explained by [`explain`]; that of a script by [`Room::explain`] or
-//! [`Manager::explain`].
+//! [`Driver::explain`].
 //!
 //! ```
 //! use entangle::{Version, explain, report};
@@ -47,7 +47,7 @@ mod fault;
 mod given;
 mod group;
 mod library;
-mod manager;
+mod driver;
 mod refusal;
 mod room;
 mod step;
@@ -60,7 +60,7 @@ pub use fate::FutureFate;
 pub use fault::{Error, Fault, FaultKind, Place};
 pub use group::{EndedTicket, Group, GroupCommit, TableChange};
 pub use library::library_version;
-pub use manager::{Failure, Fate, Manager, Shared, Standing, Tx};
+pub use driver::{Failure, Fate, Driver, Shared, Standing, Tx};
 pub use refusal::{BindingFault, RoomError, RowFault, ValueFault};
 pub use room::{EpochReport, Patience, Room, RoomOptions, Stepped};
 pub use step::{Reply, Step};

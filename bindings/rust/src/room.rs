@@ -8,7 +8,7 @@ use crate::counted::Counted;
 use crate::fate::FutureFate;
 use crate::given::{bound, error_of_rows, error_of_values, given};
 use crate::group::{Group, groups_in};
-use crate::manager::{Failure, read};
+use crate::driver::{Failure, read};
 use crate::refusal::RoomError;
 use crate::ticket::{Ending, Submission, Ticket, TicketState};
 use crate::value::{Row, Value};
@@ -256,13 +256,14 @@ fn state_of(position: TicketPosition) -> TicketState {
         1 => return TicketState::Waits { batches },
         2 => return TicketState::Lonely { demand },
         3 => return TicketState::NoMeeting,
+        10 => return TicketState::Cut,
         4 => return TicketState::InBatch,
         5 => Ending::Committed { epoch, number },
         6 => Ending::RolledBack,
         7 => Ending::Failed(Failure::numbered(failure)),
         8 => Ending::GaveUp,
         9 => Ending::Withdrawn,
-        other => unreachable!("a ticket stands in one of ten ways, and {other} isn't one"),
+        other => unreachable!("a ticket stands in one of eleven ways, and {other} isn't one"),
     })
 }
 
@@ -394,8 +395,8 @@ impl Room {
         self.inner.telling(|handle| handle.withdraw(ticket.number()))
     }
 
-    /// Makes at most two runs: one of scripts that need nobody, and one of scripts that may meet. To have all done that
-    /// can be done, make steps until one is [`Stepped::Idle`].
+    /// Makes runs, each of a script that needs nobody or of scripts that may meet, as many as a step's work allows. To
+    /// have all done that can be done, make steps until one is [`Stepped::Idle`].
     ///
     /// # Errors
     ///
@@ -410,6 +411,16 @@ impl Room {
             3 => Stepped::Ran,
             other => unreachable!("a step does one of three things, and {other} isn't one"),
         })
+    }
+
+    /// Has those go on who are cut ([`TicketState::Cut`]): each may try as many meetings again, in the next steps.
+    /// Without it they go on once something changes for them.
+    ///
+    /// # Errors
+    ///
+    /// Memory ran out: some of them go on.
+    pub fn further(&self) -> Result<(), RoomError> {
+        self.inner.with(|kept| kept.handle.further())
     }
 
     /// How a ticket stands.

@@ -1,6 +1,6 @@
-//! Single events of a manager, and the replies to them.
+//! Single events of a driver, and the replies to them.
 
-use crate::manager::Tx;
+use crate::driver::Tx;
 
 /// What a caller asks for who orders the events of a run itself. The job that an event lends is carried out within it.
 #[derive(Clone, Copy, Debug, PartialEq, Eq, Hash)]

@@ -1,6 +1,6 @@
 //! Tickets of a room, and how they stand.
 
-use crate::manager::Failure;
+use crate::driver::Failure;
 use std::fmt;
 
 /// The ticket of a script that was put into a [`Room`](crate::Room). One with a greater number was given out later, and
@@ -67,6 +67,9 @@ pub enum TicketState {
     },
     /// It waits, and each of its demands may be met by somebody, but no meeting of it was found.
     NoMeeting,
+    /// It waits, and a bound was reached: there may be more meetings of it. It goes on once something changes for it,
+    /// or after [`Room::further`](crate::Room::further).
+    Cut,
     /// It is in a batch that isn't over, since memory ran out. The next step goes on with it.
     InBatch,
     /// It waits no more.

@@ -1,6 +1,6 @@
 //! What the calls promise beside the rows: places, long reports, errors, conversions and many threads.
 
-use entangle::{Error, Failure, Fate, FaultKind, Manager, Place, Reply, Shared, Standing, Step, Value, Version};
+use entangle::{Error, Failure, Fate, FaultKind, Driver, Place, Reply, Shared, Standing, Step, Value, Version};
 use entangle::{WrongKind, check, check_bytes, explain, explain_bytes, report, report_of_bytes};
 use std::error::Error as StandardError;
 use std::thread;
@@ -68,11 +68,11 @@ fn code_of(error: Error) -> u16 {
 
 #[test]
 fn a_script_ends_as_it_says() {
-    let mut manager = Manager::open(TABLE).expect("the table is right");
+    let mut driver = Driver::open(TABLE).expect("the table is right");
     let mut ended = |script: &str| {
-        let tx = manager.submit(script).expect("the script is right");
-        manager.run().expect("memory is there");
-        manager.standing(tx).expect("it was submitted").fate()
+        let tx = driver.submit(script).expect("the script is right");
+        driver.run().expect("memory is there");
+        driver.standing(tx).expect("it was submitted").fate()
     };
     let rolled_back = ended("BEGIN TRANSACTION; INSERT INTO T VALUES (1); ROLLBACK;");
     assert_eq!(rolled_back, Some(Fate::RolledBack { runs: 1 }));
@@ -80,81 +80,81 @@ fn a_script_ends_as_it_says() {
     assert_eq!(failed, Some(Fate::Failed { failure: Failure::Overflow, runs: 1 }));
     let committed = ended("BEGIN TRANSACTION; INSERT INTO T VALUES (2); COMMIT;");
     assert_eq!(committed, Some(Fate::Committed { number: 1, runs: 1 }));
-    assert_eq!(manager.table("T"), Ok(vec![vec![Value::Int(2)]]));
-    assert_eq!(manager.answer_lines(3).as_deref(), Ok("1 count 1\n"));
-    assert_eq!(manager.answers(2), Ok(Vec::new()));
+    assert_eq!(driver.table("T"), Ok(vec![vec![Value::Int(2)]]));
+    assert_eq!(driver.answer_lines(3).as_deref(), Ok("1 count 1\n"));
+    assert_eq!(driver.answers(2), Ok(Vec::new()));
 }
 
 #[test]
 fn a_refused_call_changes_nothing() {
-    let mut manager = Manager::open(TABLE).expect("the table is right");
-    let error = manager.submit("BEGIN TRANSACTION;\n INSERT INTO U VALUES (1); COMMIT;").unwrap_err();
+    let mut driver = Driver::open(TABLE).expect("the table is right");
+    let error = driver.submit("BEGIN TRANSACTION;\n INSERT INTO U VALUES (1); COMMIT;").unwrap_err();
     let Error::Fault(fault) = error else { panic!("{error}") };
     assert_eq!((fault.code, fault.place), (301, Some(Place { offset: 32, line: 2, column: 14 })));
-    assert_eq!(manager.standing(1).map_err(code_of), Err(401));
-    assert_eq!(manager.table("U").map_err(code_of), Err(401));
-    assert_eq!(manager.report(Version::One), Err(Error::State));
-    assert_eq!(manager.submit("BEGIN TRANSACTION; COMMIT;"), Ok(1));
-    assert_eq!(manager.close().map_err(code_of), Err(405));
-    assert_eq!(manager.standing(1), Ok(Standing::Waiting { runs: 0 }));
-    manager.run().expect("memory is there");
-    manager.close().expect("all have their fates");
-    assert_eq!(manager.run(), Err(Error::State));
-    assert!(manager.report(Version::Two).is_ok_and(|told| check(&told).is_ok()));
+    assert_eq!(driver.standing(1).map_err(code_of), Err(401));
+    assert_eq!(driver.table("U").map_err(code_of), Err(401));
+    assert_eq!(driver.report(Version::One), Err(Error::State));
+    assert_eq!(driver.submit("BEGIN TRANSACTION; COMMIT;"), Ok(1));
+    assert_eq!(driver.close().map_err(code_of), Err(405));
+    assert_eq!(driver.standing(1), Ok(Standing::Waiting { runs: 0 }));
+    driver.run().expect("memory is there");
+    driver.close().expect("all have their fates");
+    assert_eq!(driver.run(), Err(Error::State));
+    assert!(driver.report(Version::Two).is_ok_and(|told| check(&told).is_ok()));
 }
 
 #[test]
 fn a_refused_script_is_explained_in_its_own_lines() {
-    let mut manager = Manager::open("CREATE TABLE Flights (fno INT, dest TEXT);").expect("the table is right");
-    let said = |manager: &mut Manager, script: &str| {
-        let fault = manager.submit(script).unwrap_err().fault().expect("the script is refused");
-        let said = manager.explain(script).expect("memory is there").expect("the script has a fault");
+    let mut driver = Driver::open("CREATE TABLE Flights (fno INT, dest TEXT);").expect("the table is right");
+    let said = |driver: &mut Driver, script: &str| {
+        let fault = driver.submit(script).unwrap_err().fault().expect("the script is refused");
+        let said = driver.explain(script).expect("memory is there").expect("the script has a fault");
         assert_eq!(said.lines().next(), Some(fault.to_string().as_str()));
         let Place { line, column, .. } = fault.place.expect("it has a place");
         assert!(said.contains(&format!("\nline {line}, column {column}: ")), "{said}");
         said
     };
     let wrong_column =
-        said(&mut manager, "BEGIN TRANSACTION;\n-- 東\nSELECT fno FROM Flights WHERE dst = 'LA';\nCOMMIT;");
+        said(&mut driver, "BEGIN TRANSACTION;\n-- 東\nSELECT fno FROM Flights WHERE dst = 'LA';\nCOMMIT;");
     assert!(wrong_column.starts_with("E302 at 56\nline 3, column 31: Flights has no column dst\n"), "{wrong_column}");
     assert!(wrong_column.ends_with("\n                                ^^^\ndid you mean dest?\n"), "{wrong_column}");
-    let two = said(&mut manager, "BEGIN TRANSACTION; COMMIT;\nBEGIN TRANSACTION; COMMIT;");
+    let two = said(&mut driver, "BEGIN TRANSACTION; COMMIT;\nBEGIN TRANSACTION; COMMIT;");
     assert!(two.contains("line 2, column 1: BEGIN can't stand here: expected the end of the script\n"), "{two}");
-    let open = said(&mut manager, "BEGIN TRANSACTION");
+    let open = said(&mut driver, "BEGIN TRANSACTION");
     assert!(open.contains("line 1, column 18: the script ends here, and ; or WITHIN is missing\n"), "{open}");
-    assert_eq!(manager.explain("BEGIN TRANSACTION; COMMIT;"), Ok(None));
+    assert_eq!(driver.explain("BEGIN TRANSACTION; COMMIT;"), Ok(None));
     assert!(
-        manager.explain_bytes(b"BEGIN \xff").is_ok_and(|said| said.is_some_and(|said| said.starts_with("E100 at 6")))
+        driver.explain_bytes(b"BEGIN \xff").is_ok_and(|said| said.is_some_and(|said| said.starts_with("E100 at 6")))
     );
-    assert_eq!(manager.submit_bytes(b"BEGIN \xff").map_err(code_of), Err(100));
-    assert_eq!(manager.submit("BEGIN TRANSACTION; COMMIT;"), Ok(1));
-    manager.run().expect("memory is there");
-    manager.close().expect("all have their fates");
-    assert_eq!(manager.explain("BEGIN"), Err(Error::State));
+    assert_eq!(driver.submit_bytes(b"BEGIN \xff").map_err(code_of), Err(100));
+    assert_eq!(driver.submit("BEGIN TRANSACTION; COMMIT;"), Ok(1));
+    driver.run().expect("memory is there");
+    driver.close().expect("all have their fates");
+    assert_eq!(driver.explain("BEGIN"), Err(Error::State));
 }
 
 #[test]
 fn each_error_says_what_it_is() {
-    let mut manager = Manager::open(TABLE).expect("the table is right");
-    let refused = manager.submit("BEGIN TRANSACTION;\n INSERT INTO U VALUES (1); COMMIT;").unwrap_err();
+    let mut driver = Driver::open(TABLE).expect("the table is right");
+    let refused = driver.submit("BEGIN TRANSACTION;\n INSERT INTO U VALUES (1); COMMIT;").unwrap_err();
     assert_eq!(refused.to_string(), "the text is refused at line 2, column 14");
     assert_eq!(refused.source().map(ToString::to_string).as_deref(), Some("E301 at 32"));
     assert_eq!(refused.source().and_then(|source| source.downcast_ref()), refused.fault().as_ref());
-    let absent = manager.table("U").unwrap_err();
+    let absent = driver.table("U").unwrap_err();
     assert_eq!(
         (absent.to_string().as_str(), code_of(absent)),
         ("no script has this number, or no table this name", 401)
     );
-    assert_eq!(manager.report(Version::One).unwrap_err().to_string(), Error::State.to_string());
+    assert_eq!(driver.report(Version::One).unwrap_err().to_string(), Error::State.to_string());
     assert!(Error::State.source().is_none() && Error::State.fault().is_none());
     for _ in 0..10_000 {
-        manager.submit("BEGIN TRANSACTION; COMMIT;").expect("there are few scripts");
+        driver.submit("BEGIN TRANSACTION; COMMIT;").expect("there are few scripts");
     }
-    let full = manager.submit("BEGIN TRANSACTION; COMMIT;").unwrap_err();
+    let full = driver.submit("BEGIN TRANSACTION; COMMIT;").unwrap_err();
     assert_eq!((full.to_string().as_str(), code_of(full)), ("10,000 scripts were submitted", 406));
-    let busy = manager.close().unwrap_err();
+    let busy = driver.close().unwrap_err();
     assert_eq!((busy.to_string().as_str(), code_of(busy)), ("a run is on, or a transaction waits for one", 405));
-    let long = Manager::open(&" ".repeat(16_777_217)).unwrap_err();
+    let long = Driver::open(&" ".repeat(16_777_217)).unwrap_err();
     assert_eq!((long.to_string().as_str(), code_of(long)), ("the call is refused", 105));
     let fault = report("CREATE", Version::One).unwrap_err();
     assert_eq!(Error::from(fault), Error::Fault(fault));
@@ -166,11 +166,11 @@ fn each_error_says_what_it_is() {
 fn tables_with_too_many_rows_are_not_renewed() {
     let rows = |table: &str| (0..32_768).map(|row| format!("INSERT INTO {table} VALUES ({row});")).collect::<String>();
     let tables = format!("CREATE TABLE T (a INT); CREATE TABLE U (a INT);{}{}", rows("T"), rows("U"));
-    let mut manager = Manager::open(&tables).expect("there are just few enough rows");
-    manager.submit("BEGIN TRANSACTION; INSERT INTO T VALUES (-1); COMMIT;").expect("the script is right");
-    manager.run().expect("memory is there");
-    manager.close().expect("all have their fates");
-    let error = manager.renew().unwrap_err();
+    let mut driver = Driver::open(&tables).expect("there are just few enough rows");
+    driver.submit("BEGIN TRANSACTION; INSERT INTO T VALUES (-1); COMMIT;").expect("the script is right");
+    driver.run().expect("memory is there");
+    driver.close().expect("all have their fates");
+    let error = driver.renew().unwrap_err();
     assert_eq!((error.to_string().as_str(), code_of(error)), ("the tables have more than 65,536 rows together", 407));
 }
 
@@ -213,42 +213,42 @@ fn bytes_are_taken_as_texts_are() {
         Ok(true)
     );
     assert!(check_bytes(b"\xff").is_ok_and(|verdict| verdict != entangle::Verdict::Yes));
-    assert!(matches!(Manager::open_bytes(b"\xff").map_err(code_of), Err(100)));
+    assert!(matches!(Driver::open_bytes(b"\xff").map_err(code_of), Err(100)));
 }
 
 #[test]
 fn what_may_be_shared_is_shared() {
     fn moves<T: Send>() {}
     fn is_shared<T: Send + Sync>() {}
-    moves::<Manager>();
+    moves::<Driver>();
     is_shared::<Shared>();
     is_shared::<Error>();
     is_shared::<Value>();
 }
 
 #[test]
-fn a_closed_manager_goes_on_with_its_tables() {
-    let mut manager = Manager::open(TABLE).expect("the table is right");
-    assert_eq!(manager.renew(), Err(Error::State));
+fn a_closed_driver_goes_on_with_its_tables() {
+    let mut driver = Driver::open(TABLE).expect("the table is right");
+    assert_eq!(driver.renew(), Err(Error::State));
     let insert = |number: i64| format!("BEGIN TRANSACTION; INSERT INTO T VALUES ({number}); COMMIT;");
     for number in 0..3 {
-        assert_eq!(manager.submit(&insert(number)), Ok(1));
-        manager.run().expect("memory is there");
-        manager.close().expect("all have their fates");
-        manager.renew().expect("there are few rows");
-        assert_eq!(manager.standing(1).map_err(code_of), Err(401));
+        assert_eq!(driver.submit(&insert(number)), Ok(1));
+        driver.run().expect("memory is there");
+        driver.close().expect("all have their fates");
+        driver.renew().expect("there are few rows");
+        assert_eq!(driver.standing(1).map_err(code_of), Err(401));
     }
-    assert_eq!(manager.table("T"), Ok((0..3).map(|number| vec![Value::Int(number)]).collect()));
+    assert_eq!(driver.table("T"), Ok((0..3).map(|number| vec![Value::Int(number)]).collect()));
 }
 
 #[test]
 fn events_are_made_one_at_a_time() {
-    let mut manager = Manager::open(TABLE).expect("the table is right");
+    let mut driver = Driver::open(TABLE).expect("the table is right");
     let alone = "BEGIN TRANSACTION WITHIN 1 RUNS;
         SELECT 'Eve', a INTO ANSWER R WHERE a IN (SELECT a FROM T) AND ('Finn', a) IN ANSWER R CHOOSE 1; COMMIT;";
-    let eve = manager.submit(alone).expect("the script is right");
-    let writer = manager.submit("BEGIN TRANSACTION; INSERT INTO T VALUES (1); COMMIT;").expect("so is this");
-    assert_eq!(manager.why(eve).as_deref(), Ok("dormant after 0, and waits for a run"));
+    let eve = driver.submit(alone).expect("the script is right");
+    let writer = driver.submit("BEGIN TRANSACTION; INSERT INTO T VALUES (1); COMMIT;").expect("so is this");
+    assert_eq!(driver.why(eve).as_deref(), Ok("dormant after 0, and waits for a run"));
     let steps = [
         (Step::EndRun, Reply::NotNow),
         (Step::StartRun, Reply::Started),
@@ -262,18 +262,18 @@ fn events_are_made_one_at_a_time() {
         (Step::BreakCycle, Reply::NoCycle),
     ];
     for (step, reply) in steps {
-        assert_eq!(manager.step(step), Ok(reply), "{step:?}");
+        assert_eq!(driver.step(step), Ok(reply), "{step:?}");
     }
-    let why = manager.why(eve).expect("it was submitted");
+    let why = driver.why(eve).expect("it was submitted");
     assert!(why.starts_with("posted") && why.contains("('Finn', _) IN ANSWER R"), "{why}");
-    assert_eq!(manager.step(Step::EndRun), Ok(Reply::Ended));
-    assert_eq!(manager.why(eve).as_deref(), Ok("gave up after 1"));
-    assert_eq!(manager.why(3).map_err(code_of), Err(401));
+    assert_eq!(driver.step(Step::EndRun), Ok(Reply::Ended));
+    assert_eq!(driver.why(eve).as_deref(), Ok("gave up after 1"));
+    assert_eq!(driver.why(3).map_err(code_of), Err(401));
 }
 
 #[test]
-fn a_manager_moves_between_threads() {
-    let shared = Shared::new(Manager::open(TABLE).expect("the table is right"));
+fn a_driver_moves_between_threads() {
+    let shared = Shared::new(Driver::open(TABLE).expect("the table is right"));
     thread::scope(|scope| {
         for number in 0..16 {
             let shared = &shared;
@@ -284,17 +284,17 @@ fn a_manager_moves_between_threads() {
             });
         }
     });
-    let mut manager = shared.into_inner();
-    thread::spawn(move || assert_eq!(manager.table("T").map(|rows| rows.len()), Ok(16))).join().expect("it is right");
+    let mut driver = shared.into_inner();
+    thread::spawn(move || assert_eq!(driver.table("T").map(|rows| rows.len()), Ok(16))).join().expect("it is right");
 }
 
 #[test]
-fn a_thousand_managers_come_and_go() {
+fn a_thousand_drivers_come_and_go() {
     for number in 0..1000 {
-        let mut manager = Manager::open(TABLE).expect("the table is right");
-        manager.submit("BEGIN TRANSACTION; INSERT INTO T VALUES (1); COMMIT;").expect("the script is right");
+        let mut driver = Driver::open(TABLE).expect("the table is right");
+        driver.submit("BEGIN TRANSACTION; INSERT INTO T VALUES (1); COMMIT;").expect("the script is right");
         if number % 2 == 0 {
-            manager.run().expect("memory is there");
+            driver.run().expect("memory is there");
         }
     }
 }

@@ -2,7 +2,7 @@
 //! process goes on. (The library's own allocations fail in turn in `bindings/c/calls.c`.)
 
 use entangle::{
-    Answer, Ending, Error, Fault, FaultKind, Manager, Patience, Room, RoomError, RoomOptions, Row, Stepped,
+    Answer, Ending, Error, Fault, FaultKind, Driver, Patience, Room, RoomError, RoomOptions, Row, Stepped,
 };
 use entangle::{Ticket, Value, Verdict, Version};
 use std::alloc::{GlobalAlloc, Layout, System};
@@ -66,7 +66,7 @@ fn refused<T: Debug>(mut call: impl FnMut() -> Result<T, Error>) -> (T, usize) {
 }
 
 #[test]
-fn calls_without_a_manager_tell_that_memory_ran_out() {
+fn calls_without_a_driver_tell_that_memory_ran_out() {
     let input = format!("CREATE TABLE T (a INT);\n{}", "INSERT INTO T VALUES (1);\n".repeat(200));
     let (report, count) = refused(|| Ok(entangle::report(&input, Version::Two)?));
     assert!(report.ends_with("end\n") && count > 0);
@@ -77,12 +77,12 @@ fn calls_without_a_manager_tell_that_memory_ran_out() {
 }
 
 #[test]
-fn calls_of_a_manager_tell_that_memory_ran_out() {
-    let mut manager = Manager::open("CREATE TABLE T (a INT, b TEXT);").expect("the table is right");
+fn calls_of_a_driver_tell_that_memory_ran_out() {
+    let mut driver = Driver::open("CREATE TABLE T (a INT, b TEXT);").expect("the table is right");
     let inserts: String = (0..20).map(|number| format!("INSERT INTO T VALUES ({number}, 'it''s');\n")).collect();
     for number in 0..5 {
         let script = format!("BEGIN TRANSACTION;\n{}COMMIT;", inserts.replace("it", &format!("{number}it")));
-        manager.submit(&script).expect("the script is right");
+        driver.submit(&script).expect("the script is right");
     }
     let pair = |who: &str, friend: &str| {
         format!(
@@ -90,19 +90,19 @@ fn calls_of_a_manager_tell_that_memory_ran_out() {
                AND ('{friend}', a) IN ANSWER R CHOOSE 1; SELECT * FROM T; SET @d = 'it''s'; COMMIT;"
         )
     };
-    let tx = manager.submit(&pair("Ann", "Bob")).expect("the script is right");
-    manager.submit(&pair("Bob", "Ann")).expect("the script is right");
-    manager.run().expect("memory is there");
-    let (rows, count) = refused(|| manager.table("T"));
+    let tx = driver.submit(&pair("Ann", "Bob")).expect("the script is right");
+    driver.submit(&pair("Bob", "Ann")).expect("the script is right");
+    driver.run().expect("memory is there");
+    let (rows, count) = refused(|| driver.table("T"));
     assert!(rows.len() == 100 && rows[99][1] == "4it's" && count > 100);
-    let (answers, count) = refused(|| manager.answers(tx));
+    let (answers, count) = refused(|| driver.answers(tx));
     assert!(matches!(&answers[..], [Answer::Entangled(_), Answer::Rows(_), Answer::Set(_)]) && count > 100);
-    assert!(refused(|| manager.answer_lines(tx)).1 > 0);
-    assert_eq!(refused(|| manager.why(tx)).0, "committed 6 after 1");
-    assert!(refused(|| manager.explain("BEGIN")).0.is_some());
-    refused(|| manager.standing(tx));
-    refused(|| manager.close());
-    let (report, _) = refused(|| manager.report(Version::Two));
+    assert!(refused(|| driver.answer_lines(tx)).1 > 0);
+    assert_eq!(refused(|| driver.why(tx)).0, "committed 6 after 1");
+    assert!(refused(|| driver.explain("BEGIN")).0.is_some());
+    refused(|| driver.standing(tx));
+    refused(|| driver.close());
+    let (report, _) = refused(|| driver.report(Version::Two));
     assert!(matches!(entangle::check(&report), Ok(Verdict::Yes)));
 }
 

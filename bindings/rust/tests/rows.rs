@@ -1,6 +1,6 @@
 //! The worked rows of the program, byte for byte: those whose command line is a run without threads, or a check.
 
-use entangle::{Error, Fault, Manager, Verdict, Version, check_bytes, explain_bytes, report_of_bytes};
+use entangle::{Error, Fault, Driver, Verdict, Version, check_bytes, explain_bytes, report_of_bytes};
 use std::fs;
 use std::path::PathBuf;
 
@@ -30,14 +30,14 @@ fn rows() -> Vec<Row> {
     index.lines().skip(1).map(row).collect()
 }
 
-/// The report of a manager that is opened over an input and run until it can be closed.
+/// The report of a driver that is opened over an input and run until it can be closed.
 fn driven(input: &[u8], version: Version) -> Result<String, Error> {
-    let mut manager = Manager::open_bytes(input)?;
-    while let Err(error) = manager.close() {
+    let mut driver = Driver::open_bytes(input)?;
+    while let Err(error) = driver.close() {
         assert!(matches!(error, Error::Fault(Fault { code: 405, place: None, .. })), "{error}");
-        manager.run()?;
+        driver.run()?;
     }
-    manager.report(version)
+    driver.report(version)
 }
 
 /// What a run of this version gives: its status, its report and the line on standard error.

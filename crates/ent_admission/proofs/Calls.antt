@@ -35,6 +35,7 @@ use Rattle.ent_admission.proofs.Keeping.{Changed, indexed_at, indexed_same, kept
 use Rattle.ent_admission.specs.Admission.{IsAtRest, IsBatch, waits_chosen}
 use Rattle.ent_admission.specs.Moves.{WaitsAgain, ended_with, news_of, submission_at, submission_in}
 use Rattle.ent_waiting.specs.declared.ended.Ending.TheVariants.{GaveUp}
+use Rattle.ent_admission.specs.Again.{counts_for}
 use Rattle.ent_admission.specs.declared.batch.Again.{Again}
 use Rattle.ent_admission.proofs.Numbers.{all_keys, numbered_kept, numbered_last}
 use Rattle.ent_form.specs.Catalogue.{schemas_of}
@@ -426,22 +427,22 @@ pub back_settled : (again : Again) (old new : WaitingList) (ticket : ℕ) (waite
 back_settled again old new ticket waiter waits =
     ap (is_stationed Batch)
     (waits.updates ticket
-    ∙ ap (λ (b : Bool). cond b (back_or_gone again.rank again.counts again.alone waiter) (waiter_of old ticket))
+    ∙ ap (λ (b : Bool). cond b (back_or_gone again.rank (counts_for again ticket) false waiter) (waiter_of old ticket))
     (here ticket))
-    ∙ back_by (is_over waiter.patience (with_batch again.counts waiter.batches)) again.rank again.counts
-    again.alone waiter
+    ∙ back_by (is_over waiter.patience (with_batch (counts_for again ticket) waiter.batches)) again.rank (counts_for again ticket)
+    false waiter
 
 pub back_others : (again : Again) (old new : WaitingList) (ticket : ℕ) (waiter : Waiter)
     → WaitsAgain again ticket waiter old new → (other : ℕ) → is_at (nat_cmp ticket) other ≡ false
     → waiter_of new other ≡ waiter_of old other
 back_others again old new ticket waiter waits other apart =
     waits.updates other
-    ∙ ap (λ (b : Bool). cond b (back_or_gone again.rank again.counts again.alone waiter) (waiter_of old other)) apart
+    ∙ ap (λ (b : Bool). cond b (back_or_gone again.rank (counts_for again ticket) false waiter) (waiter_of old other)) apart
 
 -- who waited again or gave up is to be told where it gave up
 news_by : (over : Bool) (ticket : ℕ) (again : Again) (waiter : Waiter) (found : Option Waiter)
     (older newer : List EndedTicket)
-    → found ≡ (if over then None else Some (back_in again.rank again.counts again.alone waiter))
+    → found ≡ (if over then None else Some (back_in again.rank (counts_for again ticket) false waiter))
     → (found ≡ None → newer ≡ older ++ news_of ticket (Some GaveUp))
     → ((own : Waiter) → found ≡ Some own → newer ≡ older)
     → newer ≡ older ++ news_of ticket (if over then Some GaveUp else None)
@@ -449,13 +450,13 @@ news_by true ticket again waiter found older newer is gone stays = gone is
 news_by false ticket again waiter found older newer is gone stays = stays _ is ∙ sym (append-nil older)
 
 pub news_again : (old new : WaitingList) (ticket : ℕ) (again : Again) (waiter : Waiter) (older newer : List EndedTicket)
-    → UpdatesAt ticket (back_or_gone again.rank again.counts again.alone waiter) old.waiters new.waiters
+    → UpdatesAt ticket (back_or_gone again.rank (counts_for again ticket) false waiter) old.waiters new.waiters
     → (waiter_of new ticket ≡ None → newer ≡ older ++ news_of ticket (Some GaveUp))
     → ((own : Waiter) → waiter_of new ticket ≡ Some own → newer ≡ older)
-    → newer ≡ older ++ news_of ticket (ended_with None again waiter)
+    → newer ≡ older ++ news_of ticket (ended_with None again ticket waiter)
 news_again old new ticket again waiter older newer updates gone stays =
-    let value = back_or_gone again.rank again.counts again.alone waiter in
-    news_by (is_over waiter.patience (with_batch again.counts waiter.batches)) ticket again waiter
+    let value = back_or_gone again.rank (counts_for again ticket) false waiter in
+    news_by (is_over waiter.patience (with_batch (counts_for again ticket) waiter.batches)) ticket again waiter
     (waiter_of new ticket)
     older newer (updates ticket ∙ ap (λ (b : Bool). cond b value (waiter_of old ticket)) (here ticket)) gone stays
 

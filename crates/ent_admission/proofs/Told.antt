@@ -14,7 +14,7 @@ use Rattle.ent_semantics.specs.declared.book.Entry.{Entry}
 use Rattle.ent_form.specs.OpeningFault.{opening_fault}
 use Rattle.ent_form.specs.declared.fault.FormFault.{FormFault}
 use Rattle.ent_epoch.specs.Passed.{resolved_forms}
-use Rattle.ent_serializability.specs.Commits.{GoesOnBy, committed_by}
+use Rattle.ent_protocol_laws.specs.Commits.{GoesOnBy, committed_by}
 use Rattle.ent_epoch.specs.Telling.{HaveTickets, Telling, TellsRest, telling_at}
 use Rattle.ent_protocol.specs.Event.{Event, Recall, Recalled, Reply, StartRun, Submit, Submitted}
 use Rattle.ent_protocol.specs.Reached.{IsReached, LeadsTo, book_of, named_tables, opened, settled, table_names}

@@ -56,7 +56,7 @@ fresh number opening next next_group most_waiters most_ended =
       epoch = begun number opening;
       list = nobody next most_waiters most_ended;
       coming = record { keys = [] };
-      again = record { rank = Woken; counts = true; alone = false };
+      again = record { rank = Woken; root = None };
       feed = no_groups next_group;
       news = [];
     }

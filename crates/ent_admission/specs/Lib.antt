@@ -1,3 +1,4 @@
+pub mod Again
 pub mod Admission
 pub mod Moves
 pub mod Groups

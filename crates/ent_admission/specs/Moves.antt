@@ -25,6 +25,7 @@ use Rattle.ent_waiting.specs.declared.waiter.WaitingPlace.TheVariants.{Chosen, S
 use Rattle.ent_waiting.specs.declared.waiter.Submission.{Submission}
 use Rattle.ent_waiting.specs.declared.waiter.Waiter.{Waiter}
 use Rattle.ent_admission.specs.Admission.{Admission}
+use Rattle.ent_admission.specs.Again.{counts_for}
 use Rattle.ent_admission.specs.declared.batch.Again.{Again}
 
 -- who is to come stands ready
@@ -77,8 +78,8 @@ ending_with epoch other = None
 
 -- it waits again as it was planned, or gives up where its patience is used up
 pub record WaitsAgain (again : Again) (ticket : ℕ) (waiter : Waiter) (old new : WaitingList) : Type 0 where
-  pub list : new ≡ back ticket again.rank again.counts again.alone waiter old
-  pub updates : UpdatesAt ticket (back_or_gone again.rank again.counts again.alone waiter) old.waiters new.waiters
+  pub list : new ≡ back ticket again.rank (counts_for again ticket) false waiter old
+  pub updates : UpdatesAt ticket (back_or_gone again.rank (counts_for again ticket) false waiter) old.waiters new.waiters
 
 -- the transaction that a script is at its place
 abbrev pub submission_in : WaitingPlace → Option Submission
@@ -101,10 +102,10 @@ SettlesAs None again ticket waiter old new = WaitsAgain again ticket waiter old 
 -- ---- what is to be told
 
 -- how it ends after all: so, or it gives up where its patience is used up; else it waits again
-abbrev pub ended_with : Option Ending → Again → Waiter → Option Ending
-ended_with (Some ending) again waiter = Some ending
-ended_with None again waiter =
-    if is_over waiter.patience (with_batch again.counts waiter.batches) then Some GaveUp else None
+abbrev pub ended_with : Option Ending → Again → ℕ → Waiter → Option Ending
+ended_with (Some ending) again ticket waiter = Some ending
+ended_with None again ticket waiter =
+    if is_over waiter.patience (with_batch (counts_for again ticket) waiter.batches) then Some GaveUp else None
 
 -- an ending that no commit tells; who withdrew knows it
 abbrev pub other_ending : Ending → Option OtherEnding
@@ -135,7 +136,7 @@ pub record Settles (old new : Admission) : Type 0 where
   pub again : new.again ≡ old.again
   pub feed : new.feed ≡ old.feed
   pub news : new.news
-      ≡ old.news ++ news_of ticket (ended_with (ending_at old.epoch submission) old.again stands.waiter)
+      ≡ old.news ++ news_of ticket (ended_with (ending_at old.epoch submission) old.again ticket stands.waiter)
 
 -- ---- what is told
 

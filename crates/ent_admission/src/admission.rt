@@ -83,8 +83,7 @@ impl Admission {
             coming: BTreeSet::new(alloc),
             again: Again {
                 rank: Rank::Woken,
-                counts: true,
-                alone: false,
+                root: None,
             },
             feed: Feed::new(alloc, next_group),
             news: Vec::new(alloc),

@@ -11,8 +11,7 @@ ghost use Rattle.ent_protocol.specs.Reached.{book_of};
 use ent_epoch::resolved_runs_are_legal;
 use ent_feed::{groups_give_the_journal, groups_give_the_settled_tables};
 use ent_form::FormFault;
-use ent_protocol_laws::steps_go_on;
-use ent_serializability::journals_grow_by_commits;
+use ent_protocol_laws::{journals_grow_by_commits, steps_go_on};
 
 /// What advances twice advances, and so does what only shifts.
 pub fn acts_go_on()

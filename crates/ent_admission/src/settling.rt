@@ -17,7 +17,7 @@ ghost use Rattle.ent_waiting.specs.declared.waiter.Waiter.{Waiter as WaiterSeen}
 ghost use Rattle.ent_waiting.specs.declared.queues.Station.TheVariants.{Batch};
 
 use crate::admission::Admission;
-use crate::batch::Again;
+use crate::batch::counts_for;
 use ent_feed::{EndedTicket, NoNumber, OtherEnding};
 use ent_meetings::Index;
 use ent_semantics::Fate;
@@ -136,7 +136,7 @@ impl Admission {
             → WaitsAgain self.old.again ticket waiter self.old.list self.new.list) }
         ensures news { OnOk result ((waiter : WaiterSeen)
             → waiter_of self.old.list ticket ≡ Some waiter
-            → self.new.news ≡ self.old.news ++ news_of ticket (ended_with None self.old.again waiter)) }
+            → self.new.news ≡ self.old.news ++ news_of ticket (ended_with None self.old.again ticket waiter)) }
         ensures epoch { self.new.epoch ≡ self.old.epoch }
         ensures coming { self.new.coming ≡ self.old.coming }
         ensures again { self.new.again ≡ self.old.again }
@@ -145,13 +145,9 @@ impl Admission {
         ensures onward { Onward self.old.list self.new.list }
     {
         let own = Ticket::new(ticket);
-        let Again {
-            rank,
-            counts,
-            alone,
-        } = self.again;
+        let counts = counts_for(self.again, ticket);
         self.news.reserve(1)?;
-        self.list.wait_again(own, rank, counts, alone)?;
+        self.list.wait_again(own, self.again.rank, counts, false)?;
         keep_up(&mut self.index, &mut self.news, &self.list, own);
         Ok(())
     }

@@ -3,7 +3,7 @@ use Rattle.std.proofs.Common.{ℕ, List, map, refl}
 use Rattle.std.proofs.lemmas.List.Sorted.{IsPermutation-refl}
 use Rattle.ent_tree.specs.declared.script.Input.{Input}
 use Rattle.ent_tree.specs.Places.{unplaced_script}
-use Rattle.ent_engine.specs.Reading.{IsInput, IsRead}
+use Rattle.ent_input.specs.Reading.{IsInput, IsRead}
 use Rattle.ent_arrange.specs.Arranged.{IsArranged}
 use Rattle.ent_arrange.specs.Written.{Arranges}
 use Rattle.ent_arrange.proofs.Formed.{FirstIsFirst, PlacesMakeNoFault, still_formed}

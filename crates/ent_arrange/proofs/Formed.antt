@@ -19,10 +19,10 @@ use Rattle.ent_form.specs.declared.catalogue.TableSchema.{TableSchema}
 use Rattle.ent_form.specs.declared.fault.FormFault.{FormFault}
 use Rattle.ent_form.proofs.FirstFault.{headless}
 use Rattle.ent_headline.specs.Resolved.{resolved_forms}
-use Rattle.ent_sched.specs.Play.{input_fault, scripts_fault}
-use Rattle.ent_answer_laws.specs.Faults.{unplaced_fault}
-use Rattle.ent_answer_laws.specs.Unplaced.{unplaced_create}
-use Rattle.ent_form_laws.proofs.Steps.{nothing_first, nothing_later, both_nothing}
+use Rattle.ent_form.specs.InputFault.{input_fault, scripts_fault}
+use Rattle.ent_program_laws.specs.Faults.{unplaced_fault}
+use Rattle.ent_program_laws.specs.Unplaced.{unplaced_create}
+use Rattle.ent_form.proofs.ResolvedSteps.{nothing_first, nothing_later, both_nothing}
 use Rattle.ent_arrange.specs.Arranged.{IsArranged}
 
 -- ---- checks

@@ -2,11 +2,11 @@
 use Rattle.std.specs.Prelude.{ℕ, List, Option}
 use Rattle.std.specs.Io.KnownBytes.{Appends}
 use Rattle.ent_tree.specs.declared.script.Input.{Input}
-use Rattle.ent_book.specs.Write.{AppendsBeginning}
-use Rattle.ent_engine.specs.Reading.{IsInput}
+use Rattle.ent_print.specs.Write.{AppendsBeginning}
+use Rattle.ent_input.specs.Reading.{IsInput}
 use Rattle.ent_engine.specs.declared.fault.RunFault.{RunFault}
-use Rattle.ent_engine.specs.declared.fault.RunFault.TheVariants.{NotUtf8, TooLong, Sql, Form, Check, Differs}
-use Rattle.ent_engine.specs.declared.fault.RunFault.TheVariants.{ReadFault, WriteFault, Memory}
+use Rattle.ent_engine.specs.declared.fault.RunFault.TheVariants.{Input as OfInput, Check, Differs, ReadFault, WriteFault}
+use Rattle.ent_engine.specs.declared.fault.RunFault.TheVariants.{Memory}
 use Rattle.ent_arrange.specs.Arranged.{IsArranged}
 
 -- the text is an input without a fault, with the scripts of the input that the bytes are in another order
@@ -25,10 +25,7 @@ WritesArranged bytes old new = (text : List ℕ) × Arranges bytes text × Appen
 abbrev pub WritesBeginning : List ℕ → Option (List ℕ) → Option (List ℕ) → RunFault → Type 0
 WritesBeginning bytes old new WriteFault = (text : List ℕ) × Arranges bytes text × AppendsBeginning old new text
 WritesBeginning bytes old new ReadFault = Unit {0}
-WritesBeginning bytes old new (NotUtf8 place) = Unit {0}
-WritesBeginning bytes old new TooLong = Unit {0}
-WritesBeginning bytes old new (Sql fault) = Unit {0}
-WritesBeginning bytes old new (Form fault) = Unit {0}
+WritesBeginning bytes old new (OfInput fault) = Unit {0}
 WritesBeginning bytes old new (Check fault) = Unit {0}
 WritesBeginning bytes old new Differs = Unit {0}
 WritesBeginning bytes old new Memory = Unit {0}

@@ -1,12 +1,12 @@
 //! A whole input arranged: bytes in, the text with its scripts in another order out.
-ghost use Rattle.std.specs.Prelude.{◌≡◌, ◌≤◌, length, IfErr, IfOk, IsTrue, OnOk};
+ghost use Rattle.std.specs.Prelude.{◌≡◌, length, IfErr, IfOk, IsTrue, OnOk};
 ghost use Rattle.std.specs.List.{range_with_len};
 ghost use Rattle.std.specs.List.Sorted.{IsPermutation};
 ghost use Rattle.ent_value.specs.Watched.{IsUnmarked};
 ghost use Rattle.ent_tree.specs.declared.script.Input.{Input};
 ghost use Rattle.ent_engine.specs.Io.{IsSilent, IsWriterMarkedBy};
-ghost use Rattle.ent_engine.specs.Reading.{IsRead, IsRefused, IsRefusedInRun};
-ghost use Rattle.ent_engine.specs.declared.reader.TheConstants.{MOST_BYTES};
+ghost use Rattle.ent_engine.specs.Reading.{IsRefused, IsRefusedInRun};
+ghost use Rattle.ent_input.specs.Reading.{IsRead};
 ghost use Rattle.ent_arrange.specs.Arranged.{IsArranged, WasRead};
 ghost use Rattle.ent_arrange.specs.Written.{Arranges, WritesArranged, WritesBeginning};
 
@@ -14,14 +14,15 @@ use crate::again::is_arranged;
 use crate::cut::Cut;
 use crate::order::order;
 use crate::told::ArrangementSummary;
-use crate::write::write_whole;
-use ent_answer_laws::faults_are_the_same_without_places;
-use ent_book::WriteFault;
-use ent_engine::{MOST_BYTES, RunFault, parse_bytes, submit_all};
+use ent_core::Core;
+use ent_engine::RunFault;
 use ent_fault_text::valid_text;
-use ent_form_laws::first_fault_is_first;
+use ent_form::first_fault_is_first;
+use ent_input::read_input;
+use ent_print::{WriteFault, write_whole};
+use ent_program_laws::faults_are_the_same_without_places;
 use ent_tree::Input;
-use ent_value::Watched;
+use ent_value::{Refusal, Watched};
 use std::alloc::{AllocError, Global};
 use std::io::Write;
 
@@ -41,7 +42,6 @@ pub fn arrange<'a, W: Write>(
     bytes: &'a [u8],
     writer: &mut Watched<W>,
 ) -> Result<ArrangementSummary<'a>, RunFault>
-    requires limit { length bytes.now ≤ MOST_BYTES }
     requires unmarked { IsUnmarked writer.old }
     ensures written { OnOk result
         (WritesArranged bytes.now (W.contents writer.old.inner) (W.contents writer.new.inner)) }
@@ -68,13 +68,12 @@ struct Arranged<'a> {
 
 /// The text of an input with its scripts in another order, or the input's first fault.
 fn text_and_told<'a>(alloc: Global, bytes: &'a [u8]) -> Result<Arranged<'a>, RunFault>
-    requires { length bytes.now ≤ MOST_BYTES }
     ensures ok { IfOk result (λ made. Arranges bytes.now made.text.items) }
     ensures err { IfErr result (λ fault. IsRefused bytes.now fault) }
 {
     first_fault_is_first();
     faults_are_the_same_without_places();
-    let input = parse_bytes(alloc, bytes)?;
+    let input = read_input(alloc, bytes)?;
     let text = valid_text(bytes);
     let scripts = input.scripts.as_slice();
     let arrangement = order(alloc, scripts)?;
@@ -82,7 +81,7 @@ fn text_and_told<'a>(alloc: Global, bytes: &'a [u8]) -> Result<Arranged<'a>, Run
     let order = arrangement.order.as_slice();
     let arranged = in_order(alloc, &Cut::of(alloc, text)?, order)?;
     let is_right = is_right(alloc, &input, order, arranged.as_slice())?;
-    submit_all(alloc, input)?;
+    Core::over(alloc, input)?;
     let text = if is_right {
         arranged
     } else {
@@ -120,12 +119,9 @@ fn is_right(alloc: Global, input: &Input, order: &[usize], text: &[u8]) -> Resul
     ensures { IfOk result (λ right. IsTrue right
         → (again : Input) × IsRead text.now again × IsArranged input.now again) }
 {
-    if text.len() > MOST_BYTES {
-        return Ok(false);
-    }
-    match parse_bytes(alloc, text) {
+    match read_input(alloc, text) {
         Ok(again) => is_arranged(alloc, input, order, &again),
-        Err(RunFault::Memory) => Err(AllocError),
-        Err(_) => Ok(false),
+        Err(Refusal::Memory) => Err(AllocError),
+        Err(Refusal::Fault(_)) => Ok(false),
     }
 }

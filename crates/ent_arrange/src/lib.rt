@@ -15,7 +15,6 @@ mod order;
 mod sizes;
 mod told;
 mod waiting;
-mod write;
 
 pub use arranging::arrange;
 pub use told::ArrangementSummary;

@@ -1,5 +1,4 @@
 pub mod Ascending
-pub mod Beginning
 pub mod Names
 pub mod NoRows
 mod FirstOfEach

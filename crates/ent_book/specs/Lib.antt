@@ -1,4 +1,5 @@
 pub mod Report
 pub mod Report2
 pub mod Tables
+pub mod Version
 pub mod Write

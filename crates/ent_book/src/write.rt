@@ -1,25 +1,21 @@
 //! A report written out.
-ghost use Rattle.std.specs.Prelude.{◌≡◌, Err, List, OnErr, OnOk, is_err, ℕ};
+ghost use Rattle.std.specs.Prelude.{◌≡◌, Err, List, OnErr, OnOk, ℕ};
 ghost use Rattle.std.specs.Io.KnownBytes.{Appends};
 ghost use Rattle.ent_value.specs.Watched.{IsUnmarked};
 ghost use Rattle.ent_value.specs.declared.refusal.Refusal.TheVariants.{Memory};
+ghost use Rattle.ent_print.specs.Write.{AppendsBeginning, is_marked};
 ghost use Rattle.ent_book.specs.Report.{report_text};
 ghost use Rattle.ent_book.specs.Report2.{report_2_text};
 ghost use Rattle.ent_book.specs.Tables.{book_seen};
-ghost use Rattle.ent_book.specs.Write.{AppendsBeginning, is_fault, is_marked};
+ghost use Rattle.ent_book.specs.Write.{is_fault};
 
 use crate::report::{report, report_2};
 use crate::table::NamedTable;
+use ent_print::{WriteFault, write_whole};
 use ent_semantics::Book;
 use ent_value::{Refusal, Sequence, Watched};
 use std::alloc::Global;
 use std::io::Write;
-use thiserror::Error;
-
-/// The writer failed, or took no byte of some; what it took is a beginning of the report.
-#[derive(Clone, Copy, Debug, PartialEq, Eq, Error)]
-#[error("E602: the report can't be written")]
-pub struct WriteFault;
 
 /// Writes the report of a book, version 1. The whole text is made before its first byte is written, so that nothing is
 /// written where memory runs out.
@@ -69,25 +65,5 @@ pub fn write_report_2<W: Write>(
     match write_whole(writer, text.as_slice()) {
         Ok(()) => Ok(()),
         Err(fault) => Err(Refusal::Fault(fault)),
-    }
-}
-
-fn write_whole<W: Write>(writer: &mut Watched<W>, text: &[u8]) -> Result<(), WriteFault>
-    requires unmarked { IsUnmarked writer.old }
-    ensures written { OnOk result (Appends (W.contents writer.old.inner) (W.contents writer.new.inner) text.now) }
-    ensures beginning { OnErr result
-        (AppendsBeginning (W.contents writer.old.inner) (W.contents writer.new.inner) text.now) }
-    ensures marks { is_marked writer.new ≡ is_err result }
-{
-    let mut rest = text;
-    while !rest.is_empty() {
-        match writer.write(rest) {
-            Ok(0) | Err(_) => return Err(WriteFault),
-            Ok(count) => rest = rest.split_at(count).1,
-        }
-    }
-    match writer.flush() {
-        Ok(()) => Ok(()),
-        Err(_) => Err(WriteFault),
     }
 }

@@ -2,7 +2,7 @@
 use Rattle.std.proofs.Common.{◌≡◌, None, Some, ap, subst, sym}
 use Rattle.ent_driver.specs.declared.driver.Driver.{Driver}
 use Rattle.ent_driver.specs.declared.driver.Driver.TheVariants.{Vacant}
-use Rattle.ent_c.specs.Managers.{Held, behind}
+use Rattle.ent_c.specs.Drivers.{Held, behind}
 
 -- P holds behind a handle that holds this driver
 pub behind_some : (P : Driver → Type 0) {held : Held} {driver : Driver} →

@@ -4,11 +4,11 @@ use Rattle.ent_driver.specs.Drives.{HasOpening}
 use Rattle.ent_driver.specs.Scripts.{HasForm, IsFaultOver}
 use Rattle.ent_driver.specs.declared.driver.Driver.{Driver}
 use Rattle.ent_driver.specs.declared.fault.DriverFault.{DriverFault}
-use Rattle.ent_engine.specs.declared.fault.RunFault.{RunFault}
+use Rattle.ent_input.specs.declared.fault.InputFault.{InputFault}
 use Rattle.ent_tree.specs.declared.declaration.Opening.{Opening}
 use Rattle.ent_c.specs.Explaining.{IsFaultOf, IsScriptOf}
 
-pub of_driver : {A : Type 0} (answer : Result (Option A) DriverFault) (fault_of : A → RunFault) (driver : Driver)
+pub of_driver : {A : Type 0} (answer : Result (Option A) DriverFault) (fault_of : A → InputFault) (driver : Driver)
     (opening : Opening) (bytes : List ℕ) → HasOpening driver opening →
     IfOk answer (λ said. MatchOption said (HasForm opening bytes) (λ said. IsFaultOver opening bytes (fault_of said))) →
     IfOk answer (λ said. MatchOption said (IsScriptOf driver bytes) (λ said. IsFaultOf driver bytes (fault_of said)))

@@ -4,7 +4,7 @@ use Rattle.std.proofs.Common.{w32, ℕ, ℤ}
 use lib.Signed.{mag}
 use Rattle.ent_driver.specs.declared.fault.DriverFault.{DriverFault}
 use Rattle.ent_c.specs.Calls.{Declines, HandsOut}
-use Rattle.ent_c.specs.Managers.{HandsOutOr}
+use Rattle.ent_c.specs.Drivers.{HandsOutOr}
 use Rattle.ent_c.specs.declared.told.CallTold.{CallTold}
 use Rattle.ent_c.proofs.Statuses.{of_signed}
 

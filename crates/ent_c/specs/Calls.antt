@@ -11,8 +11,8 @@ use Rattle.ent_engine.specs.Fault.{status as fault_status}
 use Rattle.ent_engine.specs.Reading.{IsRefused}
 use Rattle.ent_engine.specs.declared.fault.RunFault.{RunFault}
 use Rattle.ent_engine.specs.declared.fault.RunFault.TheVariants.{Check, Memory}
-use Rattle.ent_engine.specs.declared.options.ReportVersion.{ReportVersion}
-use Rattle.ent_engine.specs.declared.options.ReportVersion.TheVariants.{One}
+use Rattle.ent_book.specs.declared.version.ReportVersion.{ReportVersion}
+use Rattle.ent_book.specs.declared.version.ReportVersion.TheVariants.{One}
 use Rattle.ent_driver.specs.Fault.{status as refusal_status}
 use Rattle.ent_driver.specs.declared.fault.DriverFault.{DriverFault}
 use Rattle.ent_c.specs.Text.{laid_over, IsReport, IsSaidOf, verdict_status}

@@ -1,14 +1,15 @@
--- What is said of a script that a manager refuses.
+-- What is said of a script that a driver refuses.
 use Rattle.std.specs.Prelude.{◌≡◌, ◌⊎◌, ℕ, ℤ, pos, List, length}
 use Rattle.ent_tree.specs.declared.declaration.Opening.{Opening}
 use Rattle.ent_engine.specs.Fault.{status as fault_status}
 use Rattle.ent_engine.specs.declared.fault.RunFault.{RunFault}
-use Rattle.ent_engine.specs.declared.fault.RunFault.TheVariants.{Memory}
+use Rattle.ent_engine.specs.declared.fault.RunFault.TheVariants.{Input}
+use Rattle.ent_input.specs.declared.fault.InputFault.{InputFault}
 use Rattle.ent_driver.specs.Drives.{HasOpening, OfOpen}
 use Rattle.ent_driver.specs.Scripts.{HasForm, IsFaultOver}
 use Rattle.ent_driver.specs.declared.driver.Driver.{Driver}
 use Rattle.ent_driver.specs.declared.fault.DriverFault.{DriverFault}
-use Rattle.ent_driver.specs.declared.fault.DriverFault.TheVariants.{Text}
+use Rattle.ent_driver.specs.declared.fault.DriverFault.TheVariants.{Memory}
 use Rattle.ent_c.specs.Calls.{Declines}
 use Rattle.ent_c.specs.Text.{laid_over, IsSaidOf}
 use Rattle.ent_c.specs.Told.{told_of_text, TellsFault}
@@ -19,7 +20,7 @@ abbrev pub IsScriptOf : Driver → List ℕ → Type 0
 IsScriptOf driver bytes = (opening : Opening) × HasOpening driver opening × HasForm opening bytes
 
 -- a core is open, and this is the first fault of these bytes over its tables
-abbrev pub IsFaultOf : Driver → List ℕ → RunFault → Type 0
+abbrev pub IsFaultOf : Driver → List ℕ → InputFault → Type 0
 IsFaultOf driver bytes fault = (opening : Opening) × HasOpening driver opening × IsFaultOver opening bytes fault
 
 -- no text is handed out, and no fault is told
@@ -36,7 +37,7 @@ HandsSaid fault text bytes old new told status =
 abbrev pub ExplainsScript : List ℕ → Driver → List ℕ → List ℕ → CallTold → ℤ → Type 0
 ExplainsScript bytes driver old new told status =
     (IsScriptOf driver bytes × HandsNothing old new told status)
-    ⊎ (((fault : RunFault) × (text : List ℕ) × IsFaultOf driver bytes fault × IsSaidOf fault text
-    × HandsSaid fault text bytes old new told status)
-    ⊎ ((fault : DriverFault) × OfOpen driver fault (λ s. fault ≡ Text Memory)
+    ⊎ (((fault : InputFault) × (text : List ℕ) × IsFaultOf driver bytes fault × IsSaidOf (Input fault) text
+    × HandsSaid (Input fault) text bytes old new told status)
+    ⊎ ((fault : DriverFault) × OfOpen driver fault (λ s. fault ≡ Memory)
     × Declines fault bytes old new told status))

@@ -3,7 +3,7 @@ pub mod Version
 pub mod Told
 pub mod Calls
 pub mod Position
-pub mod Managers
+pub mod Drivers
 pub mod Explaining
 pub mod Moving
 pub mod Rooms

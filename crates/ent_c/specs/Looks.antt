@@ -2,15 +2,12 @@
 use Rattle.std.specs.Prelude.{◌≡◌, ◌⊎◌, ◌≤◌, ℕ, ℤ, pos, List, [], length, Some, None, IsSome, slice_get}
 use Rattle.ent_book.specs.Tables.{book_seen}
 use Rattle.ent_bound.specs.declared.variable.BoundVariable.{BoundVariable}
-use Rattle.ent_engine.specs.Report.{text_of}
-use Rattle.ent_engine.specs.declared.fault.RunFault.{RunFault}
-use Rattle.ent_engine.specs.declared.fault.RunFault.TheVariants as run_faults
-use Rattle.ent_engine.specs.declared.options.ReportVersion.{ReportVersion}
+use Rattle.ent_book.specs.Version.{text_of}
+use Rattle.ent_engine.specs.declared.fault.RunFault.TheVariants.{Input}
+use Rattle.ent_book.specs.declared.version.ReportVersion.{ReportVersion}
 use Rattle.ent_prepare.specs.Prepared.{IsFirstFault}
 use Rattle.ent_prepare.specs.declared.fault.PrepareFault.{PrepareFault}
-use Rattle.ent_prepare.specs.declared.fault.PrepareFault.TheVariants.{Binding, Form, Reading}
-use Rattle.ent_prepare.specs.declared.fault.ReadingFault.{ReadingFault}
-use Rattle.ent_prepare.specs.declared.fault.ReadingFault.TheVariants as reading_faults
+use Rattle.ent_prepare.specs.declared.fault.PrepareFault.TheVariants.{Binding, Text}
 use Rattle.ent_room.specs.Putting.{HasScript, tables_of}
 use Rattle.ent_room.specs.Room.{Room}
 use Rattle.ent_room.specs.State.{StandsAs, submissions_of}
@@ -56,6 +53,7 @@ ticket_state states.Unknown = no_state 0
 ticket_state (states.Waits batches) = record (no_state 1) { batches = batches }
 ticket_state (states.Lonely demand) = record (no_state 2) { demand = demand }
 ticket_state states.NoMeeting = no_state 3
+ticket_state states.Cut = no_state 10
 ticket_state states.InBatch = no_state 4
 ticket_state (states.Ended ending) = ended_state ending
 
@@ -98,16 +96,9 @@ HandsRoom IsText IsFault bytes old new told status =
     ⊎ ((fault : RoomFault) × IsFault fault × (new ≡ old) × TellsRoom fault bytes told
     × (status ≡ pos (fault_status fault)))
 
--- a fault of a script's text, as a run would tell it
-abbrev pub of_reading : ReadingFault → RunFault
-of_reading reading_faults.TooLong = run_faults.TooLong
-of_reading (reading_faults.NotUtf8 place) = run_faults.NotUtf8 place
-of_reading (reading_faults.Sql fault) = run_faults.Sql fault
-
 -- what is said of a fault: the line that names it, and what is below that; of a value that isn't bound, a line in words
 abbrev pub IsSaid : List BoundVariable → PrepareFault → List ℕ → Type 0
-IsSaid variables (Reading fault) text = IsSaidOf (of_reading fault) text
-IsSaid variables (Form fault) text = IsSaidOf (run_faults.Form fault) text
+IsSaid variables (Text fault) text = IsSaidOf (Input fault) text
 IsSaid variables (Binding fault) text = text ≡ binding_line variables fault
 
 -- the fault is told, for which the script wouldn't be put with these values, and what is said of it is handed out

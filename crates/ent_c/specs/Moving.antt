@@ -1,4 +1,4 @@
--- Moves of a manager, and the replies to them, by their numbers.
+-- Moves of a driver, and the replies to them, by their numbers.
 use Rattle.std.specs.Prelude.{◌≡◌, ◌⊎◌, ◌==◌, ℕ, ℤ, pos, Option, Some, None, if◌then◌else◌}
 use Rattle.ent_form.specs.declared.fault.FormFault.{FormFault}
 use Rattle.ent_protocol.specs.Event.{Reply}
@@ -8,7 +8,7 @@ use Rattle.ent_driver.specs.Moves.{IsNotMade, Moves}
 use Rattle.ent_driver.specs.declared.fault.DriverFault.{DriverFault}
 use Rattle.ent_driver.specs.declared.moves.Move.{Move}
 use Rattle.ent_driver.specs.declared.moves.Move.TheVariants as moves
-use Rattle.ent_c.specs.Managers.{Held, behind}
+use Rattle.ent_c.specs.Drivers.{Held, behind}
 
 -- 1 to 5, and no other; the second one is of a transaction
 abbrev pub move_numbered : ℕ → ℕ → Option Move

@@ -7,7 +7,7 @@ use Rattle.ent_room.specs.Passed.{IsAtRest}
 use Rattle.ent_bound.specs.declared.variable.BoundVariable.{BoundVariable}
 use Rattle.ent_prepare.specs.declared.row.GivenRow.{GivenRow}
 use Rattle.ent_prepare.specs.Prepared.{IsFirstFault}
-use Rattle.ent_room.specs.Acts.{Advances}
+use Rattle.ent_room.specs.Acts.{Advances, OnlyShifts}
 use Rattle.ent_room.specs.Putting as putting
 use Rattle.ent_room.specs.Reading.{IsNotOpened, Opens}
 use Rattle.ent_room.specs.Room.{Room}
@@ -26,6 +26,7 @@ use Rattle.ent_room_calls.specs.Fault.{of_open, of_put, of_restore, of_step, of_
 use Rattle.ent_room_calls.specs.Stay.{IsNoStay, IsStay}
 use Rattle.ent_room_calls.specs.Turning.{IsNotTurned, Turns}
 use Rattle.ent_room_calls.specs.declared.fault.RoomFault.{RoomFault}
+use Rattle.ent_room_calls.specs.declared.fault.RoomFault.TheVariants.{Memory as OutOfMemory}
 use Rattle.ent_value.specs.declared.refusal.Refusal.{Refusal}
 use Rattle.ent_value.specs.declared.refusal.Refusal.TheVariants as refusals
 use Rattle.ent_waiting.specs.WaitingList.{IsFull, IsIdle, IsInBatch, IsUsed, MayComeBack, Onward}
@@ -220,6 +221,11 @@ StepsIn old new before step refusal status =
     × (((stepped : Stepped) × IsAtRest new.admission × (stepped ≡ steps.Idle → AreResting new.admission.list)
     × (step ≡ step_number stepped) × TellsDone refusal status)
     ⊎ ((refused : Refusal NotStepped) × (step ≡ before) × TellsNumber (of_step refused) refusal status))
+
+-- those go on whom a bound stopped, and nothing else is done; or memory ran out, and some do
+abbrev pub GoesFurtherIn : Room → Room → ℕ → ℤ → Type 0
+GoesFurtherIn old new refusal status =
+    OnlyShifts old new × (TellsDone refusal status ⊎ TellsNumber OutOfMemory refusal status)
 
 -- the epoch ends, and the next begins; or it is told why not, and nothing changes
 abbrev pub TurnsIn : List ℕ → Room → Room → ℕ → CallTold → ℤ → Type 0

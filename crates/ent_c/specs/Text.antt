@@ -5,7 +5,7 @@ use Rattle.ent_check_report.specs.declared.verdict.Verdict.TheVariants.{Yes, No}
 use Rattle.ent_engine.specs.Fault.{line_text}
 use Rattle.ent_engine.specs.Io.{WritesReport}
 use Rattle.ent_engine.specs.declared.fault.RunFault.{RunFault}
-use Rattle.ent_engine.specs.declared.options.ReportVersion.{ReportVersion}
+use Rattle.ent_book.specs.declared.version.ReportVersion.{ReportVersion}
 
 -- a text laid over the beginning of some bytes, cut off where they end
 abbrev pub laid_over : List ℕ → List ℕ → List ℕ

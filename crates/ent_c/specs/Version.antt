@@ -1,7 +1,7 @@
 -- The versions of a report, by their numbers.
 use Rattle.std.specs.Prelude.{ℕ, Option, Some, None, if◌then◌else◌, ◌==◌}
-use Rattle.ent_engine.specs.declared.options.ReportVersion.{ReportVersion}
-use Rattle.ent_engine.specs.declared.options.ReportVersion.TheVariants.{One, Two}
+use Rattle.ent_book.specs.declared.version.ReportVersion.{ReportVersion}
+use Rattle.ent_book.specs.declared.version.ReportVersion.TheVariants.{One, Two}
 
 -- 1 and 2, and no other
 abbrev pub version_numbered : ℕ → Option ReportVersion

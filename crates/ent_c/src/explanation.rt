@@ -3,9 +3,11 @@ ghost use Rattle.std.specs.Prelude.{◌≡◌, ◌++◌, ◌∷◌, [], IfOk};
 ghost use Rattle.std.specs.String.{string_bytes};
 ghost use Rattle.ent_c.specs.Text.{IsSaidOf};
 ghost use Rattle.ent_engine.specs.Fault.{line_text};
+ghost use Rattle.ent_engine.specs.declared.fault.RunFault.TheVariants.{Input};
 
 use ent_engine::{FaultLine, RunFault};
-use ent_fault_text::{Explanation, InputFault, explain_fault, explain_script_fault, valid_text};
+use ent_fault_text::{Explanation, explain_fault, explain_script_fault, valid_text};
+use ent_input::InputFault;
 use ent_tree::Opening;
 use std::alloc::{AllocError, Global};
 
@@ -18,9 +20,9 @@ pub(crate) fn explanation_of(
 ) -> Result<String, AllocError>
     ensures { IfOk result (λ text. IsSaidOf fault (string_bytes text)) }
 {
-    let explanation = match input_fault(fault) {
-        Some(fault) => Some(explain_fault(alloc, valid_text(input), fault)?),
-        None => None,
+    let explanation = match fault {
+        RunFault::Input(fault) => explain_fault(alloc, valid_text(input), fault)?,
+        _ => None,
     };
     said(alloc, fault, explanation)
 }
@@ -30,15 +32,12 @@ pub(crate) fn script_explanation_of(
     alloc: Global,
     opening: &Opening,
     script: &[u8],
-    fault: RunFault,
+    fault: InputFault,
 ) -> Result<String, AllocError>
-    ensures { IfOk result (λ text. IsSaidOf fault (string_bytes text)) }
+    ensures { IfOk result (λ text. IsSaidOf (Input fault) (string_bytes text)) }
 {
-    let explanation = match input_fault(fault) {
-        Some(fault) => Some(explain_script_fault(alloc, opening, valid_text(script), fault)?),
-        None => None,
-    };
-    said(alloc, fault, explanation)
+    let explanation = explain_script_fault(alloc, opening, valid_text(script), fault)?;
+    said(alloc, RunFault::Input(fault), explanation)
 }
 
 /// The line that names a fault, and its explanation below that, if it has one.
@@ -63,14 +62,4 @@ fn first_line(alloc: Global, fault: RunFault) -> Result<String, AllocError>
 {
     let line = FaultLine(fault);
     format!(in alloc; "{line}\n")
-}
-
-/// The fault of an input or of a script that is explained.
-fn input_fault(fault: RunFault) -> Option<InputFault> {
-    match fault {
-        RunFault::NotUtf8(_) => Some(InputFault::NotUtf8),
-        RunFault::Sql(fault) => Some(InputFault::Sql(fault)),
-        RunFault::Form(fault) => Some(InputFault::Form(fault)),
-        _ => None,
-    }
 }

@@ -1,4 +1,4 @@
-//! What C has of a manager: a pointer that it doesn't look behind.
+//! What C has of a driver: a pointer that it doesn't look behind.
 ghost use Rattle.std.specs.Prelude.{◌≡◌, MatchOption};
 ghost use Rattle.std.specs.Coded.{coded_option};
 ghost use Rattle.std.specs.declared.option.Option.{Option};
@@ -13,7 +13,7 @@ use std::alloc::Global;
 use std::marker::Model;
 use std::mem::replace;
 
-/// Null, or it owns a driver. C calls it the place of an `entangle_manager *`.
+/// Null, or it owns a driver. C calls it the place of an `entangle_driver *`.
 #[repr(C)]
 pub struct Handle {
     at: *mut u8,

@@ -1,8 +1,8 @@
 //! Entangle for C, as a static library: the report of an input, the explanation of its fault, the check of a report,
-//! rooms, in which scripts wait, and managers, which keep tables between calls and make single runs.
+//! rooms, in which scripts wait, and drivers, which keep tables between calls and make single runs.
 //!
 //! `include/entangle.h` declares the calls, with the conditions of each. A text goes into the caller's buffer, as far
-//! as the buffer reaches; its length, and a fault, go into a [`CallTold`]. Only rooms, rows, values and managers keep
+//! as the buffer reaches; its length, and a fault, go into a [`CallTold`]. Only rooms, rows, values and drivers keep
 //! anything between calls, behind a [`RoomHandle`], a [`RowsHandle`], a [`ValuesHandle`] or a [`Handle`]; everything
 //! else that a call allocates it frees.
 #![tactic(auto)]
@@ -13,9 +13,9 @@ ghost use Rattle.ent_c.specs.Version.{version_numbered};
 
 mod about;
 mod buffer;
+mod driver;
 mod explanation;
 mod handle;
-mod manager;
 mod moving;
 mod position;
 mod report;
@@ -45,17 +45,18 @@ pub use about::{
     ent_c_size_of_limits, ent_c_size_of_position, ent_c_size_of_submission,
     ent_c_size_of_ticket_state, ent_c_size_of_told, ent_c_version,
 };
-use ent_engine::{ReportVersion, RunFault, status_of};
-pub use handle::Handle;
-pub use manager::{
+pub use driver::{
     ent_c_answers, ent_c_close, ent_c_closed_report, ent_c_free, ent_c_open, ent_c_renew,
     ent_c_run, ent_c_standing, ent_c_submit, ent_c_table,
 };
+use ent_book::ReportVersion;
+use ent_engine::{RunFault, status_of};
+pub use handle::Handle;
 pub use moving::{ent_c_make, ent_c_why};
 pub use position::Position;
 pub use room::{
-    Limits, ent_c_room_free, ent_c_room_open, ent_c_room_put, ent_c_room_restore, ent_c_room_step,
-    ent_c_room_turn, ent_c_room_withdraw,
+    Limits, ent_c_room_free, ent_c_room_further, ent_c_room_open, ent_c_room_put,
+    ent_c_room_restore, ent_c_room_step, ent_c_room_turn, ent_c_room_withdraw,
 };
 pub use room_feed::{ent_c_room_groups, ent_c_room_next_group, ent_c_room_settled_through};
 pub use room_handle::RoomHandle;

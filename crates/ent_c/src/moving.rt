@@ -1,12 +1,12 @@
-//! One move of a manager at a time, and why a transaction doesn't move.
+//! One move of a driver at a time, and why a transaction doesn't move.
 ghost use Rattle.std.specs.Prelude.{◌≡◌, [], MatchOption};
 ghost use Rattle.ent_driver.specs.Passed.{reply_seen};
 ghost use Rattle.ent_driver.specs.Why.{Explains, IsUnexplained};
-ghost use Rattle.ent_c.specs.Managers.{HandsOutOr, behind};
+ghost use Rattle.ent_c.specs.Drivers.{HandsOutOr, behind};
 ghost use Rattle.ent_c.specs.Moving.{IsNoMove, MakesIn, move_numbered, number_of};
 
+use crate::driver::hand_out;
 use crate::handle::Handle;
-use crate::manager::hand_out;
 use crate::told::CallTold;
 use crate::{DONE, MISUSED};
 use ent_driver::{DriverFault, Move, Reply};

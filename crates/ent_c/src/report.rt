@@ -3,7 +3,8 @@ ghost use Rattle.std.specs.Prelude.{IfErr, IfOk};
 ghost use Rattle.ent_c.specs.Text.{IsReport};
 ghost use Rattle.ent_engine.specs.Reading.{IsRefused};
 
-use ent_engine::{ReportVersion, RunFault, RunOptions, report_of as report_in_memory};
+use ent_book::ReportVersion;
+use ent_engine::{RunFault, RunOptions, report_of as report_in_memory};
 use std::alloc::Global;
 
 /// The report of an input, of this version.

@@ -3,7 +3,7 @@ ghost use Rattle.std.specs.Prelude.{◌≡◌, IfErr, IfOk};
 ghost use Rattle.std.specs.declared.option.Option.TheVariants.{None};
 ghost use Rattle.ent_room.specs.Reading.{Opens};
 ghost use Rattle.ent_c.specs.Rooms.{IsKept, IsMisused, IsNoRoom, OfRoom, OfStay, OpensRoom, PutsBackIn, PutsIn};
-ghost use Rattle.ent_c.specs.Rooms.{StepsIn, TakesRows, TurnsIn, WithdrawsFrom, bound_in, given_in, limits_of};
+ghost use Rattle.ent_c.specs.Rooms.{GoesFurtherIn, StepsIn, TakesRows, TurnsIn, WithdrawsFrom, bound_in, given_in, limits_of};
 ghost use Rattle.ent_c.specs.Rooms.{step_number};
 
 use crate::room_handle::RoomHandle;
@@ -396,6 +396,37 @@ pub extern "C" fn ent_c_room_step(
         return MISUSED;
     };
     let status = step_in(&mut room, step, refusal);
+    handle.put(room);
+    status
+}
+
+/// Has those go on whom a bound stopped.
+fn further_in(room: &mut Room, refusal: &mut u32) -> i32
+    ensures { GoesFurtherIn room.old room.new refusal.new result }
+{
+    match room.further() {
+        Ok(()) => {
+            *refusal = 0;
+            DONE
+        }
+        Err(refused) => refuse(RoomFault::from(refused), refusal),
+    }
+}
+
+/// Has those go on whom a bound stopped: the next steps give them their turns.
+#[unsafe(no_mangle)]
+pub extern "C" fn ent_c_room_further(
+    alloc: Global,
+    handle: &mut RoomHandle,
+    refusal: &mut u32,
+) -> i32
+    ensures { OfRoom handle.old.held handle.new.held result (refusal.new ≡ refusal.old)
+        (λ old new. GoesFurtherIn old new refusal.new result) }
+{
+    let Some(mut room) = handle.take(alloc) else {
+        return MISUSED;
+    };
+    let status = further_in(&mut room, refusal);
     handle.put(room);
     status
 }

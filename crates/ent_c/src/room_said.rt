@@ -1,11 +1,12 @@
 //! What is said of a script that isn't put into a room, or of the values that should be bound in it.
 ghost use Rattle.std.specs.Prelude.{◌≡◌, IfErr, IfOk, IfSome, MatchOption, length, pos};
+ghost use Rattle.ent_engine.specs.declared.fault.RunFault.TheVariants.{Input};
 ghost use Rattle.ent_prepare.specs.Prepared.{IsFirstFault};
 ghost use Rattle.ent_room.specs.Putting.{HasScript, tables_of};
 ghost use Rattle.ent_room_calls.specs.Fault.{status as fault_status};
 ghost use Rattle.ent_room_calls.specs.declared.fault.RoomFault.TheVariants.{Faulty, Memory};
 ghost use Rattle.ent_c.specs.Explaining.{HandsNothing};
-ghost use Rattle.ent_c.specs.Looks.{ExplainsPut, IsSaid, of_reading};
+ghost use Rattle.ent_c.specs.Looks.{ExplainsPut, IsSaid};
 ghost use Rattle.ent_c.specs.Rooms.{InRoom, TellsBeside, TellsRoom, bound_in};
 ghost use Rattle.ent_c.specs.Text.{IsSaidOf, laid_over};
 
@@ -17,8 +18,8 @@ use crate::told::CallTold;
 use crate::values_handle::ValuesHandle;
 use crate::{DONE, MISUSED};
 use ent_bound::BoundVariable;
-use ent_engine::RunFault;
-use ent_prepare::{PrepareFault, ReadingFault};
+use ent_input::InputFault;
+use ent_prepare::PrepareFault;
 use ent_room::Room;
 use ent_room_calls::{RoomFault, binding_line};
 use ent_tree::Opening;
@@ -39,25 +40,14 @@ fn opening_of(room: &Room) -> &Opening
     room.admission().epoch().core().opening()
 }
 
-/// A fault of a script's text, as a run would tell it.
-fn of_reading(fault: ReadingFault) -> RunFault
-    ensures { result ≡ of_reading fault }
-{
-    match fault {
-        ReadingFault::TooLong => RunFault::TooLong,
-        ReadingFault::NotUtf8(place) => RunFault::NotUtf8(place),
-        ReadingFault::Sql(fault) => RunFault::Sql(fault),
-    }
-}
-
 /// What is said of a fault of a script's text or of its form.
 fn explained(
     alloc: Global,
     room: &Room,
     script: &[u8],
-    fault: RunFault,
+    fault: InputFault,
 ) -> Result<Vec<u8>, RoomFault>
-    ensures said { IfOk result (λ text. IsSaidOf fault text.items) }
+    ensures said { IfOk result (λ text. IsSaidOf (Input fault) text.items) }
     ensures refused { IfErr result (λ fault. fault ≡ Memory) }
 {
     let text = script_explanation_of(alloc, opening_of(room), script, fault)?;
@@ -76,8 +66,7 @@ fn text_of(
     ensures refused { IfErr result (λ fault. fault ≡ Memory) }
 {
     match fault {
-        PrepareFault::Reading(fault) => explained(alloc, room, script, of_reading(fault)),
-        PrepareFault::Form(fault) => explained(alloc, room, script, RunFault::Form(fault)),
+        PrepareFault::Text(fault) => explained(alloc, room, script, fault),
         PrepareFault::Binding(fault) => binding_line(alloc, values, fault),
     }
 }

@@ -2,7 +2,7 @@
 ghost use Rattle.std.specs.Prelude.{◌≡◌, ◌++◌, ◌∷◌, [], IfErr, IfOk, IfSome, MatchOption, None, Some, pos};
 ghost use Rattle.ent_book.specs.Tables.{book_seen};
 ghost use Rattle.ent_driver.specs.Told.{lines_under};
-ghost use Rattle.ent_engine.specs.Report.{text_of};
+ghost use Rattle.ent_book.specs.Version.{text_of};
 ghost use Rattle.ent_room.specs.State.{StandsAs};
 ghost use Rattle.ent_room.specs.declared.state.State.{State as StateSeen};
 ghost use Rattle.ent_room.specs.declared.epoch_book.EpochBook.{EpochBook as LastBook};
@@ -23,7 +23,7 @@ use crate::room_told::hand_out_of_room;
 use crate::told::CallTold;
 use crate::version::version_numbered;
 use crate::{MISUSED, REFUSED};
-use ent_engine::ReportVersion;
+use ent_book::ReportVersion;
 use ent_room::Room;
 use ent_room_calls::{RoomFault, book_text, table_text, why_line};
 use ent_waiting::Ticket;

@@ -1,14 +1,14 @@
-//! What is said of a script that a manager refuses.
+//! What is said of a script that a driver refuses.
 ghost use Rattle.std.specs.Prelude.{◌≡◌, IfErr, IfOk, IfSome, MatchOption, None};
 ghost use Rattle.std.specs.String.{string_bytes};
 ghost use Rattle.ent_driver.specs.Drives.{OfOpen};
 ghost use Rattle.ent_driver.specs.Scripts.{HasForm, IsFaultOver};
-ghost use Rattle.ent_driver.specs.declared.fault.DriverFault.TheVariants.{Text};
-ghost use Rattle.ent_engine.specs.declared.fault.RunFault.TheVariants.{Memory};
+ghost use Rattle.ent_driver.specs.declared.fault.DriverFault.TheVariants.{Memory};
+ghost use Rattle.ent_engine.specs.declared.fault.RunFault.TheVariants.{Input};
 ghost use Rattle.ent_form.specs.OpeningFault.{opening_fault};
 ghost use Rattle.ent_c.specs.Calls.{Declines};
 ghost use Rattle.ent_c.specs.Explaining.{ExplainsScript, HandsNothing, HandsSaid, IsFaultOf, IsScriptOf};
-ghost use Rattle.ent_c.specs.Managers.{behind};
+ghost use Rattle.ent_c.specs.Drivers.{behind};
 ghost use Rattle.ent_c.specs.Text.{IsSaidOf};
 
 use crate::DONE;
@@ -18,13 +18,15 @@ use crate::handle::Handle;
 use crate::told::CallTold;
 use ent_driver::{Driver, DriverFault, examine};
 use ent_engine::{RunFault, status_of};
+use ent_input::InputFault;
 use ent_tree::Opening;
+use ent_value::Refusal;
 use std::alloc::Global;
 
 /// A fault, and what is said of it.
 #[derive(Drop)]
 struct Said {
-    fault: RunFault,
+    fault: InputFault,
     text: String,
 }
 
@@ -33,12 +35,13 @@ fn said_over(alloc: Global, opening: &Opening, script: &[u8]) -> Result<Option<S
     requires { opening_fault opening.now ≡ None }
     ensures said { IfOk result (λ said. MatchOption said (HasForm opening.now script.now)
         (λ said. IsFaultOver opening.now script.now said.fault)) }
-    ensures text { IfOk result (λ said. IfSome said (λ said. IsSaidOf said.fault (string_bytes said.text))) }
-    ensures refused { IfErr result (λ fault. fault ≡ Text Memory) }
+    ensures text { IfOk result (λ said. IfSome said (λ said. IsSaidOf (Input said.fault) (string_bytes said.text))) }
+    ensures refused { IfErr result (λ fault. fault ≡ Memory) }
 {
     match examine(alloc, opening, script) {
         Ok(()) => Ok(None),
-        Err(fault) => {
+        Err(Refusal::Memory) => Err(DriverFault::Memory),
+        Err(Refusal::Fault(fault)) => {
             let text = script_explanation_of(alloc, opening, script, fault)?;
             Ok(Some(Said { fault, text }))
         }
@@ -53,8 +56,8 @@ fn said_of_script(
 ) -> Result<Option<Said>, DriverFault>
     ensures said { IfOk result (λ said. MatchOption said (IsScriptOf driver.now script.now)
         (λ said. IsFaultOf driver.now script.now said.fault)) }
-    ensures text { IfOk result (λ said. IfSome said (λ said. IsSaidOf said.fault (string_bytes said.text))) }
-    ensures refused { IfErr result (λ fault. OfOpen driver.now fault (λ s. fault ≡ Text Memory)) }
+    ensures text { IfOk result (λ said. IfSome said (λ said. IsSaidOf (Input said.fault) (string_bytes said.text))) }
+    ensures refused { IfErr result (λ fault. OfOpen driver.now fault (λ s. fault ≡ Memory)) }
 {
     match driver.opening() {
         Some(opening) => said_over(alloc, opening, script),
@@ -70,7 +73,7 @@ fn hand_out_said(
     told: &mut CallTold,
 ) -> i32
     ensures said { IfOk said (λ said. MatchOption said (HandsNothing buffer.old buffer.new told.new result)
-        (λ said. HandsSaid said.fault (string_bytes said.text) script.now buffer.old buffer.new told.new result)) }
+        (λ said. HandsSaid (Input said.fault) (string_bytes said.text) script.now buffer.old buffer.new told.new result)) }
     ensures refused { IfErr said (λ fault. Declines fault script.now buffer.old buffer.new told.new result) }
 {
     match said {
@@ -79,6 +82,7 @@ fn hand_out_said(
             DONE
         }
         Ok(Some(Said { fault, text })) => {
+            let fault = RunFault::Input(fault);
             *told = CallTold::fault(script, fault, text.len());
             lay_over(text.as_bytes(), buffer);
             status_of(&fault) as i32

@@ -19,7 +19,7 @@ pub struct TicketState {
     /// Where it committed: the number of the commit in that epoch, from 1; else 0.
     pub number: u64,
     /// 0 unknown, 1 waits, 2 lonely, 3 no meeting, 4 in a batch, 5 committed, 6 rolled back, 7 failed, 8 gave up,
-    /// 9 withdrawn.
+    /// 9 withdrawn, 10 cut.
     pub kind: u32,
     /// Where it failed: 1 or 2, as F1 or F2; else 0.
     pub failure: u32,
@@ -78,6 +78,7 @@ impl TicketState {
                 ..of_kind(2)
             },
             State::NoMeeting => of_kind(3),
+            State::Cut => of_kind(10),
             State::InBatch => of_kind(4),
             State::Ended(ending) => ended(ending),
         }

@@ -2,7 +2,7 @@
 ghost use Rattle.std.specs.Prelude.{◌≡◌};
 ghost use Rattle.ent_c.specs.Version.{version_numbered};
 
-use ent_engine::ReportVersion;
+use ent_book::ReportVersion;
 
 /// The version of this number.
 pub(crate) fn version_numbered(number: u32) -> Option<ReportVersion>

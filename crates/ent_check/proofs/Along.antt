@@ -34,13 +34,13 @@ use Rattle.ent_form.specs.declared.catalogue.TableSchema.{TableSchema}
 use Rattle.ent_form.specs.declared.fault.FormFault.{FormFault}
 use Rattle.ent_form.specs.declared.script.Plain.{Plain}
 use Rattle.ent_form.proofs.Heads.{found_of}
-use Rattle.ent_form_laws.specs.Kinds.{AreDeclared, HasKinds, column_kinds}
-use Rattle.ent_form_laws.specs.Tables.{database_of, HaveDistinctColumns}
+use Rattle.ent_form.specs.TableKinds.{AreDeclared, HasKinds, column_kinds}
+use Rattle.ent_form.specs.Tables.{database_of, HaveDistinctColumns}
 use Rattle.ent_history.specs.Placed.{Placed, member_at, told_operations}
 use Rattle.ent_history.specs.Replay.{operations_findings, found_after, is_answered, later, ungrounded}
 use Rattle.ent_history.specs.Verdict.{first_of}
 use Rattle.ent_history.specs.declared.finding.Finding.{Finding}
-use Rattle.ent_select.specs.Tables.{kinds_in, rows_in}
+use Rattle.ent_ordinary.specs.Tables.{kinds_in, rows_in}
 use Rattle.ent_check.specs.Alone.{AreSeated, StandAsDeclared}
 use Rattle.ent_check.specs.Closed.{HasSeat, IsSeated, Leaves, closed_findings, closed_offers, grounding_in}
 use Rattle.ent_check.specs.Sorts.{CanRun}

@@ -22,7 +22,7 @@ use Rattle.ent_history.specs.declared.finding.Finding.{Finding}
 use Rattle.ent_history.specs.declared.finding.Rule.TheVariants as rules
 use Rattle.ent_history.specs.declared.finding.Thing.TheVariants as things
 use Rattle.ent_check.specs.Told.{told_seat}
-use Rattle.ent_select.specs.Worth.{itself}
+use Rattle.ent_ordinary.specs.Worth.{itself}
 use Rattle.ent_check.specs.Closed.{answer_in, closed_findings, is_told}
 
 -- ---- the tables of an entangled statement

@@ -5,7 +5,7 @@ use Rattle.std.proofs.Common.{slice_index_or}
 use Rattle.ent_lists.specs.Sets as set
 use Rattle.ent_tree.specs.declared.declaration.Create.{Create}
 use Rattle.ent_semantics.specs.Database.{Name, Database, Rows, same_name}
-use Rattle.ent_form_laws.specs.Tables.{database_of}
+use Rattle.ent_form.specs.Tables.{database_of}
 use Rattle.ent_history.specs.declared.history.Shown.{Shown}
 use Rattle.ent_history.specs.Alike.{same_rows}
 use Rattle.ent_history.specs.Journal.{unless}

@@ -20,12 +20,12 @@ use Rattle.ent_semantics.specs.Form.{closed_worth, form_meaning}
 use Rattle.ent_semantics.specs.FormKinds.{tables_named}
 use Rattle.ent_semantics.specs.declared.operand.Known.{Known}
 use Rattle.ent_semantics.specs.declared.statement.Statement.{Statement}
-use Rattle.ent_form_laws.specs.Tables.{database_of, HaveDistinctColumns}
+use Rattle.ent_form.specs.Tables.{database_of, HaveDistinctColumns}
 use Rattle.ent_history.specs.Placed.{Placed, member_at}
 use Rattle.ent_history.specs.Replay.{later}
 use Rattle.ent_history.specs.Verdict.{first_of}
 use Rattle.ent_history.specs.declared.finding.Finding.{Finding}
-use Rattle.ent_select.specs.Tables.{kinds_in, rows_in}
+use Rattle.ent_ordinary.specs.Tables.{kinds_in, rows_in}
 use Rattle.ent_check.specs.declared.offer.StatementOffer.{StatementOffer}
 use Rattle.ent_check.specs.Alone.{IsReplayed, account_at}
 use Rattle.ent_check.specs.Closed.{HasSeat, Leaves, closed_findings, closed_offers, grounding_in}

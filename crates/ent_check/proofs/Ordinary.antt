@@ -26,11 +26,11 @@ use Rattle.ent_semantics.specs.FormKinds.{Fits, tables_named}
 use Rattle.ent_semantics.specs.declared.statement.Statement.{Statement}
 use Rattle.ent_semantics.specs.declared.statement.Statement.TheVariants as statements
 use Rattle.ent_semantics.proofs.Replied.{rows_are_no_count}
-use Rattle.ent_effect.specs.Change.{IsApplicable}
-use Rattle.ent_effect.specs.Meant.{CanBeApplied, IsMeant, changed_number, effect_of}
-use Rattle.ent_effect.specs.declared.outcome.Outcome.{Outcome}
-use Rattle.ent_effect.specs.declared.outcome.Outcome.TheVariants as outcomes
-use Rattle.ent_select.specs.Tables.{kinds_in, no_table, rows_in}
+use Rattle.ent_ordinary.specs.Change.{IsApplicable}
+use Rattle.ent_ordinary.specs.Meant.{CanBeApplied, IsMeant, changed_number, effect_of}
+use Rattle.ent_ordinary.specs.declared.outcome.Outcome.{Outcome}
+use Rattle.ent_ordinary.specs.declared.outcome.Outcome.TheVariants as outcomes
+use Rattle.ent_ordinary.specs.Tables.{kinds_in, no_table, rows_in}
 use Rattle.ent_check.proofs.Places.{rows_of_numbers, rows_at}
 use Rattle.ent_check.specs.Sorts.{IsOrdinary, IsSet}
 

@@ -2,7 +2,7 @@
 use Rattle.std.proofs.Common.{◌≡◌, ℕ, zero, suc, List, [], ◌∷◌, length, map, refl, ap, slice_index_or}
 use Rattle.ent_lists.specs.Sets as set
 use Rattle.ent_rel.specs.Relation.{Relation}
-use Rattle.ent_select.specs.Tables.{no_table, rows_in}
+use Rattle.ent_ordinary.specs.Tables.{no_table, rows_in}
 
 pub rows_at : (tables : List Relation) (number : ℕ)
     → (slice_index_or tables number no_table).rows ≡ slice_index_or (rows_in tables) number set.empty

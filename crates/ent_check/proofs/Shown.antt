@@ -18,7 +18,7 @@ use Rattle.ent_semantics.specs.Selection.{combinations, holds, meets, selection}
 use Rattle.ent_semantics.specs.declared.operand.Operand.{Operand}
 use Rattle.ent_semantics.specs.declared.operand.Operand.TheVariants.{Known}
 use Rattle.ent_history.proofs.Alike.{value_itself}
-use Rattle.ent_select.specs.Worth.{worth_over}
+use Rattle.ent_ordinary.specs.Worth.{worth_over}
 use Rattle.ent_check.proofs.Lists.{any_same}
 
 abbrev Row : Type 0

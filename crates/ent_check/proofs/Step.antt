@@ -32,16 +32,16 @@ use Rattle.ent_form.specs.Form.{statement_in}
 use Rattle.ent_form.specs.Kinds.{Bound}
 use Rattle.ent_form.specs.declared.fault.FormFault.{FormFault}
 use Rattle.ent_form.proofs.Heads.{found_of}
-use Rattle.ent_form_laws.specs.Kinds.{AreKinded, AnswersInKind, HasKinds}
-use Rattle.ent_form_laws.specs.Tables.{database_of, effect_of, Answers, HaveDistinctColumns}
-use Rattle.ent_form_laws.proofs.Ordinary.{answers_any, in_any_kind}
+use Rattle.ent_form.specs.TableKinds.{AreKinded, AnswersInKind, HasKinds}
+use Rattle.ent_form.specs.Tables.{database_of, effect_of, Answers, HaveDistinctColumns}
+use Rattle.ent_form.proofs.Ordinary.{answers_any, in_any_kind}
 use Rattle.ent_history.specs.Placed.{Placed, grounding_of, member_at}
 use Rattle.ent_history.specs.Replay.{ground_finding, is_answered, ungrounded}
 use Rattle.ent_history.specs.Verdict.{first_of}
 use Rattle.ent_history.specs.declared.finding.Finding.{Finding}
 use Rattle.ent_history.specs.declared.finding.Rule.TheVariants as rules
 use Rattle.ent_history.specs.declared.finding.Thing.TheVariants as things
-use Rattle.ent_select.specs.Worth.{itself}
+use Rattle.ent_ordinary.specs.Worth.{itself}
 use Rattle.ent_check.specs.Closed.{IsSeated, Leaves, answer_in, closed_offers, grounding_in, is_told}
 use Rattle.ent_check.specs.Closed.{seat_findings}
 use Rattle.ent_check.specs.Alike.{IsAlike, answer_unless, found_closed, told_valuation, tree_findings}

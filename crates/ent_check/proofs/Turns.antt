@@ -12,7 +12,7 @@ use Rattle.ent_lists.specs.Elements.{In, in_flat, nth_in, of_all, to_all, to_fla
 use Rattle.ent_tree.specs.declared.declaration.Create.{Create}
 use Rattle.ent_tree.specs.declared.script.Script.{Script}
 use Rattle.ent_form.specs.Catalogue.{schemas_of, table_schema}
-use Rattle.ent_form_laws.specs.Kinds.{column_kinds}
+use Rattle.ent_form.specs.TableKinds.{column_kinds}
 use Rattle.ent_rel.specs.Relation.{Relation}
 use Rattle.ent_semantics.specs.Database.{Database, nothing_bound}
 use Rattle.ent_semantics.specs.Serial.{Run, ReadView, seen_from, read_views}

@@ -15,8 +15,8 @@ use Rattle.ent_semantics.specs.Form.{Tables, closed_worth, form_meaning}
 use Rattle.ent_semantics.specs.declared.statement.Statement.{Statement}
 use Rattle.ent_form.specs.Catalogue.{schemas_of}
 use Rattle.ent_form.specs.Kinds.{Bound}
-use Rattle.ent_form_laws.specs.Kinds.{AreKinded, HasKinds}
-use Rattle.ent_form_laws.specs.Tables.{database_of}
+use Rattle.ent_form.specs.TableKinds.{AreKinded, HasKinds}
+use Rattle.ent_form.specs.Tables.{database_of}
 use Rattle.ent_history.specs.Journal.{unless}
 use Rattle.ent_history.specs.Placed.{Placed, grounding_of, member_at}
 use Rattle.ent_history.specs.Replay.{is_answered, ungrounded}

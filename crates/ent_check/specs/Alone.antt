@@ -4,14 +4,14 @@ use Rattle.ent_tree.specs.declared.declaration.Create.{Create}
 use Rattle.ent_tree.specs.declared.script.Script.{Script}
 use Rattle.ent_tree.specs.declared.script.Statement.{Statement}
 use Rattle.ent_rel.specs.Relation.{Relation}
-use Rattle.ent_select.specs.Tables.{kinds_in, rows_in}
+use Rattle.ent_ordinary.specs.Tables.{kinds_in, rows_in}
 use Rattle.ent_semantics.specs.Database.{Database, nothing_bound}
 use Rattle.ent_semantics.specs.Serial.{Run, read_views}
 use Rattle.ent_form.specs.Catalogue.{schemas_of}
 use Rattle.ent_form.specs.ScriptFaults.{script_faults}
 use Rattle.ent_form.specs.declared.catalogue.TableSchema.{TableSchema}
-use Rattle.ent_form_laws.specs.Tables.{HaveDistinctColumns}
-use Rattle.ent_form_laws.specs.Kinds.{AreKinded, column_kinds}
+use Rattle.ent_form.specs.Tables.{HaveDistinctColumns}
+use Rattle.ent_form.specs.TableKinds.{AreKinded, column_kinds}
 use Rattle.ent_history.specs.declared.history.Told.{Told}
 use Rattle.ent_history.specs.Account.{Account}
 use Rattle.ent_history.specs.Placed.{Placed, member_at}

@@ -19,7 +19,7 @@ use Rattle.ent_history.specs.Replay.{ground_finding}
 use Rattle.ent_history.specs.declared.finding.Finding.{Finding}
 use Rattle.ent_history.specs.declared.finding.Rule.TheVariants as rules
 use Rattle.ent_history.specs.declared.finding.Thing.TheVariants as things
-use Rattle.ent_select.specs.Worth.{itself}
+use Rattle.ent_ordinary.specs.Worth.{itself}
 use Rattle.ent_check.specs.declared.offer.StatementOffer.{StatementOffer}
 
 -- an entangled statement has a seat

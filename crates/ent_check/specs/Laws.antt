@@ -21,8 +21,8 @@ use Rattle.ent_form.specs.Entangled.{entangled_in}
 use Rattle.ent_form.specs.Form.{statement_in}
 use Rattle.ent_form.specs.Kinds.{Bound}
 use Rattle.ent_form.specs.declared.catalogue.TableSchema.{TableSchema}
-use Rattle.ent_form_laws.specs.Kinds.{kinds_numbered, AreDeclared, AreKinded, AnswersInKind, HasKinds}
-use Rattle.ent_form_laws.specs.Tables.{database_of, effect_of, Answers, AreWide, HaveDistinctColumns}
+use Rattle.ent_form.specs.TableKinds.{kinds_numbered, AreDeclared, AreKinded, AnswersInKind, HasKinds}
+use Rattle.ent_form.specs.Tables.{database_of, effect_of, Answers, AreWide, HaveDistinctColumns}
 
 pub record Laws : Type 0 where
   -- a statement means what its form means, and that what it means closed

@@ -5,7 +5,7 @@ use Rattle.ent_value.specs.declared.value.Value.{Value}
 use Rattle.ent_semantics.specs.Database.{Rows}
 use Rattle.ent_semantics.specs.Selection.{meets, selection}
 use Rattle.ent_semantics.specs.declared.statement.Select.{Select}
-use Rattle.ent_select.specs.Worth.{worth_over}
+use Rattle.ent_ordinary.specs.Worth.{worth_over}
 
 -- a row is in the result of a SELECT over these rows of its sources
 abbrev pub is_shown : Select Value → List Rows → List Value → Bool

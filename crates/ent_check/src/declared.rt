@@ -2,10 +2,9 @@
 ghost use Rattle.std.specs.Prelude.{◌≡◌, None, IfOk};
 ghost use Rattle.ent_form.specs.Catalogue.{schemas_of};
 ghost use Rattle.ent_form.specs.OpeningFault.{opening_fault};
-ghost use Rattle.ent_form_laws.specs.Tables.{HaveDistinctColumns};
+ghost use Rattle.ent_form.specs.Tables.{HaveDistinctColumns};
 
-use ent_form::Catalogue;
-use ent_form_laws::declared_columns_are_distinct;
+use ent_form::{Catalogue, declared_columns_are_distinct};
 use ent_tree::{Create, Opening};
 use ent_value::Refusal;
 use std::alloc::{AllocError, Global};

@@ -1,7 +1,7 @@
 //! What an entangled statement offers, demands and binds under a grounding.
 ghost use Rattle.std.specs.Prelude.{◌≡◌, IfOk, map};
 ghost use Rattle.ent_semantics.specs.Form.{atom_fact, form_bound};
-ghost use Rattle.ent_select.specs.Worth.{itself};
+ghost use Rattle.ent_ordinary.specs.Worth.{itself};
 
 use crate::term::{term_value, terms_row};
 use ent_semantics::{Atom, Entangled, Fact};

@@ -9,8 +9,8 @@ ghost use Rattle.ent_semantics.specs.declared.statement.Statement.TheVariants as
 ghost use Rattle.ent_semantics.specs.declared.operand.Operand.TheVariants.{Known};
 ghost use Rattle.ent_check.specs.Shown.{is_shown};
 ghost use Rattle.ent_rel.specs.Numbered.{relation_of};
-ghost use Rattle.ent_select.specs.Tables.{no_table, rows_in};
-ghost use Rattle.ent_select.specs.Worth.{itself};
+ghost use Rattle.ent_ordinary.specs.Tables.{no_table, rows_in};
+ghost use Rattle.ent_ordinary.specs.Worth.{itself};
 ghost use Rattle.ent_semantics.specs.Database.{Rows};
 ghost use Rattle.ent_semantics.specs.Selection.{holds};
 ghost use Rattle.ent_tree.specs.declared.operand.Comparison.TheVariants.{Equal};
@@ -18,8 +18,8 @@ ghost use Rattle.ent_value.specs.Value.{row_cmp};
 
 use crate::Evidence;
 use crate::term::{terms_row, test_holds};
+use ent_ordinary::{all, table_at};
 use ent_rel::{NumberedTable, Table};
-use ent_select::{all, table_at};
 use ent_semantics::{Entangled, Membership, Operand, Select, Term};
 use ent_tree::{Comparison, Duplicate, MOST_PARTS, Test};
 use ent_value::{Row, Value, rows_are_ordered};

@@ -1,13 +1,11 @@
 //! The rules of ent_history, checked over what a report tells.
 //!
 //! The rules of the journal, of joint answers and of postconditions are checked whole, and the commits are put in
-//! order. Nothing is searched for: a grounding is looked up by the place of its statement and tested, each tuple among
-//! the rows of its sub-select's result, and each test; an answer is compared with the one that the report tells.
+//! order. Transactions and their statements run alone, each over the tables that the one before left. Nothing is
+//! searched for: a grounding is looked up by the place of its statement and tested, each tuple among the rows of its
+//! sub-select's result, and each test; an answer is compared with the one that the report tells.
 //!
-//! Statements and transactions that the check of a report runs alone, each over the tables that the one before left.
-//!
-//! An entangled statement is answered under the grounding that the report tells; nothing is searched for. A law says
-//! that a closed form and the statement whose form it is have the same finding.
+//! A law says that a closed form and the statement whose form it is have the same finding.
 #![tactic(auto)]
 
 mod alike;

@@ -17,7 +17,7 @@ ghost use Rattle.ent_history.specs.Placed.{member_at};
 ghost use Rattle.ent_history.specs.Verdict.{first_of};
 ghost use Rattle.ent_history.specs.declared.finding.Rule.TheVariants as rules;
 ghost use Rattle.ent_history.specs.declared.finding.Thing.TheVariants as things;
-ghost use Rattle.ent_select.specs.Tables.{kinds_in, rows_in};
+ghost use Rattle.ent_ordinary.specs.Tables.{kinds_in, rows_in};
 
 use crate::ground::failing;
 use crate::replay_offer::offer_under;

@@ -12,13 +12,13 @@ ghost use Rattle.ent_semantics.specs.declared.statement.Statement.{Statement};
 ghost use Rattle.ent_form.specs.Catalogue.{schemas_of};
 ghost use Rattle.ent_form.specs.Form.{statement_in};
 ghost use Rattle.ent_form.specs.Kinds.{Bound};
-ghost use Rattle.ent_form_laws.specs.Kinds.{AreKinded, HasKinds};
-ghost use Rattle.ent_form_laws.specs.Tables.{HaveDistinctColumns};
+ghost use Rattle.ent_form.specs.TableKinds.{AreKinded, HasKinds};
+ghost use Rattle.ent_form.specs.Tables.{HaveDistinctColumns};
 ghost use Rattle.ent_history.specs.Placed.{Placed, member_at};
 ghost use Rattle.ent_semantics.specs.Database.{Environment};
 ghost use Rattle.ent_semantics.specs.declared.answer.Answer.{Answer};
 
-use ent_form_laws::{
+use ent_form::{
     effects_keep_kinds, groundings_are_of_their_kinds, kinded_tables_are_wide,
     resolved_grounds_the_same, resolved_means_the_same, resolved_offers_and_demands_the_same,
     resolved_statements_fit, variables_are_the_written_ones,

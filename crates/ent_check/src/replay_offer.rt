@@ -1,7 +1,7 @@
 //! What entangled statements offer and demand.
 ghost use Rattle.std.specs.Prelude.{◌≡◌, IfOk};
 ghost use Rattle.ent_semantics.specs.Form.{form_heads, form_posts};
-ghost use Rattle.ent_select.specs.Worth.{itself};
+ghost use Rattle.ent_ordinary.specs.Worth.{itself};
 
 use crate::{StatementOffer, facts_of};
 use ent_semantics::Entangled;

@@ -2,16 +2,16 @@
 ghost use Rattle.std.specs.Prelude.{◌≡◌, ◌<◌, IfOk, length, map, slice_index_or};
 ghost use Rattle.std.specs.Arc.{arc_value};
 ghost use Rattle.ent_lists.specs.Sets as set;
-ghost use Rattle.ent_form_laws.specs.Tables.{database_of};
+ghost use Rattle.ent_form.specs.Tables.{database_of};
 ghost use Rattle.ent_history.specs.Table.{tables_findings};
 ghost use Rattle.ent_history.specs.Verdict.{first_of};
-ghost use Rattle.ent_select.specs.Tables.{no_table, rows_in};
+ghost use Rattle.ent_ordinary.specs.Tables.{no_table, rows_in};
 
 use crate::Evidence;
 use crate::alike::same_rows;
 use ent_history::{Finding, Rule, Shown, Thing};
+use ent_ordinary::table_at;
 use ent_rel::Table;
-use ent_select::table_at;
 use ent_tree::Create;
 use ent_value::{Name, Row, Sequence};
 use std::alloc::{AllocError, Global};

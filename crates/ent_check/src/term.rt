@@ -1,11 +1,11 @@
 //! What terms are worth under a grounding.
 ghost use Rattle.std.specs.Prelude.{◌≡◌, IfOk, map};
 ghost use Rattle.ent_semantics.specs.Form.{term_worth};
-ghost use Rattle.ent_select.specs.Worth.{itself};
+ghost use Rattle.ent_ordinary.specs.Worth.{itself};
 ghost use Rattle.ent_semantics.specs.Selection.{holds};
 ghost use Rattle.ent_semantics.specs.Term.{no_value};
 
-use ent_select::compares;
+use ent_ordinary::compares;
 use ent_semantics::Term;
 use ent_tree::{MOST_PARTS, Test};
 use ent_value::{Limited, Row, Value};

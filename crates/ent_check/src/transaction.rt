@@ -4,8 +4,8 @@ ghost use Rattle.std.specs.Arc.{arc_value};
 ghost use Rattle.ent_check.specs.Alone.{AreSeated, IsReplayed, IsResolved, StandAsDeclared, account_at};
 ghost use Rattle.ent_form.specs.Form.{script_in};
 ghost use Rattle.ent_form.specs.ScriptFaults.{script_faults};
-ghost use Rattle.ent_form_laws.specs.Tables.{database_of};
-ghost use Rattle.ent_select.specs.Tables.{rows_in};
+ghost use Rattle.ent_form.specs.Tables.{database_of};
+ghost use Rattle.ent_ordinary.specs.Tables.{rows_in};
 
 use crate::Groundings;
 use crate::declared::Declared;

@@ -5,7 +5,7 @@ use Rattle.ent_check_report.specs.declared.verdict.Verdict.TheVariants.{Yes, No}
 use Rattle.ent_engine.specs.declared.fault.RunFault.{RunFault}
 use Rattle.ent_engine.specs.Fault.{status}
 use Rattle.ent_command.specs.declared.ending.Ending.{Ending}
-use Rattle.ent_command.specs.declared.ending.Ending.TheVariants.{Done, Refused, Misused, Faulty, Undrawn}
+use Rattle.ent_command.specs.declared.ending.Ending.TheVariants.{Done, Refused, Misused, Faulty, Undrawn, Overfull}
 
 abbrev pub status_of : Ending → ℕ
 status_of Done = 0
@@ -13,6 +13,7 @@ status_of Refused = 1
 status_of Misused = 2
 status_of (Faulty fault) = status fault
 status_of (Undrawn line) = 1
+status_of Overfull = 1
 
 -- how a command ends whose run ended so
 abbrev pub ending_of : {X : Type 0} → Result X RunFault → Ending

@@ -2,6 +2,8 @@
 use crate::arranging::arrange_input;
 use crate::drawing::draw_trace;
 use crate::ending::Ending;
+use crate::meeting::meet_input;
+use crate::plainly::said_plainly;
 use crate::running::run;
 use crate::words::{Asked, asked_of, command};
 use clap::Error;
@@ -15,10 +17,10 @@ use std::sync::Wait;
 use std::thread::Threads;
 use std::{env, io};
 
-/// The program: reads its command line, and runs the scripts of standard input or puts them in another order, checks
-/// the report of standard input or draws the trace of standard input, as that asks; where it asks for workers, in
-/// threads that `threads` starts. A fault is one line on standard error. How it ended says what `main` ends with. Where
-/// standard input is a terminal, it says first what it waits for.
+/// The program: reads its command line, and runs the scripts of standard input, lets them meet in a room or puts them
+/// in another order, checks the report of standard input or draws the trace of standard input, as that asks; where it
+/// asks for workers, in threads that `threads` starts. A fault is one line on standard error. How it ended says what
+/// `main` ends with. Where standard input is a terminal, it says first what it waits for.
 pub fn entangle<R, T>(rt: &R, threads: &T, is_terminal: bool) -> Ending
 where
     R: Env + AllocGlobal + Input + Print + Eprint,
@@ -38,15 +40,29 @@ where
         }
         Ok(Asked::Check { is_explained }) => {
             say_what_is_read(rt, is_terminal, "a report of version 2");
-            said(rt, checked(rt, is_explained))
+            let ending = checked(rt, is_explained);
+            if is_explained {
+                said_plainly(rt, ending)
+            } else {
+                said(rt, ending)
+            }
+        }
+        Ok(
+            Asked::Meet {
+                tries,
+                is_explained,
+            },
+        ) => {
+            say_what_is_read(rt, is_terminal, "tables, rows and scripts");
+            meet_input(rt, tries, is_explained)
         }
         Ok(Asked::Arrange) => {
             say_what_is_read(rt, is_terminal, "tables, rows and scripts");
             arrange_input(rt)
         }
-        Ok(Asked::Draw(picked)) => {
+        Ok(Asked::Draw(asked)) => {
             say_what_is_read(rt, is_terminal, "a trace");
-            draw_trace(rt, picked.as_slice())
+            draw_trace(rt, &asked)
         }
         Err(fault) => {
             let ending = show_command_line(rt, &fault);

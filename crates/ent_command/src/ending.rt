@@ -5,7 +5,7 @@ ghost use Rattle.ent_command.specs.Ending.{status_of};
 
 use ent_check_report::Verdict;
 use ent_engine::{RunFault, status_of};
-use ent_svg::StrangeLine;
+use ent_picture::StrangeLine;
 use std::process::ExitCode;
 
 /// How a command ended.
@@ -21,12 +21,14 @@ pub enum Ending {
     Faulty(RunFault),
     /// What is to be drawn isn't a trace.
     Undrawn(StrangeLine),
+    /// At the end of an epoch the tables have more rows together than an opening has.
+    Overfull,
 }
 
 impl Ending {
     /// The program's exit status: 0 where all was done, 1 where a report isn't right, 2 where the command line has a
-    /// fault; else the fault's own: 1 where the input, the report or the trace is refused, 3 where memory ran out, 4
-    /// where the reader or the writer failed.
+    /// fault; else the fault's own: 1 where the input, the report or the trace is refused, or the tables are overfull,
+    /// 3 where memory ran out, 4 where the reader or the writer failed.
     pub fn status(self) -> u8
         ensures { result ≡ status_of self }
     {
@@ -35,7 +37,7 @@ impl Ending {
             Ending::Refused => 1,
             Ending::Misused => 2,
             Ending::Faulty(fault) => status_of(&fault),
-            Ending::Undrawn(_) => 1,
+            Ending::Undrawn(_) | Ending::Overfull => 1,
         }
     }
 

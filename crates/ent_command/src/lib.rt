@@ -7,7 +7,10 @@ mod arranging;
 mod command;
 mod drawing;
 mod ending;
+mod meeting;
+mod plainly;
 mod running;
+mod tally;
 mod words;
 
 pub use command::entangle;

@@ -2,13 +2,16 @@
 //! transactions didn't commit.
 use crate::command::said;
 use crate::ending::Ending;
+use crate::plainly::said_plainly;
+use crate::tally::Tally;
 use crate::words::AskedRun;
-use ent_engine::{MOST_SESSIONS, RunFault, read_whole, run_watched, run_workers};
-use ent_fault_text::{InputFault, explain_fault, valid_text};
+use ent_engine::{RunFault, read_whole, run_watched};
+use ent_fault_text::{explain_fault, valid_text};
 use ent_reasons::Reasons;
 use ent_trace::{Both, Foreword, NoteTaker, Trace};
 use ent_value::Watched;
 use ent_warnings::Warnings;
+use ent_workers::{MOST_SESSIONS, run_workers};
 use std::alloc::AllocError;
 use std::io::Read;
 use std::sync::Wait;
@@ -37,12 +40,12 @@ where
     let mut reader = Watched::new(rt.reader());
     let input = match read_whole(rt.alloc(), &mut reader) {
         Ok(input) => input,
-        Err(fault) => return said(rt, Ending::Faulty(fault)),
+        Err(fault) => return said_plainly(rt, Ending::Faulty(fault)),
     };
     match run_noted(rt, input.as_slice(), asked) {
         Ok(()) => Ending::Done,
         Err(fault) => {
-            let ending = said(rt, Ending::Faulty(fault));
+            let ending = said_plainly(rt, Ending::Faulty(fault));
             explain(rt, input.as_slice(), fault);
             ending
         }
@@ -84,11 +87,14 @@ where
     let mut writer = Watched::new(io::writer(rt));
     let options = asked.options;
     let foreword = Foreword::new(rt, Before::of(rt, input));
-    let taker = NoteTaker::new(rt.alloc());
+    let noting = Both {
+        first: Tally::new(),
+        second: NoteTaker::new(rt.alloc()),
+    };
     if !asked.is_traced {
         let mut both = Both {
             first: foreword,
-            second: taker,
+            second: noting,
         };
         run_watched(rt.alloc(), &mut reader, &mut writer, options, &mut both)?;
         tell_reasons(rt, input, both.second);
@@ -98,7 +104,7 @@ where
         first: foreword,
         second: Both {
             first: Trace::new(rt.alloc(), rt),
-            second: taker,
+            second: noting,
         },
     };
     let ran = run_watched(rt.alloc(), &mut reader, &mut writer, options, &mut all);
@@ -108,25 +114,31 @@ where
     Ok(())
 }
 
-/// Says why transactions didn't commit. Where memory runs out for that, this is what is said.
-fn tell_reasons<R: AllocGlobal + Eprint>(rt: &R, input: &[u8], taker: NoteTaker) {
+/// Says why transactions didn't commit, and whether more runs would help. Where memory runs out for that, this is what
+/// is said.
+fn tell_reasons<R: AllocGlobal + Eprint>(rt: &R, input: &[u8], noted: Both<Tally, NoteTaker>) {
+    let Both {
+        first: tally,
+        second: taker,
+    } = noted;
     let (notes, observations) = taker.into_parts();
+    let advice = tally.advice(&notes);
     let _ = match Reasons::of(rt.alloc(), valid_text(input), notes, observations) {
         Ok(reasons) => eprint!(rt; "{reasons}"),
         Err(AllocError) => eprintln!(rt; "memory ran out for why transactions didn't commit"),
     };
+    if let Some(advice) = advice {
+        let _ = eprintln!(rt; "{advice}");
+    }
 }
 
 /// Says of a fault of an input where it stands, what is wrong there, and what helps. Where memory runs out for that,
 /// nothing is said.
-fn explain<R: AllocGlobal + Eprint>(rt: &R, input: &[u8], fault: RunFault) {
-    let fault = match fault {
-        RunFault::NotUtf8(_) => InputFault::NotUtf8,
-        RunFault::Sql(fault) => InputFault::Sql(fault),
-        RunFault::Form(fault) => InputFault::Form(fault),
-        _ => return,
+pub(crate) fn explain<R: AllocGlobal + Eprint>(rt: &R, input: &[u8], fault: RunFault) {
+    let RunFault::Input(fault) = fault else {
+        return;
     };
-    if let Ok(explanation) = explain_fault(rt.alloc(), valid_text(input), fault) {
+    if let Ok(Some(explanation)) = explain_fault(rt.alloc(), valid_text(input), fault) {
         let _ = eprintln!(rt; "{explanation}");
     }
 }

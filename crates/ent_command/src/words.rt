@@ -2,7 +2,9 @@
 
 use clap::builder::ValueParser;
 use clap::{Arg, ArgAction, ArgMatches, Command};
-use ent_engine::{DEFAULT_TRIES, MOST_SESSIONS, ReportVersion, RunOptions, VERSION};
+use ent_book::ReportVersion;
+use ent_engine::{DEFAULT_TRIES, RunOptions, VERSION};
+use ent_workers::MOST_SESSIONS;
 use std::alloc::{AllocError, Global};
 
 /// The highest version of the report.
@@ -16,7 +18,9 @@ const MOST_SCRIPTS: u64 = 10_000;
 
 /// What stands below the list of options.
 const EXAMPLE: &str = "Example:
-  entangle run --tries 3 < friends.sql > friends.report";
+  entangle run --tries 3 < friends.sql > friends.report
+
+A fault of the input is a line on standard error, as E302 at 107; --explain says what is wrong there.";
 
 /// What stands below what the check is for.
 const CHECK_EXAMPLE: &str = "Example:
@@ -27,12 +31,17 @@ const DRAW_EXAMPLE: &str = "Example:
   entangle run --trace < friends.sql 2> friends.trace
   entangle draw < friends.trace > friends.svg";
 
+/// What stands below what meeting is for.
+const MEET_EXAMPLE: &str = "Example:
+  entangle meet < friends.sql > friends.report";
+
 /// What stands below what arranging is for.
 const ARRANGE_EXAMPLE: &str = "Example:
   entangle arrange < friends.sql | entangle run";
 
 /// The program's words: the subcommand `run` with its options, each a whole number in its range but for `--trace`
-/// and `--explain`; `check`, with `--explain`; `arrange`; and `draw`, with the transactions whose lanes are wanted.
+/// and `--explain`; `meet`, with `--tries` and `--explain`; `check`, with `--explain`; `arrange`; and `draw`, with the
+/// transactions whose lanes are wanted.
 pub(crate) fn command<'a>(alloc: Global) -> Result<Command<'a>, AllocError> {
     let run = Command::new(alloc, "run")
         .about(
@@ -57,11 +66,20 @@ pub(crate) fn command<'a>(alloc: Global) -> Result<Command<'a>, AllocError> {
              those that may meet stand together, so that they share a run",
         )
         .after_help(ARRANGE_EXAMPLE);
+    let meet = Command::new(alloc, "meet")
+        .about(
+            "Reads an input from standard input, lets its scripts wait in a room for those whom they need, \
+             and writes what came of each, who met whom and the tables",
+        )
+        .arg(tries(alloc))?
+        .arg(explain_meeting(alloc))?
+        .after_help(MEET_EXAMPLE);
     Command::new(alloc, "entangle")
         .about("An in-memory transaction manager for entangled SQL")
         .version(VERSION)
         .subcommand_required(true)
         .subcommand(run)?
+        .subcommand(meet)?
         .subcommand(check)?
         .subcommand(arrange)?
         .subcommand(drawing(alloc)?)
@@ -80,6 +98,7 @@ fn drawing<'a>(alloc: Global) -> Result<Command<'a>, AllocError> {
                 "Reads a trace from standard input, as `run --trace` writes it, and writes a picture of it, an SVG",
             )
             .arg(only)?
+            .arg(explain_draw(alloc))?
             .after_help(DRAW_EXAMPLE),
     )
 }
@@ -135,11 +154,28 @@ fn explain<'a>(alloc: Global) -> Arg<'a> {
         )
 }
 
+fn explain_meeting<'a>(alloc: Global) -> Arg<'a> {
+    Arg::new(alloc, "explain")
+        .long("explain")
+        .action(ArgAction::SetTrue)
+        .help(
+            "Says where an input that is refused has its fault, what is wrong there, and what helps; \
+             else why scripts wait",
+        )
+}
+
 fn explain_check<'a>(alloc: Global) -> Arg<'a> {
     Arg::new(alloc, "explain")
         .long("explain")
         .action(ArgAction::SetTrue)
         .help("Says on standard error what was expected, and what was found, where it prints `no`")
+}
+
+fn explain_draw<'a>(alloc: Global) -> Arg<'a> {
+    Arg::new(alloc, "explain")
+        .long("explain")
+        .action(ArgAction::SetTrue)
+        .help("Says what is wrong where there is no picture")
 }
 
 /// What the words ask for.
@@ -152,10 +188,26 @@ pub(crate) enum Asked {
         /// Whether it says what was expected and what was found.
         is_explained: bool,
     },
+    /// A meeting of the scripts of standard input in a room.
+    Meet {
+        /// How many times in all it goes on where memory runs out.
+        tries: u64,
+        /// Whether a fault of the input is explained, and why scripts wait.
+        is_explained: bool,
+    },
     /// The input of standard input with its scripts in another order.
     Arrange,
-    /// A picture of the trace of standard input; where transactions are picked, of these and those that they met.
-    Draw(Vec<u64>),
+    /// A picture of the trace of standard input.
+    Draw(AskedPicture),
+}
+
+/// What the words of a picture ask for.
+#[derive(Drop)]
+pub(crate) struct AskedPicture {
+    /// Whose lanes are wanted, and those of all that they met; all lanes where nobody is picked.
+    pub(crate) picked: Vec<u64>,
+    /// Whether it is explained why there is no picture.
+    pub(crate) is_explained: bool,
 }
 
 /// What the words of a run ask for.
@@ -173,7 +225,10 @@ pub(crate) struct AskedRun {
 /// What the words ask for.
 pub(crate) fn asked_of<'a>(alloc: Global, matches: &ArgMatches<'a>) -> Result<Asked, AllocError> {
     match matches.subcommand_matches("draw") {
-        Some(draw) => Ok(Asked::Draw(picked(alloc, draw)?)),
+        Some(draw) => Ok(Asked::Draw(AskedPicture {
+            picked: picked(alloc, draw)?,
+            is_explained: draw.get_flag("explain"),
+        })),
         None => Ok(asked_without_picture(matches)),
     }
 }
@@ -196,6 +251,12 @@ fn asked_without_picture<'a>(matches: &ArgMatches<'a>) -> Asked {
     if let Some(check) = matches.subcommand_matches("check") {
         return Asked::Check {
             is_explained: check.get_flag("explain"),
+        };
+    }
+    if let Some(meet) = matches.subcommand_matches("meet") {
+        return Asked::Meet {
+            tries: number(meet, "tries", DEFAULT_TRIES),
+            is_explained: meet.get_flag("explain"),
         };
     }
     if matches.subcommand_matches("arrange").is_some() {

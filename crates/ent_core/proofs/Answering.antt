@@ -5,7 +5,7 @@ use Rattle.ent_semantics.specs.Entangled.{Valuation}
 use Rattle.ent_members.specs.Answered.{MemberAnswer, answer_tx}
 use Rattle.ent_run.specs.Answered.{member_answers}
 use Rattle.ent_run.proofs.Answered.{asked_numbers}
-use Rattle.ent_coordination.specs.Pool.{Posted}
+use Rattle.ent_semantics.specs.Pool.{Posted}
 
 -- those who are answered are distinct
 pub given_distinct : (given : List MemberAnswer) (asked : List Posted) (groundings : List Valuation)

@@ -8,7 +8,7 @@ use Rattle.ent_protocol.specs.State.{State, Submitted, Dormant, Member, members}
 use Rattle.ent_run.specs.Run.{Run}
 use Rattle.ent_members.specs.TransactionTable.{TransactionTable}
 use Rattle.ent_protocol_laws.specs.Attempts.{AsksForRun}
-use Rattle.ent_coordination.specs.Pool.{Posted}
+use Rattle.ent_semantics.specs.Pool.{Posted}
 use Rattle.ent_tables.specs.Stored.{Stored}
 use Rattle.ent_lists.specs.Elements.{in_contains, in_first, in_second, to_all, to_map}
 use Rattle.ent_lists.proofs.Numbers.{eq_below}

@@ -8,7 +8,7 @@ use Rattle.std.proofs.lemmas.Bool.Decides.{nat_tests}
 use Rattle.ent_value.specs.declared.value.Value.{Value}
 use Rattle.ent_semantics.specs.declared.entangled.Entangled.{Entangled}
 use Rattle.ent_semantics.specs.declared.statement.Statement.{Statement}
-use Rattle.ent_coordination.specs.Pool.{IsFirstUnsafe, IsSafe, Unsafe, Posted}
+use Rattle.ent_semantics.specs.Pool.{IsFirstUnsafe, IsSafe, Unsafe, Posted}
 use Rattle.ent_form.specs.declared.catalogue.TableSchema.{TableSchema}
 use Rattle.ent_form.specs.declared.fault.FormFault.{FormFault}
 use Rattle.ent_protocol.specs.Begin.{Begins, BeginsEntangled, BeginsMember, BeginsNext, BeginsOrdinary}

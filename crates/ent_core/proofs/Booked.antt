@@ -21,7 +21,7 @@ use Rattle.ent_protocol.specs.Rollback.{is_joint_of, is_among}
 use Rattle.ent_protocol.specs.State.{State, Member, members}
 use Rattle.ent_protocol.specs.Tidy.{IsTidy}
 use Rattle.ent_core.specs.Closing.{book_at_rest}
-use Rattle.ent_select.specs.Tables.{rows_in}
+use Rattle.ent_ordinary.specs.Tables.{rows_in}
 
 abbrev relation_of : NamedTable → Relation
 relation_of entry = arc_value entry.table

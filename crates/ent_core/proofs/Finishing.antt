@@ -11,12 +11,12 @@ use Rattle.ent_value.specs.declared.value.Value.{Value}
 use Rattle.ent_semantics.specs.FormKinds.{changed_tables}
 use Rattle.ent_semantics.specs.declared.statement.Statement.{Statement}
 use Rattle.ent_semantics.specs.declared.statement.Statement.TheVariants as statements
-use Rattle.ent_effect.specs.Change.{IsApplicable}
+use Rattle.ent_ordinary.specs.Change.{IsApplicable}
 use Rattle.ent_job.specs.Work.{AreUsed, IsOne, IsWork, StandAtNumbers}
 use Rattle.ent_eval.specs.Result.{CanBeMade, answer_of}
 use Rattle.ent_form.specs.declared.fault.FormFault.{FormFault}
-use Rattle.ent_serializability.specs.Faithful.{is_used}
-use Rattle.ent_serializability.specs.Present.{LentIsPresent, SameWhereUsed}
+use Rattle.ent_protocol_laws.specs.Faithful.{is_used}
+use Rattle.ent_protocol_laws.specs.Present.{LentIsPresent, SameWhereUsed}
 use Rattle.ent_run.specs.Places.{found}
 use Rattle.ent_run.specs.Run.{Run}
 use Rattle.ent_protocol.specs.Event.{Reply}
@@ -44,7 +44,7 @@ use Rattle.ent_core.specs.Finish.{Accepts, CanChange, CarriesOut, IsReplyTo, May
 use Rattle.ent_core.specs.declared.finish.Carried.{Carried}
 use Rattle.ent_core.specs.declared.finish.Carried.TheVariants as carried
 use Rattle.ent_core.specs.Begin.{IsUnposted}
-use Rattle.ent_coordination.specs.Pool.{Posted}
+use Rattle.ent_semantics.specs.Pool.{Posted}
 use Rattle.ent_waits.specs.Pooled.{IsPoolOf}
 use Rattle.ent_core.proofs.Begun.{number_found, one_unposted}
 use Rattle.ent_core.proofs.Pooled.{kept_changing}

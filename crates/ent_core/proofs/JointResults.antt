@@ -6,9 +6,9 @@ use Rattle.std.specs.List.{AllByRecursion, IsDistinct}
 use Rattle.ent_lists.proofs.Numbers.{eq_below}
 use Rattle.ent_semantics.specs.Entangled.{Valuation}
 use Rattle.ent_semantics.specs.Form.{Tables}
-use Rattle.ent_coordination.specs.Choice.{IsLeastChoiceIfAny}
-use Rattle.ent_coordination.specs.Pool.{Posted}
-use Rattle.ent_coordination.proofs.Grounded.{groundings_counted}
+use Rattle.ent_semantics.specs.Choice.{IsLeastChoiceIfAny}
+use Rattle.ent_semantics.specs.Pool.{Posted}
+use Rattle.ent_semantics.proofs.Grounded.{groundings_counted}
 use Rattle.ent_form.specs.declared.fault.FormFault.{FormFault}
 use Rattle.ent_protocol.specs.Event.{Reply}
 use Rattle.ent_protocol.specs.Job.{Choice, Done, IsEvaluated, IsOutcome, Joint, Outcome, Work}

@@ -3,7 +3,7 @@ use Rattle.std.proofs.Common.{◌≡◌, ℕ, List, [], ◌∷◌, ◌++◌, Opt
 use Rattle.std.specs.Prelude.{MatchOption}
 use Rattle.ent_value.specs.declared.value.Value.{Value}
 use Rattle.ent_semantics.specs.declared.statement.Statement.{Statement}
-use Rattle.ent_coordination.specs.Pool.{IsFirstUnsafe, IsSafe, Posted, Unsafe}
+use Rattle.ent_semantics.specs.Pool.{IsFirstUnsafe, IsSafe, Posted, Unsafe}
 use Rattle.ent_form.specs.declared.fault.FormFault.{FormFault}
 use Rattle.ent_protocol.specs.Begin.{Begins}
 use Rattle.ent_protocol.specs.Event as replies

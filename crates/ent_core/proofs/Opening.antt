@@ -11,7 +11,7 @@ use Rattle.ent_protocol.specs.Member.{posted_by}
 use Rattle.ent_protocol.specs.State.{State, Submitted, Member}
 use Rattle.ent_run.specs.Run.{Run}
 use Rattle.ent_members.specs.TransactionTable.{TransactionTable}
-use Rattle.ent_coordination.specs.Pool.{Posted}
+use Rattle.ent_semantics.specs.Pool.{Posted}
 use Rattle.ent_tables.specs.Stored.{Stored, kinds_declared}
 use Rattle.ent_core.specs.Store.{IsKept}
 

@@ -1,7 +1,7 @@
 -- Results that aren't outstanding.
 use Rattle.std.proofs.Common.{◌≡◌, ◌∙◌, ℕ, List, Option, Some, None, ap, refl, subst, sym, slice_get}
 use Rattle.std.specs.Prelude.{IfSome, IsNone}
-use Rattle.ent_coordination.specs.Pool.{Posted}
+use Rattle.ent_semantics.specs.Pool.{Posted}
 use Rattle.ent_protocol.specs.Finish.{IsOutstandingSingle, IsTaken}
 use Rattle.ent_core.specs.Finish.{StandsAt}
 use Rattle.ent_protocol.specs.Job.{Job, Done, One, Joint, Single}

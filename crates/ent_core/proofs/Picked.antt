@@ -2,7 +2,7 @@
 use Rattle.std.proofs.Common.{◌≡◌, List, Option, Some, None, sym, subst, ap, ◌∙◌}
 use Rattle.ent_waits.specs.Component.{IsFirstToPick, IsPick, IsPickIn}
 use Rattle.ent_job.specs.Work.{IsJoint}
-use Rattle.ent_coordination.specs.Pool.{Posted}
+use Rattle.ent_semantics.specs.Pool.{Posted}
 use Rattle.ent_protocol.specs.Job.{Job, Numbered}
 use Rattle.ent_protocol.specs.Member.{seen_now, pool}
 use Rattle.ent_protocol.specs.PoolEvents.{joint_job, joint_uses}

@@ -10,6 +10,7 @@ use Rattle.ent_tree.specs.declared.script.Script.{Script}
 use Rattle.ent_semantics.specs.declared.operand.Known.{Known}
 use Rattle.ent_semantics.specs.declared.statement.Statement.{Statement}
 use Rattle.ent_form.specs.OpeningFault.{Check, ◌before◌, first_of}
+use Rattle.ent_form.specs.InputFault.{scripts_fault}
 use Rattle.ent_form.specs.declared.fault.FormFault.{FormFault}
 use Rattle.ent_protocol.specs.Event.{Event, Reply, Submit, Submitted}
 use Rattle.ent_protocol.specs.Play.{Plays, IsPlayed}
@@ -19,7 +20,7 @@ use Rattle.ent_protocol.specs.State.{State}
 use Rattle.ent_protocol.specs.State.{Submitted as OneSubmitted}
 use Rattle.ent_protocol.specs.Step.{Step}
 use Rattle.ent_headline.specs.Resolved.{resolved_forms}
-use Rattle.ent_core.specs.Play.{AreMade, AreSubmitted, fault_in, scripts_fault}
+use Rattle.ent_core.specs.Play.{AreMade, AreSubmitted, fault_in}
 
 -- ---- faults of a list of scripts
 

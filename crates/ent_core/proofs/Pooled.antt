@@ -8,7 +8,7 @@ use Rattle.ent_value.specs.declared.value.Value.{Value}
 use Rattle.ent_semantics.specs.Entangled.{Valuation}
 use Rattle.ent_semantics.specs.Serial.{numbered}
 use Rattle.ent_semantics.specs.declared.entangled.Entangled.{Entangled}
-use Rattle.ent_coordination.specs.Pool.{Posted}
+use Rattle.ent_semantics.specs.Pool.{Posted}
 use Rattle.ent_lists.specs.Elements.{In, filter_whole, in_contains, of_map, to_all}
 use Rattle.ent_match.specs.Posting.{Adds, is_of_other}
 use Rattle.ent_run.specs.Answered.{IsJoining}

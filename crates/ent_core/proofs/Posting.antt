@@ -5,7 +5,7 @@ use Rattle.std.specs.List.{filter}
 use Rattle.std.specs.Prelude.{IfOk, IsSome}
 use Rattle.ent_value.specs.declared.value.Value.{Value}
 use Rattle.ent_semantics.specs.declared.entangled.Entangled.{Entangled}
-use Rattle.ent_coordination.specs.Pool.{IsFirstUnsafe, IsSafe, Posted, Unsafe}
+use Rattle.ent_semantics.specs.Pool.{IsFirstUnsafe, IsSafe, Posted, Unsafe}
 use Rattle.ent_form.specs.declared.fault.FormFault.{FormFault}
 use Rattle.ent_lists.specs.Elements.{In, clash, contains_in, in_contains, in_either, in_first, in_second, index_pairs}
 use Rattle.ent_lists.specs.Elements.{not_so, number_itself, of_filter, pairs_filtered, same_number, to_filter, neither}

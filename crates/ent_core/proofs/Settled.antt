@@ -18,7 +18,7 @@ use Rattle.ent_semantics.specs.declared.book.Member.{Member as Partner}
 use Rattle.ent_protocol.specs.Reached.{book_of}
 use Rattle.ent_protocol.specs.State.{State, Member, by_number}
 use Rattle.ent_protocol_laws.proofs.Times.{count_by_number, count_in, in_count, stands, times_joined}
-use Rattle.ent_serializability.specs.Answered.{IsPast, NothingElse}
+use Rattle.ent_protocol_laws.specs.Answered.{IsPast, NothingElse}
 use Rattle.ent_core.specs.Settled.{AreSettled, IsFated, finished}
 use Rattle.ent_core.specs.TakeOut.{is_joint_of_any, is_joint_of_others}
 use Rattle.ent_core.proofs.Sorted.{once}

@@ -7,7 +7,7 @@ use Rattle.ent_semantics.specs.declared.book.Fated.{Fated}
 use Rattle.ent_tree.specs.declared.declaration.Opening.{Opening}
 use Rattle.ent_form.specs.declared.catalogue.TableSchema.{TableSchema}
 use Rattle.ent_run.specs.Run.{Run}
-use Rattle.ent_coordination.specs.Pool.{Posted}
+use Rattle.ent_semantics.specs.Pool.{Posted}
 use Rattle.ent_protocol.specs.Event.{Reply, Started}
 use Rattle.ent_protocol.specs.Run.{Starts, StartsWith, fresh, numbers_of, starting}
 use Rattle.ent_protocol.specs.State.{State, Submitted, Dormant, Member, by_number}

@@ -27,7 +27,7 @@ use Rattle.ent_semantics.specs.Serial.{numbered}
 use Rattle.ent_protocol_laws.specs.Attempts.{MayTakePart}
 use Rattle.ent_protocol_laws.specs.Standing.{StandOnce, standing}
 use Rattle.ent_protocol_laws.proofs.Times.{count_by_number, one_if, times, times_joined}
-use Rattle.ent_coordination.specs.Pool.{Posted}
+use Rattle.ent_semantics.specs.Pool.{Posted}
 use Rattle.ent_protocol.proofs.Numbers.{waiting_tx}
 use Rattle.ent_protocol_laws.proofs.Placed.{by_number_long}
 use Rattle.ent_tables.specs.Stored.{Stored}

@@ -4,7 +4,7 @@ use Rattle.std.specs.List.{AllByRecursion}
 use Rattle.ent_value.specs.declared.value.Value.{Value}
 use Rattle.ent_semantics.specs.FormKinds.{changed_tables}
 use Rattle.ent_semantics.specs.declared.statement.Statement.{Statement}
-use Rattle.ent_effect.specs.Change.{IsApplicable}
+use Rattle.ent_ordinary.specs.Change.{IsApplicable}
 use Rattle.ent_rel.specs.declared.change.Delta.{Delta}
 use Rattle.ent_run.specs.Places.{Changes}
 use Rattle.ent_run.specs.Run.{Run}

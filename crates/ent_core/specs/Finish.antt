@@ -5,7 +5,7 @@ use Rattle.ent_lists.specs.Sets as set
 use Rattle.ent_value.specs.declared.value.Value.{Value}
 use Rattle.ent_semantics.specs.FormKinds.{changed_tables}
 use Rattle.ent_semantics.specs.declared.statement.Statement.{Statement}
-use Rattle.ent_effect.specs.Change.{IsApplicable}
+use Rattle.ent_ordinary.specs.Change.{IsApplicable}
 use Rattle.ent_eval.specs.Result.{answer_of}
 use Rattle.ent_form.specs.declared.fault.FormFault.{FormFault}
 use Rattle.ent_protocol.specs.Event.{Reply}

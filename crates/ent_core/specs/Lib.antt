@@ -1,5 +1,6 @@
 pub mod Advance
 pub mod Begin
+pub mod Book
 pub mod Closing
 pub mod Event
 pub mod Finish

@@ -1,6 +1,6 @@
 -- Why a member can't move now, in the words of the protocol.
 use Rattle.std.specs.Prelude.{◌≡◌, ℕ, true, false, List, Contains, Option, Some, None, MatchOption}
-use Rattle.ent_coordination.specs.Pool.{Posted, Unsafe}
+use Rattle.ent_semantics.specs.Pool.{Posted, Unsafe}
 use Rattle.ent_match.specs.Place.{HasNoneOf}
 use Rattle.ent_core.specs.declared.obstacle.Obstacle.{Obstacle}
 use Rattle.ent_core.specs.declared.obstacle.Obstacle.TheVariants as told

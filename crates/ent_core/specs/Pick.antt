@@ -1,7 +1,7 @@
 -- What is picked.
 use Rattle.std.specs.Prelude.{◌≡◌, List}
 use Rattle.ent_waits.specs.Component.{IsFirstToPick}
-use Rattle.ent_coordination.specs.Pool.{Posted}
+use Rattle.ent_semantics.specs.Pool.{Posted}
 use Rattle.ent_protocol.specs.Job.{Job}
 use Rattle.ent_protocol.specs.PoolEvents.{CanBePicked, joint_job}
 use Rattle.ent_protocol.specs.State.{State}

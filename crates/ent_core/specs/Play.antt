@@ -1,9 +1,8 @@
 -- Plays of inputs: scripts are submitted to an opening's own state, and then come events, each with its reply.
 use Rattle.std.specs.Prelude.{◌≡◌, List, length, map, Some, None}
-use Rattle.std.specs.Result.{result_err}
 use Rattle.ent_tree.specs.declared.declaration.Opening.{Opening}
 use Rattle.ent_tree.specs.declared.script.Script.{Script}
-use Rattle.ent_form.specs.OpeningFault.{Check, ◌before◌, first_of, opening_fault}
+use Rattle.ent_form.specs.OpeningFault.{Check}
 use Rattle.ent_form.specs.declared.fault.FormFault.{FormFault}
 use Rattle.ent_protocol.specs.Event.{Event, Reply}
 use Rattle.ent_protocol.specs.Event as replies
@@ -11,14 +10,6 @@ use Rattle.ent_protocol.specs.Play.{Plays}
 use Rattle.ent_protocol.specs.Reached.{IsGatheredState, scripts_of}
 use Rattle.ent_protocol.specs.State.{State}
 use Rattle.ent_headline.specs.Resolved.{resolved_forms}
-
--- the first fault of form of scripts over an opening
-abbrev pub scripts_fault : Opening → List Script → Check
-scripts_fault opening scripts = first_of (λ script. result_err (resolved_forms.resolve opening script)) scripts
-
--- the first fault of form of an input: its opening's, else that of its scripts
-abbrev pub input_fault : Opening → List Script → Check
-input_fault opening scripts = opening_fault opening before scripts_fault opening scripts
 
 -- the fault of form for which a script is refused
 abbrev pub fault_in : Reply FormFault → Check

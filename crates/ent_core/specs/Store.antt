@@ -5,7 +5,7 @@ use Rattle.ent_tree.specs.declared.declaration.Opening.{Opening}
 use Rattle.ent_form.specs.declared.catalogue.TableSchema.{TableSchema}
 use Rattle.ent_form.specs.Catalogue.{schemas_of}
 use Rattle.ent_form.specs.OpeningFault.{opening_fault}
-use Rattle.ent_coordination.specs.Pool.{Posted}
+use Rattle.ent_semantics.specs.Pool.{Posted}
 use Rattle.ent_waits.specs.Pooled.{IsPoolOf}
 use Rattle.ent_protocol.specs.State.{Submitted}
 use Rattle.ent_run.specs.Run.{Run}

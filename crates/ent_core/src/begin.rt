@@ -1,7 +1,7 @@
 //! A member begins its next statement.
 ghost use Rattle.std.specs.Prelude.{◌≡◌, Some, None, IfErr, IfOk, IsOk, OnErr, OnOk};
 ghost use Rattle.std.specs.Arc.{arc_value};
-ghost use Rattle.ent_coordination.specs.Pool.{Unsafe as UnsafePost};
+ghost use Rattle.ent_semantics.specs.Pool.{Unsafe as UnsafePost};
 ghost use Rattle.ent_core.specs.Begin.{IsFreeMember, IsToLend, IsToPost, IsUnposted, LendsTo, MayBegin};
 ghost use Rattle.ent_core.specs.Begin.{begin_refusal_seen, job_uses};
 ghost use Rattle.ent_core.specs.Kept.{IsKeptState};

@@ -3,7 +3,7 @@ ghost use Rattle.std.specs.Prelude.{◌≡◌, ◌↔◌, ◌≤◌, [], IfOk, I
 ghost use Rattle.std.specs.Arc.{arc_value};
 ghost use Rattle.ent_book.specs.Tables.{book_seen, tables_database};
 ghost use Rattle.ent_core.specs.Closing.{book_at_rest};
-ghost use Rattle.ent_select.specs.Tables.{rows_in};
+ghost use Rattle.ent_ordinary.specs.Tables.{rows_in};
 ghost use Rattle.ent_form.specs.Catalogue.{names_of};
 ghost use Rattle.ent_protocol.specs.Reached.{CanClose, named_tables, table_names};
 ghost use Rattle.ent_protocol.specs.State.{by_number};

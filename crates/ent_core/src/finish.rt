@@ -22,12 +22,12 @@ use crate::packed_members::PackedMembers;
 use crate::reply::Reply;
 use crate::store::Store;
 use crate::take_out::roll_back;
-use ent_effect::Outcome;
 use ent_eval::{Done, JobOutcome};
 use ent_form::FormFault;
 use ent_headline::{resolved_jobs_are_present, used_tables_are_declared};
 use ent_job::{Job, LentJobs, Single, Work};
 use ent_members::Cause;
+use ent_ordinary::Outcome;
 use ent_protocol_laws::{
     attempts_stay_within, lent_tables_are_declared, members_stand_by_number, scripts_are_few,
     transactions_are_counted, transactions_stand_once,

@@ -3,7 +3,7 @@ ghost use Rattle.std.specs.Prelude.{◌≡◌, ◌<◌, ◌↔◌, ◌∷◌, []
 ghost use Rattle.std.specs.Prelude.{map, nat_eq, slice_get};
 ghost use Rattle.std.specs.List.{IsDistinct};
 ghost use Rattle.std.specs.Option.{option_map};
-ghost use Rattle.ent_coordination.specs.Pool.{Posted as PostedStatement};
+ghost use Rattle.ent_semantics.specs.Pool.{Posted as PostedStatement};
 ghost use Rattle.ent_core.specs.Joining.{Accepts, AnswersAt};
 ghost use Rattle.ent_core.specs.Kept.{IsKeptState};
 ghost use Rattle.ent_core.specs.Reply.{reply_seen};

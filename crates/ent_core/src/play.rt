@@ -1,8 +1,9 @@
-//! An input is played: its scripts are submitted, and then events are made.
-ghost use Rattle.std.specs.Prelude.{◌≡◌, IfErr, IfOk, OnErr, OnOk, Some, map};
+//! An input is submitted whole, and played: events are made after it.
+ghost use Rattle.std.specs.Prelude.{◌≡◌, IfErr, IfOk, None, OnErr, OnOk, Some, map};
 ghost use Rattle.ent_core.specs.Event.{event_seen};
-ghost use Rattle.ent_core.specs.Play.{AreMade, AreSubmitted, fault_in, input_fault, scripts_fault};
+ghost use Rattle.ent_core.specs.Play.{AreMade, AreSubmitted, fault_in};
 ghost use Rattle.ent_core.specs.Reply.{reply_seen};
+ghost use Rattle.ent_form.specs.InputFault.{input_fault, scripts_fault};
 ghost use Rattle.ent_form.specs.declared.fault.FormFault.{FormFault};
 ghost use Rattle.ent_protocol.specs.Play.{IsPlayed};
 ghost use Rattle.ent_protocol.specs.Reached.{book_of, opened};
@@ -53,6 +54,7 @@ fn submit_all(
     ensures fault { IfErr result (λ refusal. (fault : FormFault)
         → refusal ≡ Fault fault
         → scripts_fault core.old.opening scripts ≡ Some fault) }
+    ensures clean { OnOk result (scripts_fault core.old.opening scripts ≡ None) }
     ensures legal { OnOk result (IsLegal (book_of core.new)) }
 {
     for script in scripts.into_vec() {
@@ -81,9 +83,26 @@ fn step_all(
 }
 
 impl Core {
-    /// Opens a core over an input's opening, submits its scripts, in order, and makes these events, in order: the core
-    /// that they lead to, and the replies to the events. Else the input's first fault of form. An event that is refused
-    /// has its reply too; memory that runs out ends the play, and everything is dropped.
+    /// Opens a core over an input's opening and submits its scripts, in order; nothing else is done. Else the input's
+    /// first fault of form.
+    pub fn over(alloc: Global, input: Input) -> Result<Self, PlayFault>
+        ensures submitted { IfOk result (λ core. AreSubmitted input.opening input.scripts core) }
+        ensures formed { OnOk result (input_fault input.opening input.scripts ≡ None) }
+        ensures fault { IfErr result (λ refusal. (fault : FormFault)
+            → refusal ≡ Fault fault
+            → input_fault input.opening input.scripts ≡ Some fault) }
+        ensures legal { IfOk result (λ core. IsLegal (book_of core)) }
+    {
+        resolved_runs_are_legal();
+        let Input { opening, scripts } = input;
+        let mut core = Core::open(alloc, opening)?;
+        submit_all(&mut core, scripts)?;
+        Ok(core)
+    }
+
+    /// Submits an input whole, as [`Core::over`] does, and makes these events, in order: the core that they lead to,
+    /// and the replies to the events. Else the input's first fault of form. An event that is refused has its reply too;
+    /// memory that runs out ends the play, and everything is dropped.
     pub fn play(alloc: Global, input: Input, events: Sequence<Event>) -> Result<Played, PlayFault>
         ensures played { IfOk result (λ played. IsPlayed resolved_forms input.opening input.scripts
             (map event_seen events) (map reply_seen played.replies) played.core) }
@@ -92,10 +111,7 @@ impl Core {
             → input_fault input.opening input.scripts ≡ Some fault) }
         ensures legal { IfOk result (λ played. IsLegal (book_of played.core)) }
     {
-        resolved_runs_are_legal();
-        let Input { opening, scripts } = input;
-        let mut core = Core::open(alloc, opening)?;
-        submit_all(&mut core, scripts)?;
+        let mut core = Core::over(alloc, input)?;
         let replies = step_all(alloc, &mut core, events)?;
         Ok(Played { core, replies })
     }

@@ -18,7 +18,7 @@ use Rattle.ent_protocol.specs.Step.{Step}
 use Rattle.ent_protocol.specs.Waits.{NoDeadlock}
 use Rattle.ent_protocol_laws.specs.ByNumber.{StandByNumber}
 use Rattle.ent_protocol_laws.specs.Standing.{StandOnce}
-use Rattle.ent_termination.specs.Fates.{HaveFates}
+use Rattle.ent_protocol_laws.specs.Fates.{HaveFates}
 use Rattle.ent_desk.specs.Advance.{Told, Advances, AdvancesInRun, BeginsUnless, EndsRun, IsDone, IsNext}
 use Rattle.ent_desk.specs.Advance.{IsNextInRun, IsStill, Makes, MakesUnless, MovesInRun, MovesUnlessStill, RestsAs}
 use Rattle.ent_desk.specs.Advance.{StartsRun, advance_in, is_leaving, moved_unless}

@@ -14,7 +14,7 @@ use Rattle.ent_semantics.specs.declared.book.Fate.TheVariants.{Committed}
 use Rattle.ent_semantics.specs.declared.book.Fated.{Fated}
 use Rattle.ent_protocol.specs.Reached.{CanClose, IsGatheredAt, IsReached, book_of, scripts_of}
 use Rattle.ent_protocol.specs.State.{State, by_number, Submitted}
-use Rattle.ent_termination.specs.Fates.{HaveFates}
+use Rattle.ent_protocol_laws.specs.Fates.{HaveFates}
 use Rattle.ent_core.specs.Passed.{resolved_forms}
 use Rattle.ent_desk.specs.declared.ticket.Receipt.{Receipt}
 use Rattle.ent_desk.specs.declared.ticket.Ticket.{Ticket}

@@ -10,7 +10,7 @@ use Rattle.ent_semantics.specs.declared.entangled.Entangled.{Entangled}
 use Rattle.ent_semantics.specs.declared.operand.Known.{Known}
 use Rattle.ent_semantics.specs.declared.statement.Statement.{Statement}
 use Rattle.ent_semantics.specs.Entangled.{Valuation}
-use Rattle.ent_coordination.specs.Pool.{Posted}
+use Rattle.ent_semantics.specs.Pool.{Posted}
 use Rattle.ent_protocol.specs.Begin.{Begins, BeginsMember, BeginsUnless, BeginsNext, BeginsOrdinary, BeginsEntangled}
 use Rattle.ent_protocol.specs.Begin.{BeginsCommit, Posts, single_job}
 use Rattle.ent_protocol.specs.Commit.{is_ready, preparing}
@@ -27,6 +27,7 @@ use Rattle.ent_protocol.specs.Run.{SubmitsForm, SubmitsUnless}
 use Rattle.ent_protocol.specs.State.{State, Member, Dormant}
 use Rattle.ent_protocol.specs.Step.{Step}
 use Rattle.ent_protocol.specs.Uses.{blocker, entangled_uses, statement_uses}
+use Rattle.ent_members.proofs.Lists.{or_no}
 use Rattle.ent_desk.specs.Advance.{is_leaving}
 
 -- where a reply doesn't tell that members left, no fate came
@@ -146,14 +147,10 @@ fates_kept forms old events.Recall reply new h = kept old new reply _ h.1 refl
 
 -- ---- what a desk says of it
 
-left_by : (before leaves : Bool) → (before || leaves) ≡ false → (before ≡ false) × (leaves ≡ false)
-left_by true leaves e = clash true refl e
-left_by false leaves e = (refl, e)
-
 -- what a desk says behind an event
 pub none_left : (before after leaves : Bool) → after ≡ (before || leaves) → after ≡ false
     → (before ≡ false) × (leaves ≡ false)
-none_left before after leaves is stays = left_by before leaves (sym is ∙ stays)
+none_left before after leaves is stays = or_no before leaves (sym is ∙ stays)
 
 pub stays_left : (before leaves : Bool) → leaves ≡ false → before ≡ (before || leaves)
 stays_left true leaves stays = refl

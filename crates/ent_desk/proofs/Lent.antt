@@ -11,7 +11,7 @@ use Rattle.ent_semantics.specs.declared.entangled.Entangled.{Entangled}
 use Rattle.ent_semantics.specs.declared.operand.Known.{Known}
 use Rattle.ent_semantics.specs.declared.statement.Statement.{Statement}
 use Rattle.ent_semantics.specs.Entangled.{Valuation}
-use Rattle.ent_coordination.specs.Pool.{Posted}
+use Rattle.ent_semantics.specs.Pool.{Posted}
 use Rattle.ent_job.proofs.Leaving.{left_with}
 use Rattle.ent_job.proofs.Taken.{taken_at, taken_from}
 use Rattle.ent_protocol.specs.Begin.{Begins, BeginsMember, BeginsUnless, BeginsNext, BeginsOrdinary, BeginsEntangled}

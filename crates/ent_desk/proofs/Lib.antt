@@ -4,7 +4,6 @@ pub mod Keeping
 pub mod Exactness
 pub mod Fates
 pub mod Closed
-pub mod Submitted
 pub mod Opened
 pub mod Accounting
 pub mod Drafting

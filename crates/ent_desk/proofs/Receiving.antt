@@ -30,7 +30,7 @@ use Rattle.ent_form.specs.declared.fault.FormFault.{FormFault}
 use Rattle.ent_core.specs.Passed.{resolved_forms}
 use Rattle.ent_protocol_laws.proofs.Found.{found}
 use Rattle.ent_protocol_laws.proofs.Left.{fated_tx, tx_of}
-use Rattle.ent_termination.proofs.Numbers.{members_apart}
+use Rattle.ent_protocol_laws.proofs.Numbers.{members_apart}
 use Rattle.ent_core.proofs.Told.{answers_found, group_found}
 use Rattle.ent_core.proofs.Whereabouts.{stands_finished, stands_prepared as stands_so, stands_ready}
 use Rattle.ent_desk.specs.declared.ticket.Receipt.{Receipt}

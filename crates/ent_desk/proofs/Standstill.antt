@@ -6,8 +6,8 @@ use Rattle.std.proofs.lemmas.List.{drop_more, take-append-drop, take_all, take_m
 use Rattle.ent_value.specs.declared.value.Value.{Value}
 use Rattle.ent_semantics.specs.declared.entangled.Entangled.{Entangled}
 use Rattle.ent_semantics.specs.declared.statement.Statement.{Statement}
-use Rattle.ent_coordination.specs.Component.{IsComponent}
-use Rattle.ent_coordination.specs.Pool.{IsSafe}
+use Rattle.ent_semantics.specs.Component.{IsComponent}
+use Rattle.ent_semantics.specs.Pool.{IsSafe}
 use Rattle.ent_lists.specs.Elements.{In, clash, contains_in, in_second, neither, of_all}
 use Rattle.ent_lists.proofs.Lists.{all_behind}
 use Rattle.ent_protocol.specs.Begin.{Begins, BeginsCommit, BeginsEntangled, BeginsNext, BeginsOrdinary, Posts}
@@ -25,9 +25,9 @@ use Rattle.ent_protocol_laws.specs.ByNumber.{StandByNumber}
 use Rattle.ent_protocol_laws.specs.Standing.{StandOnce}
 use Rattle.ent_protocol_laws.proofs.Pooled.{never_unsafe, pool_apart}
 use Rattle.ent_protocol_laws.proofs.Reasons.{none_stands}
-use Rattle.ent_termination.proofs.Idle.{is_own}
-use Rattle.ent_termination.proofs.Numbers.{is_running}
-use Rattle.ent_termination.proofs.Ready.{begins_next}
+use Rattle.ent_protocol_laws.proofs.Idle.{is_own}
+use Rattle.ent_protocol_laws.proofs.Numbers.{is_running}
+use Rattle.ent_protocol_laws.proofs.Ready.{begins_next}
 use Rattle.ent_core.specs.Begin.{begin_refusal_seen}
 use Rattle.ent_core.specs.declared.begin.BeginRefusal.{BeginRefusal}
 use Rattle.ent_core.specs.declared.begin.BeginRefusal.TheVariants as refusals

@@ -14,7 +14,7 @@ use Rattle.ent_protocol.specs.Reached.{CanClose, book_of}
 use Rattle.ent_protocol.specs.State.{State}
 use Rattle.ent_protocol.specs.Step.{Step}
 use Rattle.ent_protocol.specs.Waits.{NoDeadlock}
-use Rattle.ent_termination.specs.Fates.{HaveFates}
+use Rattle.ent_protocol_laws.specs.Fates.{HaveFates}
 use Rattle.ent_desk.specs.Seen.{DeskState}
 use Rattle.ent_desk.specs.declared.advance.Advance.{Advance}
 use Rattle.ent_desk.specs.declared.advance.Advance.TheVariants as advances

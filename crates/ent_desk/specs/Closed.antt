@@ -1,8 +1,6 @@
 -- The book of a manager that was closed.
 use Rattle.std.specs.Prelude.{ℕ, suc, List, [], ◌∷◌, Some, Contains, IsPermutation, map}
 use Rattle.std.specs.List.{AllByRecursion, flat_map}
-use Rattle.ent_tree.specs.declared.declaration.Opening.{Opening}
-use Rattle.ent_tree.specs.declared.script.Script.{Script}
 use Rattle.ent_semantics.specs.Book.{IsLegal}
 use Rattle.ent_semantics.specs.Database.{Database}
 use Rattle.ent_semantics.specs.declared.answer.Answer.{Answer}
@@ -10,8 +8,8 @@ use Rattle.ent_semantics.specs.declared.book.Book.{Book}
 use Rattle.ent_semantics.specs.declared.book.Entry.{Entry}
 use Rattle.ent_semantics.specs.declared.book.Fate.TheVariants.{Committed}
 use Rattle.ent_semantics.specs.declared.book.Fated.{Fated}
-use Rattle.ent_protocol.specs.Reached.{IsFinishedBook, IsGathered, IsGatheredAt}
-use Rattle.ent_termination.specs.Fates.{HaveFates}
+use Rattle.ent_protocol.specs.Reached.{IsFinishedBook, IsGatheredAt}
+use Rattle.ent_protocol_laws.specs.Fates.{HaveFates}
 use Rattle.ent_core.specs.Passed.{resolved_forms}
 use Rattle.ent_desk.specs.declared.ticket.Receipt.{Receipt}
 use Rattle.ent_desk.specs.declared.ticket.Ticket.{Ticket}
@@ -69,14 +67,5 @@ pub record IsWholeBook (book : Book Database) : Type 0 where
   pub count : ℕ
   pub finished : IsFinishedBook resolved_forms book.opening book.scripts book
   pub gathered : IsGatheredAt resolved_forms count finished.last
-  pub fates : HaveFates book
-  pub legal : IsLegal book
-
--- A gathered finished book over an opening and scripts: all scripts were submitted, in order, before anything else, and
--- events led from there to a state in which no run is on and nobody waits for one. Each script has a fate, and the book
--- is legal.
-pub record IsServed (opening : Opening) (scripts : List Script) (book : Book Database) : Type 0 where
-  pub finished : IsFinishedBook resolved_forms opening scripts book
-  pub gathered : IsGathered resolved_forms finished.last
   pub fates : HaveFates book
   pub legal : IsLegal book

@@ -29,7 +29,7 @@ pub use closing::{CloseFault, UnclosedDesk};
 pub use desk::{Desk, NotSubmitted, SubmitFault};
 pub use ent_core::{Core, PlayFault};
 pub use ent_stamp::{BlankLog, Blanks, Both, Naming, Seats, StampedDone, StampedJob};
-pub use opening::{core_over, open};
+pub use opening::open;
 pub use renewal::{NotRenewed, RenewFault, Renewed};
 pub use session::{Session, Stopped};
 pub use ticket::{First, Receipt, Ticket};

@@ -1,7 +1,7 @@
 //! How a desk is opened, and its sessions.
 ghost use Rattle.std.specs.Prelude.{◌≡◌, ◌+◌, ◌-◌, ◌<◌, ◌∷◌, [], IfErr, IfOk, OnOk, None, Some, length, replicate};
-ghost use Rattle.ent_core.specs.Play.{AreSubmitted, input_fault};
 ghost use Rattle.ent_desk.specs.Opened.{first_over, first_session, other_session, tickets_from};
+ghost use Rattle.ent_form.specs.InputFault.{input_fault};
 ghost use Rattle.ent_form.specs.declared.fault.FormFault.{FormFault};
 ghost use Rattle.ent_protocol.specs.Reached.{IsGatheredState};
 ghost use Rattle.ent_core.specs.Passed.{resolved_forms};
@@ -10,11 +10,11 @@ ghost use Rattle.ent_value.specs.declared.refusal.Refusal.TheVariants.{Fault};
 use crate::desk::Desk;
 use crate::session::Session;
 use crate::ticket::{First, Ticket};
-use ent_core::{Core, Played};
+use ent_core::Core;
 use ent_form::FormFault;
 use ent_stamp::{Blanks, LentStamps, Naming, Seats};
 use ent_tree::{Duplicate, Input, Script};
-use ent_value::{Refusal, Sequence};
+use ent_value::Refusal;
 use std::alloc::{AllocError, Global};
 use std::sync::ledger::Share;
 
@@ -31,21 +31,6 @@ fn tickets_of(alloc: Global, scripts: &[Script]) -> Result<Vec<Ticket>, AllocErr
         })?;
     }
     Ok(tickets)
-}
-
-/// A core over an input's opening, to which its scripts were submitted, in order, and nothing else was done; else the
-/// input's first fault of form.
-pub fn core_over(alloc: Global, input: Input) -> Result<Core, Refusal<FormFault>>
-    ensures submitted { IfOk result (λ core. AreSubmitted input.opening input.scripts core) }
-    ensures formed { OnOk result (input_fault input.opening input.scripts ≡ None) }
-    ensures fault { IfErr result (λ refusal. (fault : FormFault)
-        → refusal ≡ Fault fault
-        → input_fault input.opening input.scripts ≡ Some fault) }
-{
-    let played = Core::play(alloc, input, Sequence::new(alloc))?;
-    let Played { core, .. } = played;
-    core.is_reached();
-    Ok(core)
 }
 
 /// What a desk is opened over: a core with the scripts of an input, their tickets, and the input's opening with their
@@ -75,7 +60,7 @@ fn opened_over(alloc: Global, input: Input) -> Result<Opened, Refusal<FormFault>
         opening: input.opening.copy(alloc)?,
         count: tickets.len(),
     };
-    let core = core_over(alloc, input)?;
+    let core = Core::over(alloc, input)?;
     Ok(Opened {
         core,
         tickets,

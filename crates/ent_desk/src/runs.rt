@@ -13,8 +13,8 @@ use crate::desk::Desk;
 use crate::lending::advance_told;
 use crate::session::Session;
 use ent_form::FormFault;
+use ent_protocol_laws::finished_scripts_have_fates;
 use ent_stamp::{Naming, StampedJob};
-use ent_termination::finished_scripts_have_fates;
 use std::alloc::{AllocError, Global};
 
 impl<L: Naming> Desk<L> {

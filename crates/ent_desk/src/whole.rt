@@ -12,9 +12,9 @@ use crate::desk::Desk;
 use ent_book::NamedTable;
 use ent_core::{NotDone as Left, resolved_runs_are_legal};
 use ent_form::FormFault;
+use ent_protocol_laws::finished_scripts_have_fates;
 use ent_semantics::Book;
 use ent_stamp::Naming;
-use ent_termination::finished_scripts_have_fates;
 use ent_value::{Refusal, Sequence};
 
 /// Why a core isn't closed, of a manager.

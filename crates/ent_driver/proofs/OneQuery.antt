@@ -1,6 +1,6 @@
 -- A transaction has one posted statement.
 use Rattle.std.proofs.Common.{◌≡◌, ◌∙◌, ℕ, sym}
-use Rattle.ent_coordination.specs.Pool.{Posted}
+use Rattle.ent_semantics.specs.Pool.{Posted}
 use Rattle.ent_core.specs.Obstacle.{IsOf}
 use Rattle.ent_lists.specs.Elements.{contains_in, index_pairs}
 use Rattle.ent_protocol.specs.Member.{pool}

@@ -15,17 +15,16 @@ use Rattle.ent_sched.specs.Passed.{resolved_forms}
 use Rattle.ent_sched.specs.Onward.{LeadsOn}
 use Rattle.ent_tree.specs.declared.declaration.Opening.{Opening}
 use Rattle.ent_tree.specs.declared.script.Input.{Input}
-use Rattle.ent_engine.specs.Reading.{IsInput}
-use Rattle.ent_engine.specs.Report.{text_of}
-use Rattle.ent_engine.specs.declared.fault.RunFault.TheVariants.{Memory}
-use Rattle.ent_engine.specs.declared.options.ReportVersion.{ReportVersion}
+use Rattle.ent_input.specs.Reading.{IsInput}
+use Rattle.ent_book.specs.Version.{text_of}
+use Rattle.ent_book.specs.declared.version.ReportVersion.{ReportVersion}
 use Rattle.ent_driver.specs.OneRun.{RunsOnce}
 use Rattle.ent_driver.specs.Scripts.{IsNotTaken, Takes}
 use Rattle.ent_driver.specs.Told.{HasNoTable, answers_so_far, lines_under}
 use Rattle.ent_driver.specs.declared.driver.Driver.{Driver}
 use Rattle.ent_driver.specs.declared.driver.Driver.TheVariants as drivers
 use Rattle.ent_driver.specs.declared.fault.DriverFault.{DriverFault}
-use Rattle.ent_driver.specs.declared.fault.DriverFault.TheVariants.{Text, Vacant, Absent, NotDone}
+use Rattle.ent_driver.specs.declared.fault.DriverFault.TheVariants.{Memory, Vacant, Absent, NotDone}
 
 -- what holds of the core that is open; where none is, the fault is that
 abbrev pub OfOpen : Driver → DriverFault → (State → Type 0) → Type 0
@@ -65,7 +64,7 @@ Runs old new = (s s' : State) × (old ≡ drivers.Open s) × (new ≡ drivers.Op
 abbrev pub StopsRun : Driver → Driver → DriverFault → Type 0
 StopsRun old new fault =
     OfOpen old fault (λ s. (s' : State) × (count : ℕ) × (new ≡ drivers.Open s')
-    × LeadsOn resolved_forms count s s' × (fault ≡ Text Memory))
+    × LeadsOn resolved_forms count s s' × (fault ≡ Memory))
 
 -- ---- what is told
 
@@ -81,7 +80,7 @@ Answers driver tx text =
     (s : State) × (driver ≡ drivers.Open s) × (text ≡ report.answers_text 1 (answers_so_far s tx))
 
 abbrev pub IsUnanswered : Driver → ℕ → DriverFault → Type 0
-IsUnanswered driver tx fault = (fault ≡ Text Memory) ⊎ StandsNowhere driver tx fault
+IsUnanswered driver tx fault = (fault ≡ Memory) ⊎ StandsNowhere driver tx fault
 
 abbrev pub Shows : Driver → List ℕ → List ℕ → Type 0
 Shows driver name text = (s : State) × (driver ≡ drivers.Open s) × (lines_under s name ≡ Some text)
@@ -99,7 +98,7 @@ Closes old new =
     × (book_seen book ≡ book_of s) × IsLegal (book_seen book)
 
 abbrev pub IsNotClosed : Driver → DriverFault → Type 0
-IsNotClosed driver fault = OfOpen driver fault (λ s. (fault ≡ Text Memory) ⊎ ((fault ≡ NotDone) × ¬ CanClose s))
+IsNotClosed driver fault = OfOpen driver fault (λ s. (fault ≡ Memory) ⊎ ((fault ≡ NotDone) × ¬ CanClose s))
 
 abbrev pub Reports : Driver → ReportVersion → List ℕ → Type 0
 Reports driver version text =
@@ -107,6 +106,6 @@ Reports driver version text =
 
 -- memory ran out, or no book is there
 abbrev pub IsUnreported : Driver → DriverFault → Type 0
-IsUnreported (drivers.Closed book) fault = fault ≡ Text Memory
+IsUnreported (drivers.Closed book) fault = fault ≡ Memory
 IsUnreported drivers.Vacant fault = fault ≡ Vacant
 IsUnreported (drivers.Open s) fault = fault ≡ Vacant

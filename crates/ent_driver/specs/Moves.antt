@@ -8,13 +8,12 @@ use Rattle.ent_protocol.specs.Event as events
 use Rattle.ent_protocol.specs.Job.{Done, Job, IsEvaluated}
 use Rattle.ent_protocol.specs.State.{State}
 use Rattle.ent_protocol.specs.Step.{Step}
-use Rattle.ent_termination.specs.Lending.{IsJointTaken, IsSingleTaken}
-use Rattle.ent_engine.specs.declared.fault.RunFault.TheVariants.{Memory}
+use Rattle.ent_protocol_laws.specs.Lending.{IsJointTaken, IsSingleTaken}
 use Rattle.ent_driver.specs.Drives.{OfOpen}
 use Rattle.ent_driver.specs.declared.driver.Driver.{Driver}
 use Rattle.ent_driver.specs.declared.driver.Driver.TheVariants as drivers
 use Rattle.ent_driver.specs.declared.fault.DriverFault.{DriverFault}
-use Rattle.ent_driver.specs.declared.fault.DriverFault.TheVariants.{Text}
+use Rattle.ent_driver.specs.declared.fault.DriverFault.TheVariants.{Memory}
 use Rattle.ent_driver.specs.declared.moves.Move.{Move}
 use Rattle.ent_driver.specs.declared.moves.Move.TheVariants as moves
 
@@ -88,4 +87,4 @@ Moves asked old reply new =
 -- memory ran out, and what was done stands; or nothing is open
 abbrev pub IsNotMade : Move → Driver → Driver → DriverFault → Type 0
 IsNotMade asked old new fault =
-    OfOpen old fault (λ s. (fault ≡ Text Memory) × (s' : State) × (new ≡ drivers.Open s') × StopsMove asked s s')
+    OfOpen old fault (λ s. (fault ≡ Memory) × (s' : State) × (new ≡ drivers.Open s') × StopsMove asked s s')

@@ -1,6 +1,6 @@
 -- One run of a core.
 use Rattle.std.specs.Prelude.{◌≡◌, ◌<◌, ◌≤◌, ℕ, [], false}
-use Rattle.ent_termination.specs.Tries.{tries_left}
+use Rattle.ent_protocol_laws.specs.Tries.{tries_left}
 use Rattle.ent_protocol.specs.Event.{Recall, Recalled}
 use Rattle.ent_protocol.specs.Reached.{CanClose}
 use Rattle.ent_protocol.specs.State.{State}

@@ -5,12 +5,11 @@ use Rattle.ent_book.specs.Tables.{tables_database}
 use Rattle.ent_book.specs.declared.table.NamedTable.{NamedTable}
 use Rattle.ent_semantics.specs.declared.book.Book.{Book}
 use Rattle.ent_protocol.specs.State.{State}
-use Rattle.ent_engine.specs.declared.fault.RunFault.TheVariants.{Memory}
 use Rattle.ent_renewal.specs.Renewal.{GoesOn, rows_together}
 use Rattle.ent_driver.specs.declared.driver.Driver.{Driver}
 use Rattle.ent_driver.specs.declared.driver.Driver.TheVariants as drivers
 use Rattle.ent_driver.specs.declared.fault.DriverFault.{DriverFault}
-use Rattle.ent_driver.specs.declared.fault.DriverFault.TheVariants.{Text, TooManyRows, Vacant}
+use Rattle.ent_driver.specs.declared.fault.DriverFault.TheVariants.{Memory, TooManyRows, Vacant}
 
 -- a core over the declarations of a book, whose tables are those that the book ends with
 abbrev pub GoesOnFrom : Book (List NamedTable) → State → Type 0
@@ -19,7 +18,7 @@ GoesOnFrom book s = GoesOn book.opening.tables (tables_database book.database) s
 -- memory ran out, or more rows stand in the book's tables together than an opening has
 abbrev pub CannotGoOn : Book (List NamedTable) → DriverFault → Type 0
 CannotGoOn book fault =
-    (fault ≡ Text Memory)
+    (fault ≡ Memory)
     ⊎ ((fault ≡ TooManyRows)
     × (MOST_OPENING_ROWS < rows_together book.opening.tables (tables_database book.database)))
 

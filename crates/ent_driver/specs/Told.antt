@@ -7,9 +7,8 @@ use Rattle.ent_book.specs.Report.{fate_answers, table_text}
 use Rattle.ent_protocol.specs.Lookup.{Standing, Dormant, Ready, Out, Posted, Prepared, Finished}
 use Rattle.ent_protocol.specs.Lookup.{answers_of, present_rows, standing}
 use Rattle.ent_protocol.specs.State.{State}
-use Rattle.ent_engine.specs.declared.fault.RunFault.TheVariants.{Memory}
 use Rattle.ent_driver.specs.declared.fault.DriverFault.{DriverFault}
-use Rattle.ent_driver.specs.declared.fault.DriverFault.TheVariants.{Text, Absent}
+use Rattle.ent_driver.specs.declared.fault.DriverFault.TheVariants.{Memory, Absent}
 
 -- the answers of a transaction that stands there: one with a fate has those of the journal
 abbrev pub answers_at : State → ℕ → Option Standing → List Answer
@@ -31,4 +30,4 @@ lines_under s name = option_map (table_text name) (present_rows s name)
 -- no table has this name; or memory ran out
 abbrev pub HasNoTable : State → List ℕ → DriverFault → Type 0
 HasNoTable s name fault =
-    (fault ≡ Text Memory) ⊎ ((fault ≡ Absent) × (IsWord name → lines_under s name ≡ None))
+    (fault ≡ Memory) ⊎ ((fault ≡ Absent) × (IsWord name → lines_under s name ≡ None))

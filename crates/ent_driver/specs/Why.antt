@@ -3,20 +3,18 @@ use Rattle.std.specs.Prelude.{◌≡◌, ◌⊎◌, ◌+◌, ℕ, Bool, true, fa
 use Rattle.std.specs.Prelude.{codes, slice_get}
 use Rattle.std.specs.List.{filter}
 use Rattle.std.specs.Fmt.{decimal}
-use Rattle.ent_value.specs.Print.{value_text}
 use Rattle.ent_value.specs.declared.value.Value.{Value}
 use Rattle.ent_tree.specs.declared.declaration.Create.{Create}
 use Rattle.ent_tree.specs.declared.declaration.Opening.{Opening}
 use Rattle.ent_lock.specs.declared.mode.Mode.{Mode}
 use Rattle.ent_lock.specs.declared.mode.Mode.TheVariants.{Shared, Exclusive}
 use Rattle.ent_semantics.specs.declared.entangled.Atom.{Atom}
-use Rattle.ent_semantics.specs.declared.entangled.Term.{Term}
-use Rattle.ent_semantics.specs.declared.entangled.Term.TheVariants.{Known, Variable}
-use Rattle.ent_coordination.specs.Pool.{Posted, Unsafe}
+use Rattle.ent_semantics.specs.Pool.{Posted, Unsafe}
 use Rattle.ent_match.specs.Demand.{IsDemand}
 use Rattle.ent_match.specs.declared.demand.Demand.{Demand}
 use Rattle.ent_match.specs.declared.demand.Demand.TheVariants.{Met, Unmet}
 use Rattle.ent_members.specs.declared.conflict.Conflict.{Conflict}
+use Rattle.ent_reasons.specs.Demand.{demand_text, known_value}
 use Rattle.ent_book.specs.Report.{after_text, fate_text, line}
 use Rattle.ent_core.specs.Obstacle.{IsBetween, IsObstacle, IsOf}
 use Rattle.ent_core.specs.declared.obstacle.Obstacle.{Obstacle}
@@ -25,14 +23,13 @@ use Rattle.ent_protocol.specs.Lookup.{Standing, Dormant, Prepared, Finished}
 use Rattle.ent_protocol.specs.Lookup.{group_of, standing}
 use Rattle.ent_protocol.specs.Member.{pool}
 use Rattle.ent_protocol.specs.State.{State}
-use Rattle.ent_engine.specs.declared.fault.RunFault.TheVariants.{Memory}
 use Rattle.ent_driver.specs.Drives.{OfOpen}
 use Rattle.ent_driver.specs.declared.driver.Driver.{Driver}
 use Rattle.ent_driver.specs.declared.driver.Driver.TheVariants as drivers
 use Rattle.ent_driver.specs.declared.fault.DriverFault.{DriverFault}
-use Rattle.ent_driver.specs.declared.fault.DriverFault.TheVariants.{Text, Absent}
+use Rattle.ent_driver.specs.declared.fault.DriverFault.TheVariants.{Memory, Absent}
 
--- ---- transactions, tables and demands
+-- ---- transactions and tables
 
 abbrev pub tx_text : ℕ → List ℕ
 tx_text tx = codes "tx " ++ decimal tx
@@ -58,32 +55,12 @@ name_text None = codes ".."
 abbrev pub table_name : Opening → ℕ → List ℕ
 table_name opening table = name_text (slice_get opening.tables table)
 
--- a value where it is known
-abbrev pub term_text : Term Value → List ℕ
-term_text (Known value) = value_text value
-term_text (Variable variable) = codes "_"
-
--- terms after the first, each behind a comma and a space
-abbrev pub more_terms_text : List (Term Value) → List ℕ
-more_terms_text [] = []
-more_terms_text (term ∷ more) = codes ", " ++ (term_text term ++ more_terms_text more)
-
-abbrev pub terms_text : List (Term Value) → List ℕ
-terms_text [] = []
-terms_text (term ∷ more) = term_text term ++ more_terms_text more
-
-abbrev pub relation_text : List ℕ → List ℕ
-relation_text relation = codes ") IN ANSWER " ++ relation
-
--- a demand as it is written
-abbrev pub demand_text : Atom Value → List ℕ
-demand_text post = codes "(" ++ (terms_text post.terms ++ relation_text post.relation)
-
 -- ---- obstacles
 
 -- the demand of an index, which counts from 0, by its number and as it is written
 abbrev pub numbered_demand : ℕ → Option (Atom Value) → List ℕ
-numbered_demand index (Some post) = decimal (index + 1) ++ (codes ", " ++ demand_text post)
+numbered_demand index (Some post) =
+    decimal (index + 1) ++ (codes ", " ++ demand_text known_value post.relation post.terms)
 numbered_demand index None = codes ".."
 
 -- a demand that nobody offers, or who offers each
@@ -158,7 +135,7 @@ pub record TellsWhy (s : State) (tx : ℕ) (text : List ℕ) : Type 0 where
 
 -- memory ran out, or no script has the number
 abbrev pub IsUntold : State → ℕ → DriverFault → Type 0
-IsUntold s tx fault = (fault ≡ Text Memory) ⊎ ((fault ≡ Absent) × (standing s tx ≡ None))
+IsUntold s tx fault = (fault ≡ Memory) ⊎ ((fault ≡ Absent) × (standing s tx ≡ None))
 
 -- ---- of a driver
 

@@ -5,8 +5,8 @@ ghost use Rattle.ent_driver.specs.Drives.{Shows, IsUnshown, Stands, StandsNowher
 ghost use Rattle.ent_driver.specs.Drives.{HasOpening, IsNotOpen, IsUnreported};
 ghost use Rattle.ent_driver.specs.Renewal.{IsNotRenewed, Renews};
 ghost use Rattle.ent_driver.specs.declared.fault.DriverFault.TheVariants.{Vacant};
-ghost use Rattle.ent_engine.specs.Reading.{IsRefused};
 ghost use Rattle.ent_form.specs.OpeningFault.{opening_fault};
+ghost use Rattle.ent_input.specs.Reading.{IsRefused};
 
 use crate::closing::close;
 use crate::fault::DriverFault;
@@ -14,9 +14,10 @@ use crate::one_run::run_once;
 use crate::renewal::renewed_core;
 use crate::script::submit;
 use crate::text::{answers_text, report_text, table_text};
+use ent_book::ReportVersion;
 use ent_core::{Core, NotClosed, NotDone, Standing};
-use ent_engine::{MOST_BYTES, ReportVersion, RunFault, parse_bytes, submit_all};
 use ent_group::Tx;
+use ent_input::{InputFault, read_input};
 use ent_renewal::FinishedBook;
 use ent_tree::Opening;
 use ent_value::Refusal;
@@ -34,16 +35,16 @@ pub enum Driver {
 impl Driver {
     /// Opens a core over an input: its opening is loaded, and its scripts, if it has any, are submitted in order and
     /// wait for a run. Else the input's first fault.
-    pub fn open(alloc: Global, input: &[u8]) -> Result<Self, RunFault>
+    pub fn open(alloc: Global, input: &[u8]) -> Result<Self, Refusal<InputFault>>
         ensures opened { IfOk result (λ driver. Opens input.now driver) }
-        ensures refused { IfErr result (λ fault. IsRefused input.now fault) }
+        ensures refused { IfErr result (λ refusal. IsRefused input.now refusal) }
     {
-        if input.len() > MOST_BYTES {
-            return Err(RunFault::TooLong);
+        let input = read_input(alloc, input)?;
+        match Core::over(alloc, input) {
+            Ok(core) => Ok(Driver::Open(core)),
+            Err(Refusal::Memory) => Err(Refusal::Memory),
+            Err(Refusal::Fault(fault)) => Err(Refusal::Fault(InputFault::Form(fault))),
         }
-        let input = parse_bytes(alloc, input)?;
-        let core = submit_all(alloc, input)?;
-        Ok(Driver::Open(core))
     }
 
     /// The declarations of the core that is open, which have no fault.
@@ -88,7 +89,7 @@ impl Driver {
                 }
                 Err(refused) => {
                     *self = Driver::Open(refused.value);
-                    Err(DriverFault::Text(RunFault::Memory))
+                    Err(DriverFault::Memory)
                 }
             },
             other => {
@@ -152,7 +153,7 @@ impl Driver {
                 Err(NotClosed { core, refusal }) => {
                     *self = Driver::Open(core);
                     match refusal {
-                        Refusal::Memory => Err(DriverFault::Text(RunFault::Memory)),
+                        Refusal::Memory => Err(DriverFault::Memory),
                         Refusal::Fault(NotDone) => Err(DriverFault::NotDone),
                     }
                 }

@@ -1,19 +1,22 @@
 //! Why a call of a driver does nothing.
 ghost use Rattle.std.specs.Prelude.{◌≡◌};
-ghost use Rattle.ent_driver.specs.Fault.{code_of, place_of, status};
-ghost use Rattle.ent_driver.specs.declared.fault.DriverFault.TheVariants.{Text};
-ghost use Rattle.ent_engine.specs.declared.fault.RunFault.TheVariants.{Memory};
+ghost use Rattle.ent_driver.specs.Fault.{code_of, of_refusal, place_of, status};
+ghost use Rattle.ent_driver.specs.declared.fault.DriverFault.TheVariants.{Memory};
 
-use ent_engine::{RunFault, status_of};
+use ent_input::InputFault;
+use ent_value::Refusal;
 use std::alloc::{AllocError, AllocFailed};
 use thiserror::Error;
 
 /// Why a call of a driver does nothing. Each place is a byte offset from the start of the text that was handed in.
 #[derive(Clone, Copy, Debug, PartialEq, Eq, Error)]
 pub enum DriverFault {
-    /// The text is refused, or memory ran out.
-    #[error("{0:?}")]
-    Text(RunFault),
+    /// The text has a fault.
+    #[error("{0}")]
+    Text(InputFault),
+    /// Memory ran out.
+    #[error("E900: out of memory")]
+    Memory,
     /// Nothing is open; or, where a book is asked for, nothing is closed.
     #[error("the handle isn't of this state")]
     Vacant,
@@ -32,26 +35,29 @@ pub enum DriverFault {
 }
 
 impl From<AllocError> for DriverFault {
-    ghost from_gives = { λ _ e. e ≡ Text Memory };
+    ghost from_gives = { λ _ e. e ≡ Memory };
 
     fn from(_: AllocError) -> Self {
-        DriverFault::Text(RunFault::Memory)
+        DriverFault::Memory
     }
 }
 
 impl<T: Drop> From<AllocFailed<T>> for DriverFault {
-    ghost from_gives = { λ _ e. e ≡ Text Memory };
+    ghost from_gives = { λ _ e. e ≡ Memory };
 
     fn from(_: AllocFailed<T>) -> Self {
-        DriverFault::Text(RunFault::Memory)
+        DriverFault::Memory
     }
 }
 
-impl From<RunFault> for DriverFault {
-    ghost from_gives = { λ fault e. e ≡ Text fault };
+impl From<Refusal<InputFault>> for DriverFault {
+    ghost from_gives = { λ refusal e. e ≡ of_refusal refusal };
 
-    fn from(fault: RunFault) -> Self {
-        DriverFault::Text(fault)
+    fn from(refusal: Refusal<InputFault>) -> Self {
+        match refusal {
+            Refusal::Memory => DriverFault::Memory,
+            Refusal::Fault(fault) => DriverFault::Text(fault),
+        }
     }
 }
 
@@ -62,6 +68,7 @@ impl DriverFault {
     {
         match self {
             DriverFault::Text(fault) => fault.code(),
+            DriverFault::Memory => 900,
             DriverFault::Vacant => 0,
             DriverFault::Absent => 401,
             DriverFault::NotDone => 405,
@@ -76,7 +83,8 @@ impl DriverFault {
     {
         match self {
             DriverFault::Text(fault) => fault.place(),
-            DriverFault::Vacant
+            DriverFault::Memory
+            | DriverFault::Vacant
             | DriverFault::Absent
             | DriverFault::NotDone
             | DriverFault::Full
@@ -90,9 +98,10 @@ impl DriverFault {
         ensures { result ≡ status self }
     {
         match self {
-            DriverFault::Text(fault) => status_of(&fault),
+            DriverFault::Memory => 3,
             DriverFault::Vacant => 2,
-            DriverFault::Absent
+            DriverFault::Text(_)
+            | DriverFault::Absent
             | DriverFault::NotDone
             | DriverFault::Full
             | DriverFault::TooManyRows => 1,

@@ -21,7 +21,7 @@ pub fn cores_may_pass(core: Core) -> Core
     passed(core)
 }
 
-/// So may a driver, which stands behind the handle of a manager.
+/// So may a driver, which stands behind a handle of C.
 pub fn drivers_may_pass(driver: Driver) -> Driver
     ensures { result ≡ driver }
 {

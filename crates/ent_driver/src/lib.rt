@@ -1,5 +1,4 @@
-//! A core for one caller, who submits scripts as texts, makes runs or single moves, and closes the book. A manager of
-//! the library for other languages is a driver.
+//! A core for one caller: it takes scripts as texts, makes runs or single moves, and gives the book when it is closed.
 //!
 //! A [`Driver`] is vacant, open over a core, or closed with that core's book. Scripts come in as texts; answers, tables
 //! and books go out in the lines of a report. Each call does to the core what its contract says, and a refused call
@@ -25,5 +24,5 @@ pub use ent_renewal::FinishedBook;
 pub use fault::DriverFault;
 pub use handle_law::{cores_may_pass, drivers_may_pass};
 pub use moves::{Move, reply_text};
-pub use script::{examine, read_script};
+pub use script::examine;
 pub use text::{lines_under, report_text};

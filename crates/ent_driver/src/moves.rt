@@ -14,7 +14,7 @@ use ent_core::{Core, Reply};
 use ent_eval::{Done, Job, evaluate};
 use ent_form::FormFault;
 use ent_group::Tx;
-use ent_termination::{jobs_are_lent_by_replies, results_are_taken_at_once};
+use ent_protocol_laws::{jobs_are_lent_by_replies, results_are_taken_at_once};
 use ent_trace::{WrittenText, put_reply};
 use std::alloc::{AllocError, Global};
 

@@ -1,17 +1,17 @@
 //! Pieces of a line: transactions, tables and demands.
 ghost use Rattle.std.specs.Prelude.{◌≡◌, ◌<◌, ◌++◌, OnOk};
 ghost use Rattle.std.specs.Option.{option_copied};
-ghost use Rattle.ent_driver.specs.Why.{both_text, demand_text, mode_text, more_terms_text, more_txs_text};
-ghost use Rattle.ent_driver.specs.Why.{numbered_demand, relation_text, table_name, term_text, terms_text, tx_text};
+ghost use Rattle.ent_driver.specs.Why.{both_text, mode_text, more_txs_text, numbered_demand, table_name, tx_text};
 ghost use Rattle.ent_driver.specs.Why.{txs_text};
 ghost use Rattle.ent_tree.specs.declared.limits.TheConstants.{MOST_PARTS};
 
 use ent_book::append_number;
 use ent_group::Tx;
 use ent_lock::Mode;
-use ent_semantics::{Atom, Term};
+use ent_reasons::append_demand;
+use ent_semantics::Atom;
 use ent_tree::Opening;
-use ent_value::{Name, Value, print_value};
+use ent_value::Value;
 use std::alloc::{AllocError, Global};
 
 pub(crate) fn append_tx(alloc: Global, out: &mut Vec<u8>, tx: Tx) -> Result<(), AllocError>
@@ -79,59 +79,6 @@ pub(crate) fn append_table_name(
     }
 }
 
-/// A value where it is known.
-fn append_term(alloc: Global, out: &mut Vec<u8>, term: &Term<Value>) -> Result<(), AllocError>
-    ensures { OnOk result (out.new.items ≡ out.old.items ++ term_text term.now) }
-{
-    match term {
-        Term::Known(value) => print_value(alloc, out, value),
-        Term::Variable(_) => out.extend_from_slice(b"_"),
-    }
-}
-
-/// Terms after the first, each behind a comma and a space.
-fn append_more_terms(
-    alloc: Global,
-    out: &mut Vec<u8>,
-    more: &[Term<Value>],
-) -> Result<(), AllocError>
-    ensures { OnOk result (out.new.items ≡ out.old.items ++ more_terms_text more.now) }
-{
-    for term in more {
-        out.extend_from_slice(b", ")?;
-        append_term(alloc, out, term)?;
-    }
-    Ok(())
-}
-
-fn append_terms(alloc: Global, out: &mut Vec<u8>, terms: &[Term<Value>]) -> Result<(), AllocError>
-    ensures { OnOk result (out.new.items ≡ out.old.items ++ terms_text terms.now) }
-{
-    if let [first, more @ ..] = terms {
-        append_term(alloc, out, first)?;
-        append_more_terms(alloc, out, more)?;
-    }
-    Ok(())
-}
-
-/// The answer relation behind the terms.
-fn append_relation(out: &mut Vec<u8>, relation: &Name) -> Result<(), AllocError>
-    ensures { OnOk result (out.new.items ≡ out.old.items ++ relation_text relation.now) }
-{
-    out.extend_from_slice(b") IN ANSWER ")?;
-    out.extend_from_slice(relation.as_bytes())?;
-    Ok(())
-}
-
-/// A demand as it is written.
-fn append_demand(alloc: Global, out: &mut Vec<u8>, post: &Atom<Value>) -> Result<(), AllocError>
-    ensures { OnOk result (out.new.items ≡ out.old.items ++ demand_text post.now) }
-{
-    out.extend_from_slice(b"(")?;
-    append_terms(alloc, out, post.terms.as_slice())?;
-    append_relation(out, &post.relation)
-}
-
 /// The demand of an index, by its number and as it is written.
 pub(crate) fn append_numbered_demand(
     alloc: Global,
@@ -146,7 +93,7 @@ pub(crate) fn append_numbered_demand(
         Some(post) => {
             append_number(alloc, out, index as u64 + 1)?;
             out.extend_from_slice(b", ")?;
-            append_demand(alloc, out, post)
+            append_demand(alloc, out, &post.relation, post.terms.as_slice())
         }
         None => out.extend_from_slice(b".."),
     }

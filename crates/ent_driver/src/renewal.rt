@@ -6,7 +6,6 @@ ghost use Rattle.ent_protocol.specs.Reached.{opened};
 
 use crate::fault::DriverFault;
 use ent_core::Core;
-use ent_engine::RunFault;
 use ent_renewal::{FinishedBook, TooManyRows, renewed_opening};
 use ent_tree::Opening;
 use ent_value::Refusal;
@@ -31,7 +30,7 @@ pub(crate) fn renewed_core(alloc: Global, book: &FinishedBook) -> Result<Core, D
 {
     match renewed_opening(alloc, book) {
         Ok(opening) => Ok(open(alloc, opening)?),
-        Err(Refusal::Memory) => Err(DriverFault::Text(RunFault::Memory)),
+        Err(Refusal::Memory) => Err(DriverFault::Memory),
         Err(Refusal::Fault(TooManyRows)) => Err(DriverFault::TooManyRows),
     }
 }

@@ -1,56 +1,35 @@
 //! A script is taken, by its text alone.
 ghost use Rattle.std.specs.Prelude.{◌≡◌, IfErr, IfOk, None, OnErr, OnOk};
-ghost use Rattle.ent_driver.specs.Scripts.{HasForm, IsFaultOver, IsNoScript, IsNotTaken, IsScript, Takes};
+ghost use Rattle.ent_driver.specs.Scripts.{HasForm, IsNotTaken, RefusesOver, Takes};
 ghost use Rattle.ent_form.specs.OpeningFault.{opening_fault};
 ghost use Rattle.ent_protocol.specs.Reached.{book_of};
 ghost use Rattle.ent_semantics.specs.Book.{IsLegal};
 
 use crate::fault::DriverFault;
 use ent_core::{Core, Reply};
-use ent_engine::{MOST_BYTES, RunFault};
 use ent_form::{Catalogue, resolve};
 use ent_group::Tx;
-use ent_sql::parse_script;
-use ent_tree::{Opening, Script};
+use ent_input::{InputFault, read_script};
+use ent_tree::Opening;
 use ent_value::Refusal;
 use std::alloc::Global;
-use std::str;
-
-/// The script that bytes are, alone, with places from its own start; or the first fault of their text.
-pub fn read_script(alloc: Global, bytes: &[u8]) -> Result<Script, RunFault>
-    ensures script { IfOk result (λ script. IsScript bytes.now script) }
-    ensures refused { IfErr result (λ fault. IsNoScript bytes.now fault) }
-{
-    if bytes.len() > MOST_BYTES {
-        return Err(RunFault::TooLong);
-    }
-    let text = match str::from_utf8(bytes) {
-        Ok(text) => text,
-        Err(fault) => return Err(RunFault::NotUtf8(fault.valid_up_to())),
-    };
-    match parse_script(alloc, text) {
-        Ok(script) => Ok(script),
-        Err(Refusal::Memory) => Err(RunFault::Memory),
-        Err(Refusal::Fault(fault)) => Err(RunFault::Sql(fault)),
-    }
-}
 
 /// Whether bytes are one script without a fault over the tables of an opening; else their first fault.
-pub fn examine(alloc: Global, opening: &Opening, bytes: &[u8]) -> Result<(), RunFault>
+pub fn examine(alloc: Global, opening: &Opening, bytes: &[u8]) -> Result<(), Refusal<InputFault>>
     requires { opening_fault opening.now ≡ None }
     ensures ok { OnOk result (HasForm opening.now bytes.now) }
-    ensures refused { IfErr result (λ fault. IsFaultOver opening.now bytes.now fault) }
+    ensures refused { IfErr result (λ refusal. RefusesOver opening.now bytes.now refusal) }
 {
     let script = read_script(alloc, bytes)?;
     let catalogue = match Catalogue::of(alloc, opening) {
         Ok(catalogue) => catalogue,
-        Err(Refusal::Memory) => return Err(RunFault::Memory),
+        Err(Refusal::Memory) => return Err(Refusal::Memory),
         Err(Refusal::Fault(_)) => unreachable!(),
     };
     match resolve(alloc, &catalogue, &script) {
         Ok(_) => Ok(()),
-        Err(Refusal::Memory) => Err(RunFault::Memory),
-        Err(Refusal::Fault(fault)) => Err(RunFault::Form(fault)),
+        Err(Refusal::Memory) => Err(Refusal::Memory),
+        Err(Refusal::Fault(fault)) => Err(Refusal::Fault(InputFault::Form(fault))),
     }
 }
 
@@ -70,12 +49,12 @@ pub(crate) fn submit(alloc: Global, core: &mut Core, bytes: &[u8]) -> Result<Tx,
         }
         Reply::Faulty(script, fault) => {
             drop(script);
-            Err(DriverFault::Text(RunFault::Form(fault)))
+            Err(DriverFault::Text(InputFault::Form(fault)))
         }
         // No other reply is made to a submit.
         other => {
             drop(other);
-            Err(DriverFault::Text(RunFault::Memory))
+            Err(DriverFault::Memory)
         }
     }
 }

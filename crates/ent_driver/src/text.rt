@@ -4,12 +4,11 @@ ghost use Rattle.std.specs.Option.{option_map};
 ghost use Rattle.ent_book.specs.Report as report;
 ghost use Rattle.ent_book.specs.Tables.{book_seen};
 ghost use Rattle.ent_driver.specs.Told.{HasNoTable, answers_so_far, lines_under};
-ghost use Rattle.ent_engine.specs.Report.{text_of};
+ghost use Rattle.ent_book.specs.Version.{text_of};
 
 use crate::fault::DriverFault;
-use ent_book::{NamedTable, append_answers, append_table};
+use ent_book::{NamedTable, ReportVersion, append_answers, append_table, write_book};
 use ent_core::{Core, Standing};
-use ent_engine::{ReportVersion, write_book};
 use ent_group::Tx;
 use ent_rel::Table;
 use ent_semantics::{Answer, Book, Fate};

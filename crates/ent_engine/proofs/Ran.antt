@@ -10,12 +10,12 @@ use Rattle.ent_protocol.specs.Reached.{IsGatheredAt, LeadsTo}
 use Rattle.ent_protocol.specs.Run.{Forms}
 use Rattle.ent_protocol.specs.State.{State}
 use Rattle.ent_protocol.specs.State.{Submitted as OneSubmitted}
-use Rattle.ent_termination.specs.Fates.{HaveFates}
+use Rattle.ent_protocol_laws.specs.Fates.{HaveFates}
 use Rattle.ent_sched.specs.Passed.{resolved_forms}
 use Rattle.ent_sched.specs.Onward.{LeadsOn}
 use Rattle.ent_sched.specs.RunOut.{IsRunOut}
 use Rattle.ent_sched.specs.Play.{AreSubmitted}
-use Rattle.ent_engine.specs.Report.{IsBookOf}
+use Rattle.ent_sched.specs.Play.{IsBookOf}
 
 -- events behind events
 abbrev pub Joined : Type 0

@@ -5,10 +5,11 @@ use Rattle.std.specs.Io.KnownBytes.{Appends}
 use Rattle.ent_tree.specs.declared.script.Input.{Input}
 use Rattle.ent_semantics.specs.declared.book.Book.{Book}
 use Rattle.ent_semantics.specs.Database.{Database}
-use Rattle.ent_sched.specs.Play.{input_fault}
-use Rattle.ent_engine.specs.Report.{IsBookOf, text_of}
-use Rattle.ent_engine.specs.declared.options.ReportVersion.{ReportVersion}
-use Rattle.ent_engine.specs.Reading.{IsInput, IsRead}
+use Rattle.ent_form.specs.InputFault.{input_fault}
+use Rattle.ent_book.specs.Version.{text_of}
+use Rattle.ent_sched.specs.Play.{IsBookOf}
+use Rattle.ent_book.specs.declared.version.ReportVersion.{ReportVersion}
+use Rattle.ent_input.specs.Reading.{IsInput, IsRead}
 use Rattle.ent_engine.specs.Io.{WritesBeginning, WritesReport}
 use Rattle.ent_engine.specs.declared.fault.RunFault.TheVariants.{WriteFault}
 

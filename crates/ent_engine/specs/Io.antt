@@ -2,25 +2,27 @@
 use Rattle.std.specs.Prelude.{◌≡◌, ℕ, Bool, true, false, ◌<◌, ◌++◌, ◌||◌, List, length, Option, IfSome, Result, Ok, Err}
 use Rattle.std.specs.Io.KnownBytes.{Appends, Keeps}
 use Rattle.ent_value.specs.Watched.{Stream}
+use Rattle.ent_input.specs.Reading.{IsInput}
+use Rattle.ent_input.specs.declared.fault.InputFault.TheVariants.{TooLong, NotUtf8, Sql, Form}
+use Rattle.ent_input.specs.declared.reading.TheConstants.{MOST_BYTES}
 use Rattle.ent_engine.specs.declared.fault.RunFault.{RunFault}
-use Rattle.ent_engine.specs.declared.fault.RunFault.TheVariants.{NotUtf8, TooLong, Sql, Form, Check, Differs}
-use Rattle.ent_engine.specs.declared.fault.RunFault.TheVariants.{ReadFault, WriteFault, Memory}
+use Rattle.ent_engine.specs.declared.fault.RunFault.TheVariants.{Input as OfInput, Check, Differs, ReadFault, WriteFault}
+use Rattle.ent_engine.specs.declared.fault.RunFault.TheVariants.{Memory}
 use Rattle.ent_tree.specs.declared.script.Input.{Input}
 use Rattle.ent_semantics.specs.declared.book.Book.{Book}
 use Rattle.ent_semantics.specs.Database.{Database}
-use Rattle.ent_engine.specs.declared.options.ReportVersion.{ReportVersion}
-use Rattle.ent_engine.specs.Report.{IsBookOf, text_of}
-use Rattle.ent_engine.specs.declared.reader.TheConstants.{MOST_BYTES}
-use Rattle.ent_engine.specs.Reading.{IsInput}
+use Rattle.ent_book.specs.declared.version.ReportVersion.{ReportVersion}
+use Rattle.ent_book.specs.Version.{text_of}
+use Rattle.ent_sched.specs.Play.{IsBookOf}
 
 -- Reading to the end fails for want of memory, where there is too much, or where the reader fails.
 abbrev pub ReadingFails : Option (List ℕ) → RunFault → Type 0
-ReadingFails remaining TooLong = IfSome remaining (λ all. MOST_BYTES < length all)
+ReadingFails remaining (OfInput TooLong) = IfSome remaining (λ all. MOST_BYTES < length all)
+ReadingFails remaining (OfInput (NotUtf8 place)) = ⊥
+ReadingFails remaining (OfInput (Sql fault)) = ⊥
+ReadingFails remaining (OfInput (Form fault)) = ⊥
 ReadingFails remaining ReadFault = Unit {0}
 ReadingFails remaining Memory = Unit {0}
-ReadingFails remaining (NotUtf8 place) = ⊥
-ReadingFails remaining (Sql fault) = ⊥
-ReadingFails remaining (Form fault) = ⊥
 ReadingFails remaining (Check fault) = ⊥
 ReadingFails remaining Differs = ⊥
 ReadingFails remaining WriteFault = ⊥
@@ -29,10 +31,7 @@ ReadingFails remaining WriteFault = ⊥
 abbrev pub is_read_fault : {X : Type 0} → Result X RunFault → Bool
 is_read_fault (Ok x) = false
 is_read_fault (Err ReadFault) = true
-is_read_fault (Err (NotUtf8 place)) = false
-is_read_fault (Err TooLong) = false
-is_read_fault (Err (Sql fault)) = false
-is_read_fault (Err (Form fault)) = false
+is_read_fault (Err (OfInput fault)) = false
 is_read_fault (Err (Check fault)) = false
 is_read_fault (Err Differs) = false
 is_read_fault (Err WriteFault) = false
@@ -42,10 +41,7 @@ is_read_fault (Err Memory) = false
 abbrev pub is_write_fault : {X : Type 0} → Result X RunFault → Bool
 is_write_fault (Ok x) = false
 is_write_fault (Err WriteFault) = true
-is_write_fault (Err (NotUtf8 place)) = false
-is_write_fault (Err TooLong) = false
-is_write_fault (Err (Sql fault)) = false
-is_write_fault (Err (Form fault)) = false
+is_write_fault (Err (OfInput fault)) = false
 is_write_fault (Err (Check fault)) = false
 is_write_fault (Err Differs) = false
 is_write_fault (Err ReadFault) = false
@@ -63,10 +59,7 @@ IsWriterMarkedBy result writer = (writer.failed || writer.stalled) ≡ is_write_
 abbrev pub IsSilent : Option (List ℕ) → Option (List ℕ) → RunFault → Type 0
 IsSilent old new WriteFault = Unit {0}
 IsSilent old new ReadFault = Keeps old new
-IsSilent old new (NotUtf8 place) = Keeps old new
-IsSilent old new TooLong = Keeps old new
-IsSilent old new (Sql fault) = Keeps old new
-IsSilent old new (Form fault) = Keeps old new
+IsSilent old new (OfInput fault) = Keeps old new
 IsSilent old new (Check fault) = Keeps old new
 IsSilent old new Differs = Keeps old new
 IsSilent old new Memory = Keeps old new
@@ -84,10 +77,7 @@ WritesBeginning version bytes old new WriteFault =
     × IsInput bytes input × IsBookOf input book
     × ((front rest : List ℕ) × (text_of version book ≡ front ++ rest) × Appends old new front)
 WritesBeginning version bytes old new ReadFault = Unit {0}
-WritesBeginning version bytes old new (NotUtf8 place) = Unit {0}
-WritesBeginning version bytes old new TooLong = Unit {0}
-WritesBeginning version bytes old new (Sql fault) = Unit {0}
-WritesBeginning version bytes old new (Form fault) = Unit {0}
+WritesBeginning version bytes old new (OfInput fault) = Unit {0}
 WritesBeginning version bytes old new (Check fault) = Unit {0}
 WritesBeginning version bytes old new Differs = Unit {0}
 WritesBeginning version bytes old new Memory = Unit {0}

@@ -6,12 +6,11 @@ ghost use Rattle.ent_engine.specs.Io.{IsReaderMarkedBy, IsWriterMarkedBy, IsSile
 
 use crate::fault::RunFault;
 use crate::options::RunOptions;
-use crate::parse::parse_bytes;
 use crate::reader::read_whole;
-use crate::runs::{run_out, submit_all};
-use crate::writer::write_book;
-use ent_book::WriteFault;
-use ent_sched::{Silent, Watcher};
+use crate::runs::run_out;
+use ent_book::{WriteFault, write_book};
+use ent_input::read_input;
+use ent_sched::{Core, Silent, Watcher};
 use ent_value::{Refusal, Watched};
 use std::alloc::Global;
 use std::io::{Read, Write};
@@ -40,9 +39,9 @@ pub fn run_watched<R: Read, W: Write, T: Watcher>(
         WritesBeginning options.report bytes (W.contents writer.old.inner) (W.contents writer.new.inner) fault)) }
 {
     let bytes = read_whole(alloc, reader)?;
-    let input = parse_bytes(alloc, bytes.as_slice())?;
+    let input = read_input(alloc, bytes.as_slice())?;
     drop(bytes);
-    let core = submit_all(alloc, input)?;
+    let core = Core::over(alloc, input)?;
     let book = run_out(alloc, core, options.tries, watcher)?;
     match write_book(alloc, &book, options.report, writer) {
         Ok(()) => Ok(()),

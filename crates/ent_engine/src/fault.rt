@@ -1,30 +1,22 @@
 //! Why a run of the program gives no report.
 ghost use Rattle.std.specs.Prelude.{◌≡◌, Some};
-ghost use Rattle.ent_engine.specs.Fault.{code_of, place_of, status, line_text};
+ghost use Rattle.ent_engine.specs.Fault.{code_of, line_text, of_form, of_refusal, place_of, status};
 ghost use Rattle.ent_engine.specs.declared.fault.RunFault.TheVariants.{Memory};
 
 use ent_check_report::CheckFault;
 use ent_form::FormFault;
-use ent_sql::SqlFault;
+use ent_input::InputFault;
+use ent_value::Refusal;
 use std::alloc::{AllocError, AllocFailed};
 use std::fmt;
 use thiserror::Error;
 
-/// Why there is no report. Each place is a byte offset from the input's start.
+/// Why there is no report.
 #[derive(Clone, Copy, Debug, PartialEq, Eq, Error)]
 pub enum RunFault {
-    /// The input isn't UTF-8; the place is the first byte of what is ill-formed.
-    #[error("E100 at {0}: this isn't UTF-8")]
-    NotUtf8(usize),
-    /// The input has more bytes than [`crate::MOST_BYTES`].
-    #[error("E105: the input is too long")]
-    TooLong,
-    /// The input's tokens or its grammar have a fault.
+    /// The input has a fault. Its place is a byte offset from the input's start.
     #[error("{0}")]
-    Sql(SqlFault),
-    /// The input's names, numbers of values or kinds have a fault.
-    #[error("{0}")]
-    Form(FormFault),
+    Input(InputFault),
     /// A report can't be checked.
     #[error("{0}")]
     Check(CheckFault),
@@ -58,16 +50,35 @@ impl<T: Drop> From<AllocFailed<T>> for RunFault {
     }
 }
 
+impl From<Refusal<InputFault>> for RunFault {
+    ghost from_gives = { λ refusal e. e ≡ of_refusal refusal };
+
+    fn from(refusal: Refusal<InputFault>) -> Self {
+        match refusal {
+            Refusal::Memory => RunFault::Memory,
+            Refusal::Fault(fault) => RunFault::Input(fault),
+        }
+    }
+}
+
+impl From<Refusal<FormFault>> for RunFault {
+    ghost from_gives = { λ refusal e. e ≡ of_form refusal };
+
+    fn from(refusal: Refusal<FormFault>) -> Self {
+        match refusal {
+            Refusal::Memory => RunFault::Memory,
+            Refusal::Fault(fault) => RunFault::Input(InputFault::Form(fault)),
+        }
+    }
+}
+
 impl RunFault {
     /// The fault's number, as 301.
     pub fn code(self) -> u16
         ensures { result ≡ code_of self }
     {
         match self {
-            RunFault::NotUtf8(_) => 100,
-            RunFault::TooLong => 105,
-            RunFault::Sql(fault) => fault.code(),
-            RunFault::Form(fault) => fault.code(),
+            RunFault::Input(fault) => fault.code(),
             RunFault::Check(fault) => fault.code(),
             RunFault::Differs => 502,
             RunFault::ReadFault => 601,
@@ -81,11 +92,8 @@ impl RunFault {
         ensures { result ≡ place_of self }
     {
         match self {
-            RunFault::NotUtf8(place) => Some(place),
-            RunFault::Sql(fault) => Some(fault.place()),
-            RunFault::Form(fault) => Some(fault.place()),
-            RunFault::TooLong
-            | RunFault::Check(_)
+            RunFault::Input(fault) => fault.place(),
+            RunFault::Check(_)
             | RunFault::Differs
             | RunFault::ReadFault
             | RunFault::WriteFault
@@ -100,7 +108,7 @@ pub fn status_of(fault: &RunFault) -> u8
     ensures { result ≡ status fault.now }
 {
     match fault {
-        RunFault::NotUtf8(_) | RunFault::TooLong | RunFault::Sql(_) | RunFault::Form(_) => 1,
+        RunFault::Input(_) => 1,
         RunFault::Check(fault) => ent_check_report::status_of(fault),
         RunFault::Memory | RunFault::Differs => 3,
         RunFault::ReadFault | RunFault::WriteFault => 4,

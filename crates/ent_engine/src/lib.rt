@@ -4,29 +4,21 @@
 //! nothing. The report is the text of a book of the input: all scripts were submitted before any other event, and run
 //! concurrently until each had its fate; and the book is legal. [`run_watched`] does the same, and tells a watcher each
 //! event of the core with its reply. [`report_of`] gives the report of an input in memory. A caller that runs the
-//! scripts in another way uses the parts: [`parse_bytes`], [`submit_all`] and [`write_book`].
+//! scripts in another way uses the parts: [`read_whole`], [`ent_input::read_input`], [`ent_sched::Core::over`] and
+//! [`ent_book::write_book`].
 #![tactic(auto)]
 
 mod engine;
 mod fault;
 mod memory;
 mod options;
-mod parse;
 mod reader;
 mod runs;
-mod threads;
 mod version;
-mod workers;
-mod writer;
 
 pub use engine::{run, run_watched};
-pub use ent_serve::MOST_SESSIONS;
 pub use fault::{FaultLine, RunFault, status_of};
 pub use memory::report_of;
-pub use options::{DEFAULT_TRIES, ReportVersion, RunOptions};
-pub use parse::parse_bytes;
-pub use reader::{MOST_BYTES, read_whole};
-pub use runs::submit_all;
+pub use options::{DEFAULT_TRIES, RunOptions};
+pub use reader::read_whole;
 pub use version::VERSION;
-pub use workers::run_workers;
-pub use writer::write_book;

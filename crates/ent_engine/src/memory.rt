@@ -5,11 +5,10 @@ ghost use Rattle.ent_engine.specs.Reading.{IsRefused};
 
 use crate::fault::RunFault;
 use crate::options::RunOptions;
-use crate::parse::parse_bytes;
-use crate::reader::MOST_BYTES;
-use crate::runs::{run_out, submit_all};
-use crate::writer::write_book;
-use ent_sched::Silent;
+use crate::runs::run_out;
+use ent_book::write_book;
+use ent_input::read_input;
+use ent_sched::{Core, Silent};
 use ent_value::Watched;
 use std::alloc::Global;
 
@@ -19,11 +18,8 @@ pub fn report_of(alloc: Global, input: &[u8], options: RunOptions) -> Result<Vec
     ensures report { IfOk result (λ report. WritesReport options.report input.now (Some []) (Some report.items)) }
     ensures refused { IfErr result (λ fault. IsRefused input.now fault) }
 {
-    if input.len() > MOST_BYTES {
-        return Err(RunFault::TooLong);
-    }
-    let read = parse_bytes(alloc, input)?;
-    let core = submit_all(alloc, read)?;
+    let read = read_input(alloc, input)?;
+    let core = Core::over(alloc, read)?;
     let book = run_out(alloc, core, options.tries, &mut Silent)?;
     let mut writer = Watched::new(Vec::new(alloc));
     match write_book(alloc, &book, options.report, &mut writer) {

@@ -1,17 +1,10 @@
 //! What a caller may choose of a run.
 ghost use Rattle.std.specs.Prelude.{◌≡◌};
 
+use ent_book::ReportVersion;
+
 /// The calls that are made where the caller says nothing of them.
 pub const DEFAULT_TRIES: u64 = 1;
-
-/// Which text a book's report has.
-#[derive(Clone, Copy, Debug, PartialEq, Eq)]
-pub enum ReportVersion {
-    /// Version 1: fates, answers, joint answers and tables.
-    One,
-    /// Version 2: the opening, the scripts and the groundings too, so that the report can be checked alone.
-    Two,
-}
 
 /// What a caller may choose of a run.
 #[derive(Clone, Copy, Debug, PartialEq, Eq)]

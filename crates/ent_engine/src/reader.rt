@@ -1,17 +1,15 @@
 //! An input read whole.
 ghost use Rattle.std.specs.Prelude.{◌≡◌, ◌≤◌, length, IfOk, IfErr, IfSome};
 ghost use Rattle.ent_value.specs.Watched.{IsUnmarked};
-ghost use Rattle.ent_engine.specs.declared.reader.TheConstants.{MOST_BYTES};
+ghost use Rattle.ent_input.specs.declared.reading.TheConstants.{MOST_BYTES};
 ghost use Rattle.ent_engine.specs.Io.{ReadingFails, IsReaderMarkedBy};
 
 use crate::fault::RunFault;
+use ent_input::{InputFault, MOST_BYTES};
 use ent_stream::StreamFault;
 use ent_value::{Refusal, Watched};
 use std::alloc::Global;
 use std::io::Read;
-
-/// The most bytes that an input has.
-pub const MOST_BYTES: usize = 16_777_216;
 
 /// Reads to the end, in any pieces that the reader gives: an input's bytes, of which there are at most [`MOST_BYTES`].
 /// The reader is handed in unmarked, as [`Watched::new`] makes it.
@@ -25,7 +23,7 @@ pub fn read_whole<R: Read>(alloc: Global, reader: &mut Watched<R>) -> Result<Vec
     match ent_stream::read_whole(alloc, reader, MOST_BYTES) {
         Ok(bytes) => Ok(bytes),
         Err(Refusal::Memory) => Err(RunFault::Memory),
-        Err(Refusal::Fault(StreamFault::TooLong)) => Err(RunFault::TooLong),
+        Err(Refusal::Fault(StreamFault::TooLong)) => Err(RunFault::Input(InputFault::TooLong)),
         Err(Refusal::Fault(StreamFault::Unreadable)) => Err(RunFault::ReadFault),
     }
 }

@@ -1,37 +1,18 @@
-//! The scripts of an input, submitted to a core and run until each has its fate.
-ghost use Rattle.std.specs.Prelude.{◌≡◌, IfErr, IfOk, None};
+//! The scripts of a core, run until each has its fate.
+ghost use Rattle.std.specs.Prelude.{IfOk};
 ghost use Rattle.ent_book.specs.Tables.{book_seen};
-ghost use Rattle.ent_sched.specs.Play.{AreSubmitted, input_fault};
-ghost use Rattle.ent_termination.specs.Fates.{HaveFates};
-ghost use Rattle.ent_engine.specs.Parse.{IsRefusedForForm};
+ghost use Rattle.ent_protocol_laws.specs.Fates.{HaveFates};
 ghost use Rattle.ent_sched.specs.Passed.{resolved_forms};
 ghost use Rattle.ent_sched.specs.RunOut.{IsRunOut};
 ghost use Rattle.ent_semantics.specs.Book.{IsLegal};
 
-use crate::fault::RunFault;
 use ent_book::NamedTable;
 use ent_form::FormFault;
+use ent_protocol_laws::events_lead_on;
 use ent_sched::{Core, Counted, Watcher, run_all_watched};
 use ent_semantics::Book;
-use ent_serve::core_over;
-use ent_termination::events_lead_on;
-use ent_tree::Input;
-use ent_value::{Refusal, Sequence};
+use ent_value::Sequence;
 use std::alloc::{AllocError, AllocFailed, Global};
-
-/// A core over an input's opening, to which its scripts were submitted, in order, and nothing else was done; else the
-/// input's first fault of form.
-pub fn submit_all(alloc: Global, input: Input) -> Result<Core, RunFault>
-    ensures submitted { IfOk result (λ core. AreSubmitted input.opening input.scripts core) }
-    ensures formed { IfOk result (λ core. input_fault input.opening input.scripts ≡ None) }
-    ensures refused { IfErr result (λ fault. IsRefusedForForm input fault) }
-{
-    match core_over(alloc, input) {
-        Ok(core) => Ok(core),
-        Err(Refusal::Memory) => Err(RunFault::Memory),
-        Err(Refusal::Fault(fault)) => Err(RunFault::Form(fault)),
-    }
-}
 
 /// Runs the scripts of a core until each has its fate; the watcher is told of each event. Where memory runs out, the
 /// core that comes back is run on, as long as there are tries left.

@@ -2,7 +2,7 @@
 use Rattle.std.proofs.Common.{◌≡◌, Bool, true, false, List, [], ◌∷◌, ap}
 use Rattle.ent_form.specs.declared.fault.FormFault.{FormFault}
 use Rattle.ent_sched.specs.Passed.{resolved_forms}
-use Rattle.ent_serializability.specs.Commits.{is_commit}
+use Rattle.ent_protocol_laws.specs.Commits.{is_commit}
 use Rattle.ent_protocol.specs.Event.{Recall, Reply, StartRun}
 use Rattle.ent_protocol.specs.Run.{StartsWith}
 use Rattle.ent_protocol.specs.State.{Dormant, State}

@@ -9,7 +9,7 @@ use Rattle.ent_protocol.specs.Reached.{IsReached, settled}
 use Rattle.ent_protocol.specs.Run.{Forms}
 use Rattle.ent_protocol.specs.State.{State}
 use Rattle.ent_protocol.specs.Step.{Step}
-use Rattle.ent_serializability.specs.Commits.{is_commit}
+use Rattle.ent_protocol_laws.specs.Commits.{is_commit}
 use Rattle.ent_sched.specs.Watching.{Heard, HearsAll, PlaysThrough, heard_of}
 use Rattle.ent_epoch.specs.Notes.{Note, all_noted, noted, noted_of}
 use Rattle.ent_epoch.specs.Telling.{HearsOn, KeepsUp, Telling, telling_at}

@@ -12,8 +12,9 @@ use Rattle.ent_protocol.specs.Reached.{IsReached, named_tables, settled, table_n
 use Rattle.ent_protocol.specs.Run.{Forms}
 use Rattle.ent_protocol.specs.State.{State}
 use Rattle.ent_protocol.specs.Step.{Step}
-use Rattle.ent_serializability.specs.Faithful.{AreFaithful}
-use Rattle.ent_serializability.specs.Commits.{GoesOnBy, committed_by, is_commit, numbered_from}
+use Rattle.ent_protocol_laws.specs.Faithful.{AreFaithful}
+use Rattle.ent_protocol.specs.Numbers.{entry_numbers}
+use Rattle.ent_protocol_laws.specs.Commits.{GoesOnBy, committed_by, is_commit}
 use Rattle.ent_sched.specs.Watching.{Heard, PlaysThrough}
 use Rattle.ent_feed.specs.declared.group.Commit.{Commit}
 use Rattle.ent_feed.specs.declared.group.Group.{Group}
@@ -31,7 +32,7 @@ get_behind (first ∷ front) entry more = get_behind front entry more
 
 -- the commits of entries that stand in a journal behind others
 commits_there : (tickets : List ℕ) (front added rest journal : List Entry) → journal ≡ front ++ (added ++ rest)
-    → map (commit_at tickets journal) (numbered_from (suc (length front)) added)
+    → map (commit_at tickets journal) (entry_numbers (suc (length front)) added)
     ≡ commits_of tickets (suc (length front)) added
 commits_there tickets front [] rest journal is = refl
 commits_there tickets front (entry ∷ added) rest journal is =
@@ -41,9 +42,9 @@ commits_there tickets front (entry ∷ added) rest journal is =
     length-append front (entry ∷ []) ∙ omega arith in
     let next : journal ≡ (front ++ entry ∷ []) ++ (added ++ rest) =
     is ∙ sym (append_assoc front (entry ∷ []) (added ++ rest)) in
-    let others : map (commit_at tickets journal) (numbered_from (suc (suc (length front))) added)
+    let others : map (commit_at tickets journal) (entry_numbers (suc (suc (length front))) added)
     ≡ commits_of tickets (suc (suc (length front))) added =
-    subst (λ n. map (commit_at tickets journal) (numbered_from (suc n) added) ≡ commits_of tickets (suc n) added)
+    subst (λ n. map (commit_at tickets journal) (entry_numbers (suc n) added) ≡ commits_of tickets (suc n) added)
     longer (commits_there tickets (front ++ entry ∷ []) added rest journal next) in
     let first : ℕ → Option Entry → Commit =
     λ number found. record {
@@ -53,7 +54,7 @@ commits_there tickets front (entry ∷ added) rest journal is =
     } in
     λ i. first (suc (length front)) (here i) ∷ others i
 
-no_entries : (number : ℕ) (added : List Entry) → numbered_from number added ≡ [] → added ≡ []
+no_entries : (number : ℕ) (added : List Entry) → entry_numbers number added ≡ [] → added ≡ []
 no_entries number [] is = refl
 no_entries number (entry ∷ added) is = absurd cc
 
@@ -128,7 +129,7 @@ module _ (forms : Forms FormFault) (tickets : List ℕ)
         journal = grown;
         commits =
             of.commits ∙ ap (map (commit_at tickets journal)) (sym goes.are)
-            ∙ ap (λ front. map (commit_at tickets journal) (numbered_from (suc (length front)) goes.added))
+            ∙ ap (λ front. map (commit_at tickets journal) (entry_numbers (suc (length front)) goes.added))
             agrees.journal
             ∙ commits_there tickets mark.journal goes.added rest journal
             (is ∙ ap (λ front. front ++ rest) grown ∙ append_assoc mark.journal goes.added rest);

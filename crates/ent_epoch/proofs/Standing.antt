@@ -9,8 +9,8 @@ use Rattle.ent_tree.specs.declared.declaration.Create.{Create}
 use Rattle.ent_tree.specs.declared.declaration.Opening.{Opening}
 use Rattle.ent_form.specs.OpeningFault.{opening_fault}
 use Rattle.ent_form.specs.declared.fault.FormFault.{FormFault}
-use Rattle.ent_form_laws.proofs.NamesApart.{AreApart, names_apart}
-use Rattle.ent_form_laws.proofs.Opened.{declared_once}
+use Rattle.ent_form.proofs.NamesApart.{AreApart, names_apart}
+use Rattle.ent_form.proofs.Opened.{declared_once}
 use Rattle.ent_sched.specs.Passed.{resolved_forms}
 use Rattle.ent_semantics.specs.Database.{Name, same_name}
 use Rattle.ent_semantics.specs.Form.{Tables}
@@ -19,12 +19,13 @@ use Rattle.ent_protocol.specs.Event.{Committed, Event, Reply}
 use Rattle.ent_protocol.specs.Reached.{IsReached, named_tables, settled, table_names}
 use Rattle.ent_protocol.specs.State.{State}
 use Rattle.ent_protocol.specs.Step.{Step}
-use Rattle.ent_serializability.proofs.Frame.{Laws}
-use Rattle.ent_serializability.proofs.Reached.{reached_kept}
-use Rattle.ent_serializability.proofs.Undo.{put_length, wide_length}
-use Rattle.ent_serializability.specs.Faithful.{AreFaithful}
-use Rattle.ent_serializability.specs.Commits.{GoesOnBy, committed_by, is_commit, numbered_from}
-use Rattle.ent_serializability.proofs.Counted.{reached_next}
+use Rattle.ent_protocol_laws.proofs.Frame.{Laws}
+use Rattle.ent_protocol_laws.proofs.Reached.{reached_kept}
+use Rattle.ent_protocol_laws.proofs.Undo.{put_length, wide_length}
+use Rattle.ent_protocol_laws.specs.Faithful.{AreFaithful}
+use Rattle.ent_protocol.specs.Numbers.{entry_numbers}
+use Rattle.ent_protocol_laws.specs.Commits.{GoesOnBy, committed_by, is_commit}
+use Rattle.ent_protocol_laws.proofs.SerialCounted.{reached_next}
 use Rattle.ent_sched.specs.Watching.{Heard, PlaysThrough}
 use Rattle.ent_feed.specs.declared.group.Group.{Group}
 use Rattle.ent_feed.specs.Group.{changes_between}
@@ -59,7 +60,7 @@ tables_declared laws s faithful reached =
 
 -- ---- events, one after the other
 
-nothing_added : (number : ℕ) (added : List Entry) (entries : List (ℕ × ℕ)) → numbered_from number added ≡ entries
+nothing_added : (number : ℕ) (added : List Entry) (entries : List (ℕ × ℕ)) → entry_numbers number added ≡ entries
     → 1 ≤ length entries → length added ≡ 0 → ⊥
 nothing_added number [] entries are some none =
     let few : length entries ≡ 0 = ap (λ (xs : List (ℕ × ℕ)). length xs) (sym are) in
@@ -97,7 +98,7 @@ module _
       → is_commit reply ≡ false → settled new ≡ settled s) where
     no_entry : (s : State) (event : Event) (reply : Reply FormFault) (new : State)
         → AreFaithful resolved_forms s.opening → IsReached resolved_forms s → Step resolved_forms s event reply new
-        → (added : List Entry) → numbered_from (suc (length s.journal)) added ≡ committed_by reply
+        → (added : List Entry) → entry_numbers (suc (length s.journal)) added ≡ committed_by reply
         → length added ≡ 0 → settled new ≡ settled s
     no_entry s event (Committed entries) new faithful reached step added are none =
         absurd (nothing_added (suc (length s.journal)) added entries are (some s event entries new step) none)

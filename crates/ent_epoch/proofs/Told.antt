@@ -13,7 +13,7 @@ use Rattle.ent_semantics.specs.Database.{Database}
 use Rattle.ent_semantics.specs.Form.{Tables}
 use Rattle.ent_semantics.specs.Serial.{numbered}
 use Rattle.ent_semantics.specs.declared.book.Entry.{Entry}
-use Rattle.ent_serializability.specs.Commits.{GoesOnBy, committed_by}
+use Rattle.ent_protocol_laws.specs.Commits.{GoesOnBy, committed_by}
 use Rattle.ent_protocol.specs.Event.{Event, Recall, Recalled, Reply, StartRun}
 use Rattle.ent_protocol.specs.Reached.{LeadsTo, named_tables, opened, settled, table_names}
 use Rattle.ent_protocol.specs.State.{State}

@@ -21,7 +21,7 @@ use Rattle.ent_protocol.specs.Step.{Step}
 use Rattle.ent_protocol_laws.specs.Attempts.{AskForMost, HasRunLeft, MayTakePart, StayWithin}
 use Rattle.ent_semantics.specs.Serial.{numbered}
 use Rattle.ent_semantics.proofs.Numbered.{of_numbered}
-use Rattle.ent_termination.specs.Tries.{present_run, runs_beyond, tries_left}
+use Rattle.ent_protocol_laws.specs.Tries.{present_run, runs_beyond, tries_left}
 use Rattle.ent_epoch.specs.Epoch.{AddsOne}
 use Rattle.ent_epoch.specs.OneRun.{AreForOneRun}
 

@@ -10,7 +10,7 @@ ghost use Rattle.ent_protocol.specs.State.{State};
 ghost use Rattle.ent_protocol.specs.Step.{Step};
 ghost use Rattle.ent_protocol_laws.specs.Attempts.{AskForMost, AsksForRun};
 ghost use Rattle.ent_sched.specs.Onward.{LeadsOn};
-ghost use Rattle.ent_termination.specs.Tries.{present_run, tries_left};
+ghost use Rattle.ent_protocol_laws.specs.Tries.{present_run, tries_left};
 ghost use Rattle.ent_epoch.specs.Epoch.{Epoch, Publishes, Takes, begun};
 ghost use Rattle.ent_epoch.specs.OneRun.{AreForOneRun, MakesRun};
 ghost use Rattle.ent_epoch.specs.Told.{AreToldOf, GoesOnUntold};
@@ -23,10 +23,10 @@ ghost use Rattle.ent_waiting.specs.declared.waiter.Submission.{Submission};
 
 use ent_feed::{groups_give_the_journal, groups_give_the_settled_tables};
 use ent_form::FormFault;
-use ent_protocol_laws::{attempts_stay_within, steps_go_on};
+use ent_protocol_laws::{
+    attempts_stay_within, events_lead_on, journals_grow_by_commits, steps_go_on,
+};
 use ent_sched::events_use_up_tries;
-use ent_serializability::journals_grow_by_commits;
-use ent_termination::events_lead_on;
 
 /// Where each script asks for one run, only those have a try left who wait for a run, one each; and the present run is
 /// one.

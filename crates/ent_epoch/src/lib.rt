@@ -1,16 +1,13 @@
-//! The telling of commits: how far a core is told of, and the groups that tell the rest.
-//!
-//! A [`Telling`] knows up to where a core is told of. As the watcher of a run it notes each commit, with the settled
-//! tables behind it. A caller may rely on it that the groups that it makes tell of all that was committed since, one
-//! group for each commit, or one for all of them where memory ran out while it noted.
-//!
-//! An epoch: a core whose transactions are those of tickets, each for one run.
+//! Epochs: a core that takes scripts in batches, makes one run of each batch, and publishes every commit.
 //!
 //! An [`Epoch`] takes a batch of scripts, at most as many as a run has members, and makes one run of them, to its end.
 //! Then nobody waits in the core and no run is on. A caller may rely on it that an epoch submits nothing but what it is
-//! given, for one run each, that its book is legal at all times, and that it can be closed after each batch. It
-//! publishes its commits: the groups that it puts into a feed tell each of them once. A turn ends it and begins the
-//! next one, which goes on where its tables stand.
+//! given, for one run each, that its book is legal at all times, and that it can be closed after each batch. A turn
+//! ends it and begins the next one, which goes on where its tables stand.
+//!
+//! A [`Telling`] knows up to which commit the groups of an epoch tell of its core. As the watcher of a run it notes
+//! each commit, with the settled tables behind it. Its groups, which the epoch puts into a feed, tell of each commit
+//! once: one group for each commit, or one for all of them where memory ran out while it noted.
 #![tactic(auto)]
 
 mod epoch;

@@ -8,8 +8,8 @@ ghost use Rattle.ent_protocol.specs.Reached.{IsReached, settled};
 ghost use Rattle.ent_protocol.specs.Run.{Forms};
 ghost use Rattle.ent_protocol.specs.State.{State};
 ghost use Rattle.ent_protocol.specs.Step.{Step};
-ghost use Rattle.ent_serializability.specs.Faithful.{AreFaithful};
-ghost use Rattle.ent_serializability.specs.Commits.{is_commit};
+ghost use Rattle.ent_protocol_laws.specs.Faithful.{AreFaithful};
+ghost use Rattle.ent_protocol_laws.specs.Commits.{is_commit};
 ghost use Rattle.ent_sched.specs.Watching.{Heard, HearsAll, PlaysThrough};
 ghost use Rattle.ent_feed.specs.declared.group.Group.{Group};
 ghost use Rattle.ent_feed.specs.Telling.{AreTold};
@@ -19,10 +19,11 @@ ghost use Rattle.ent_epoch.specs.Telling.{CanTell, HaveTickets, HearsOn, KeepsUp
 
 use ent_form::FormFault;
 use ent_protocol::commits_are_numbered;
-use ent_protocol_laws::{steps_go_on, transactions_stand_once};
+use ent_protocol_laws::{
+    journals_grow_by_commits, only_commits_settle_tables, steps_go_on, transactions_stand_once,
+};
 use ent_sched::resolved_forms_are_faithful;
 use ent_semantics::{closing_keeps_the_meaning, runs_go_on, statements_keep_to_their_uses};
-use ent_serializability::{journals_grow_by_commits, only_commits_settle_tables};
 
 /// Events lead from one state to another. Groups that are made of what was noted of them, over the journal of the last
 /// state, tell of what happened, up to a state that has the settled tables and the journal of the last one.

@@ -8,8 +8,8 @@ ghost use Rattle.ent_sched.specs.Onward.{LeadsOn};
 use crate::law::batches_go_on;
 use crate::{Telling, tellings_keep_up};
 use ent_form::FormFault;
+use ent_protocol_laws::{events_keep_the_input, events_lead_on, jobs_are_lent_by_replies};
 use ent_sched::{Core, Counted, run_watched};
-use ent_termination::{events_keep_the_input, events_lead_on, jobs_are_lent_by_replies};
 use std::alloc::{AllocError, AllocFailed, Global};
 
 /// Takes all jobs back, and starts a run, unless one is on or nobody waits. Where memory runs out no run is started.

@@ -7,9 +7,9 @@ use Rattle.std.specs.List.{list_any}
 use Rattle.ent_lists.specs.Elements.{or_second, number_itself}
 use Rattle.ent_value.specs.declared.value.Value.{Value}
 use Rattle.ent_semantics.specs.declared.entangled.Atom.{Atom}
-use Rattle.ent_coordination.specs.Component.{SetOfTransactions, IsIn, IsSupported, IsInRemainder, AreJoined}
-use Rattle.ent_coordination.specs.Component.{AreLinkedIn, AreLinked, IsComponent}
-use Rattle.ent_coordination.specs.Pool.{Posted, CanMeet, IsSafe}
+use Rattle.ent_semantics.specs.Component.{SetOfTransactions, IsIn, IsSupported, IsInRemainder, AreJoined}
+use Rattle.ent_semantics.specs.Component.{AreLinkedIn, AreLinked, IsComponent}
+use Rattle.ent_semantics.specs.Pool.{Posted, CanMeet, IsSafe}
 
 any_at : {X : Type 0} (p : X → Bool) (xs : List X) (x : X) (k : ℕ) → k < length xs → slice_index_or xs k x ≡ x
     → p x ≡ true → list_any p xs ≡ true

@@ -8,8 +8,8 @@ use Rattle.ent_lists.specs.Sets as set
 use Rattle.ent_value.specs.Value.{kinds_of}
 use Rattle.ent_semantics.specs.Entangled.{Valuation}
 use Rattle.ent_semantics.specs.Form.{Tables}
-use Rattle.ent_coordination.specs.Choice.{IsChoice}
-use Rattle.ent_coordination.specs.Pool.{IsPool, Posted}
+use Rattle.ent_semantics.specs.Choice.{IsChoice}
+use Rattle.ent_semantics.specs.Pool.{IsPool, Posted}
 use Rattle.ent_join.specs.Laid.{AreLaid, IsLaid, table_at}
 use Rattle.ent_join.specs.Plans.{HaveNoPlan, source_tables}
 use Rattle.ent_plan.proofs.Choices.{are_kinded}

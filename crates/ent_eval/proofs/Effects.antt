@@ -24,16 +24,16 @@ use Rattle.ent_protocol.specs.Job.{Single, Numbered, laid, tables_of, rows_to_ch
 use Rattle.ent_protocol.specs.Job as jobs
 use Rattle.ent_protocol.specs.State.{Use}
 use Rattle.ent_protocol.specs.Uses.{shared, statement_uses}
-use Rattle.ent_select.specs.Tables.{kinds_in, rows_in}
-use Rattle.ent_effect.specs.Change.{IsApplicable}
+use Rattle.ent_ordinary.specs.Tables.{kinds_in, rows_in}
+use Rattle.ent_ordinary.specs.Change.{IsApplicable}
 use Rattle.ent_semantics.specs.FormKinds.{Fits, tables_named}
 use Rattle.ent_semantics.proofs.Replied.{rows_are_no_count}
-use Rattle.ent_effect.specs.Meant.{rows_under, effect_of, IsMeant, CanBeApplied}
-use Rattle.ent_effect.specs.Meant as meant
+use Rattle.ent_ordinary.specs.Meant.{rows_under, effect_of, IsMeant, CanBeApplied}
+use Rattle.ent_ordinary.specs.Meant as meant
 use Rattle.ent_job.specs.Work.{AreUsed, IsOne}
 use Rattle.ent_eval.specs.Result.{IsRight, CanBeMade, alone_seen}
-use Rattle.ent_effect.specs.declared.outcome.Outcome.{Outcome}
-use Rattle.ent_effect.specs.declared.outcome.Outcome.TheVariants as outcomes
+use Rattle.ent_ordinary.specs.declared.outcome.Outcome.{Outcome}
+use Rattle.ent_ordinary.specs.declared.outcome.Outcome.TheVariants as outcomes
 use Rattle.ent_eval.proofs.Used.{tables_shared}
 
 -- ---- the tables that a statement names are those that it uses

@@ -21,7 +21,7 @@ use Rattle.ent_lists.proofs.Lists.{all_above}
 use Rattle.ent_value.specs.declared.value.Value.{Value}
 use Rattle.ent_semantics.specs.declared.entangled.Entangled.{Entangled}
 use Rattle.ent_semantics.specs.declared.entangled.Membership.{Membership}
-use Rattle.ent_coordination.specs.Pool.{Posted}
+use Rattle.ent_semantics.specs.Pool.{Posted}
 use Rattle.ent_protocol.specs.Begin.{same_use, use_rank, with_uses}
 use Rattle.ent_protocol.specs.PoolEvents.{joint_uses}
 use Rattle.ent_protocol.specs.State.{Use, inserted}

@@ -5,11 +5,11 @@ use Rattle.ent_semantics.specs.declared.answer.Answer.{Answer}
 use Rattle.ent_semantics.specs.declared.answer.Answer.TheVariants as answers
 use Rattle.ent_protocol.specs.Job.{Numbered, Done, IsEvaluated}
 use Rattle.ent_protocol.specs.Job as jobs
-use Rattle.ent_effect.specs.Change.{IsApplicable}
+use Rattle.ent_ordinary.specs.Change.{IsApplicable}
 use Rattle.ent_eval.specs.declared.outcome.JobOutcome.{JobOutcome}
 use Rattle.ent_eval.specs.declared.outcome.JobOutcome.TheVariants as outcomes
-use Rattle.ent_effect.specs.declared.outcome.Outcome.{Outcome}
-use Rattle.ent_effect.specs.declared.outcome.Outcome.TheVariants as alone
+use Rattle.ent_ordinary.specs.declared.outcome.Outcome.{Outcome}
+use Rattle.ent_ordinary.specs.declared.outcome.Outcome.TheVariants as alone
 
 abbrev pub alone_seen : Outcome → jobs.Outcome
 alone_seen (alone.Rows rows) = jobs.Shown rows

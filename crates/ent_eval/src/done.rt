@@ -7,8 +7,8 @@ ghost use Rattle.ent_eval.specs.Result.{CanBeMade, IsRight, alone_seen, answer_o
 
 use crate::joint::choice;
 use crate::outcome::JobOutcome;
-use ent_effect::{Outcome, statement_outcome};
 use ent_job::{Job, Single, Work};
+use ent_ordinary::{Outcome, statement_outcome};
 use ent_rel::NumberedTable;
 use ent_semantics::Answer;
 use std::alloc::{AllocError, Global};

@@ -1,6 +1,6 @@
 //! Posted statements that are to be answered together.
 ghost use Rattle.std.specs.Prelude.{◌≡◌, IfOk, List, MatchOption};
-ghost use Rattle.ent_coordination.specs.Choice.{IsLeastChoiceIfAny};
+ghost use Rattle.ent_semantics.specs.Choice.{IsLeastChoiceIfAny};
 ghost use Rattle.ent_join.specs.Plans.{HaveNoPlan};
 ghost use Rattle.ent_protocol.specs.Job.{Numbered, tables_of};
 ghost use Rattle.ent_job.specs.Work.{IsJoint};

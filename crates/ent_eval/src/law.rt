@@ -2,8 +2,8 @@
 ghost use Rattle.std.specs.Prelude.{List};
 ghost use Rattle.ent_tree.specs.declared.declaration.Create.{Create};
 ghost use Rattle.ent_semantics.specs.Form.{Tables};
-ghost use Rattle.ent_coordination.specs.Component.{IsComponent};
-ghost use Rattle.ent_coordination.specs.Pool.{IsSafe, Posted};
+ghost use Rattle.ent_semantics.specs.Component.{IsComponent};
+ghost use Rattle.ent_semantics.specs.Pool.{IsSafe, Posted};
 ghost use Rattle.ent_protocol.specs.Member.{seen_now};
 ghost use Rattle.ent_protocol.specs.State.{Use};
 ghost use Rattle.ent_job.specs.Work.{StandAtNumbers};

@@ -2,7 +2,7 @@
 ghost use Rattle.std.specs.Prelude.{◌≡◌, IfOk};
 ghost use Rattle.ent_eval.specs.Result.{answer_of, outcome_seen};
 
-use ent_effect::Outcome;
+use ent_ordinary::Outcome;
 use ent_semantics::Answer;
 use ent_tree::Duplicate;
 use ent_value::{Sequence, Value};

@@ -5,9 +5,9 @@ use Rattle.std.proofs.lemmas.Bool.{leb-true}
 use Rattle.std.specs.Prelude.{Contains, nat_le, ◌==◌, if◌then◌else◌}
 use Rattle.std.specs.List.{list_all}
 use Rattle.ent_protocol_laws.proofs.Determined.{same_asked}
-use Rattle.ent_coordination.specs.Component.{IsComponent, IsInRemainder, AreJoined}
-use Rattle.ent_coordination.specs.Pool.{Posted, first_tx}
-use Rattle.ent_coordination.proofs.Linked.{linked_end}
+use Rattle.ent_semantics.specs.Component.{IsComponent, IsInRemainder, AreJoined}
+use Rattle.ent_semantics.specs.Pool.{Posted, first_tx}
+use Rattle.ent_semantics.proofs.Linked.{linked_end}
 use Rattle.ent_protocol.specs.Event.{Reply}
 use Rattle.ent_protocol.specs.Event as replies
 use Rattle.ent_protocol.specs.Finish.{IsOutstandingSingle, IsTaken}
@@ -19,7 +19,7 @@ use Rattle.ent_lists.specs.Elements.{in_contains}
 use Rattle.ent_lists.proofs.Contained.{of_mapped, to_mapped, contains_none}
 use Rattle.ent_protocol.specs.PostedBy.{is_present}
 use Rattle.ent_protocol.specs.State.{State}
-use Rattle.ent_termination.proofs.Taken.{none_taken}
+use Rattle.ent_protocol_laws.proofs.Taken.{none_taken}
 use Rattle.ent_examples.specs.Wish.{Friend, posted, joint_done}
 use Rattle.ent_examples.specs.Wish as wishes
 use Rattle.ent_examples.proofs.Choice.{taken, least_taken, have_partners}

@@ -4,7 +4,6 @@ use Rattle.ent_lists.proofs.Contained.{contains_none}
 use Rattle.ent_tree.specs.declared.script.End.TheVariants.{Commit}
 use Rattle.ent_protocol.specs.Begin.{posting}
 use Rattle.ent_protocol.specs.Event as replies
-use Rattle.ent_protocol.specs.Partners.{partners_opening}
 use Rattle.ent_protocol.specs.Play.{Plays}
 use Rattle.ent_protocol.specs.PoolEvents.{joining, Lends}
 use Rattle.ent_protocol.specs.Quiet.{NoneIs, IsReason, CanMove, IsUntried, MovesBy}
@@ -13,11 +12,12 @@ use Rattle.ent_protocol.specs.Reached.{opened}
 use Rattle.ent_protocol.specs.Rollback.{NoOne, rolled_back}
 use Rattle.ent_protocol.specs.Run.{Forms, submitting, starting, ending}
 use Rattle.ent_protocol.specs.State.{State}
-use Rattle.ent_protocol.proofs.Alone.{alone}
+use Rattle.ent_examples.specs.Partners.{partners_opening}
 use Rattle.ent_examples.specs.Busy.{deletes_form, is_busy, cycle_stands}
 use Rattle.ent_examples.specs.HeldBack.{mickey, minnie, two_friends}
 use Rattle.ent_examples.specs.Scripts.{ScriptOf, asks_form, script}
 use Rattle.ent_examples.specs.Wish.{posted, wants, first_asks, joint_job}
+use Rattle.ent_examples.proofs.Alone.{alone}
 use Rattle.ent_examples.proofs.Answered.{lends, joins, nothing_out, present}
 use Rattle.ent_examples.proofs.Choice.{taken}
 use Rattle.ent_examples.proofs.Component.{everyone}

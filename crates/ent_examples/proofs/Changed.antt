@@ -23,7 +23,7 @@ use Rattle.ent_semantics.specs.declared.operand.Operand.{Operand}
 use Rattle.ent_semantics.specs.declared.statement.Statement.TheVariants as forms
 use Rattle.ent_semantics.specs.Form.{Tables, closed_worth, form_meaning, operand_worth, table_numbered}
 use Rattle.ent_protocol.specs.Job.{IsEffect, Changed}
-use Rattle.ent_protocol.proofs.Inserted.{another_row, one_row}
+use Rattle.ent_examples.proofs.Inserted.{another_row, one_row}
 
 abbrev Row : Type 0
 Row = List Value

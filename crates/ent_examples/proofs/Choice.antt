@@ -9,12 +9,12 @@ use Rattle.ent_semantics.specs.declared.answer.Fact.{Fact}
 use Rattle.ent_semantics.specs.Database.{Name}
 use Rattle.ent_semantics.specs.Entangled.{Valuation}
 use Rattle.ent_semantics.specs.Names.{equal_names}
-use Rattle.ent_coordination.specs.Choice.{IsLeastChoice, AreGroundings, all_heads, all_posts, choice_cmp}
+use Rattle.ent_semantics.specs.Choice.{IsLeastChoice, AreGroundings, all_heads, all_posts, choice_cmp}
 use Rattle.ent_lists.specs.Elements.{and_both}
 use Rattle.ent_lists.proofs.Contained.{of_mapped, to_mapped}
-use Rattle.ent_protocol.specs.Partners.{flight_122}
-use Rattle.ent_protocol.proofs.PartnersChoice.{seen, flight_123, grounds, one_value}
+use Rattle.ent_examples.specs.Partners.{flight_122}
 use Rattle.ent_examples.specs.Wish.{Friend, posted}
+use Rattle.ent_examples.proofs.PartnersChoice.{seen, flight_123, grounds, one_value}
 use Rattle.ent_examples.proofs.Listed.{each_passes, one_passes}
 use Rattle.ent_examples.proofs.Meets.{meets}
 

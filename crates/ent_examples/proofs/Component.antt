@@ -5,9 +5,9 @@ use Rattle.std.specs.Prelude.{AllPairs, Contains, nat_lt, slice_get}
 use Rattle.std.specs.List.{filter, list_all, list_any}
 use Rattle.std.proofs.lemmas.List.Kept.{AllPairs-cons}
 use Rattle.std.proofs.lemmas.Bool.{ltb-true}
-use Rattle.ent_coordination.specs.Component.{IsIn, IsInRemainder, IsSupported, AreJoined, AreLinked, AreLinkedIn}
-use Rattle.ent_coordination.specs.Component.{IsComponent}
-use Rattle.ent_coordination.specs.Pool.{Posted, CanMeet}
+use Rattle.ent_semantics.specs.Component.{IsIn, IsInRemainder, IsSupported, AreJoined, AreLinked, AreLinkedIn}
+use Rattle.ent_semantics.specs.Component.{IsComponent}
+use Rattle.ent_semantics.specs.Pool.{Posted, CanMeet}
 use Rattle.ent_lists.specs.Elements.{and_both, or_first, or_second}
 use Rattle.ent_lists.proofs.Contained.{of_mapped, to_mapped, to_filtered, of_filtered}
 use Rattle.ent_examples.specs.Wish.{Friend, posted}

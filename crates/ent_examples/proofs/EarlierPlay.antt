@@ -4,17 +4,17 @@ use Rattle.std.specs.Prelude.{codes}
 use Rattle.ent_tree.specs.declared.script.End.TheVariants.{Commit, Rollback}
 use Rattle.ent_protocol.specs.Begin.{lending, posting}
 use Rattle.ent_protocol.specs.Rollback.{Asked, rolled_back}
-use Rattle.ent_protocol.specs.Partners.{partners_opening}
 use Rattle.ent_protocol.specs.Play.{Plays}
 use Rattle.ent_protocol.specs.PoolEvents.{joining}
 use Rattle.ent_protocol.specs.Reached.{opened}
 use Rattle.ent_protocol.specs.Run.{Forms, submitting, starting, ending}
 use Rattle.ent_protocol.specs.State.{State}
-use Rattle.ent_protocol.proofs.Alone.{alone}
+use Rattle.ent_examples.specs.Partners.{partners_opening}
 use Rattle.ent_examples.specs.Earlier.{first_booked, job_outlives, next_attempt}
 use Rattle.ent_examples.specs.Grown.{A_for_B, B_for_A, A_and_B}
 use Rattle.ent_examples.specs.Scripts.{ScriptOf, asks_form, books_form, script}
 use Rattle.ent_examples.specs.Wish.{Friend, posted, wants, first_asks, joint_job}
+use Rattle.ent_examples.proofs.Alone.{alone}
 use Rattle.ent_examples.proofs.Answered.{lends, joins, nothing_out, stale_single}
 use Rattle.ent_examples.proofs.Choice.{taken}
 use Rattle.ent_examples.proofs.Component.{everyone}

@@ -6,18 +6,18 @@ use Rattle.ent_semantics.specs.declared.answer.Failure.TheVariants.{Overflow}
 use Rattle.ent_protocol.specs.Begin.{lending, posting}
 use Rattle.ent_protocol.specs.Commit.{preparing}
 use Rattle.ent_protocol.specs.Job.{IsEvaluated}
-use Rattle.ent_protocol.specs.Partners.{partners_opening}
 use Rattle.ent_protocol.specs.Play.{Plays}
 use Rattle.ent_protocol.specs.PoolEvents.{joining}
 use Rattle.ent_protocol.specs.Reached.{opened}
 use Rattle.ent_protocol.specs.Rollback.{Failing, rolled_back}
 use Rattle.ent_protocol.specs.Run.{Forms, submitting, starting, ending}
 use Rattle.ent_protocol.specs.State.{State}
-use Rattle.ent_protocol.proofs.Alone.{alone}
+use Rattle.ent_examples.specs.Partners.{partners_opening}
 use Rattle.ent_examples.specs.Failure.{sets_too_much, set_done, set_fails, partner_gives_up}
 use Rattle.ent_examples.specs.HeldBack.{mickey, minnie, two_friends}
 use Rattle.ent_examples.specs.Scripts.{ScriptOf, asks_form, script}
 use Rattle.ent_examples.specs.Wish.{Friend, posted, wants, first_asks, joint_job}
+use Rattle.ent_examples.proofs.Alone.{alone}
 use Rattle.ent_examples.proofs.Answered.{lends, joins, nothing_out}
 use Rattle.ent_examples.proofs.Choice.{taken}
 use Rattle.ent_examples.proofs.Component.{everyone}

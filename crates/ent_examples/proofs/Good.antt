@@ -25,11 +25,11 @@ use Rattle.ent_semantics.specs.Entangled.{is_grounding, Valuation}
 use Rattle.ent_semantics.specs.Joint.{IsGood, IsOffered, IsGrounded, member_of, read_view_posts, read_view_heads}
 use Rattle.ent_semantics.specs.Selection.{meets, item_row, select_worth, select_rows}
 use Rattle.ent_semantics.specs.Serial.{ReadView, Turn, numbered}
-use Rattle.ent_protocol.specs.Partners.{LA, Mickey, Minnie, flight_122}
+use Rattle.ent_examples.specs.Partners.{LA, Mickey, Minnie, flight_122}
 use Rattle.ent_examples.specs.Friends.{friends_opening, friends_scripts, flies_with, alone}
 use Rattle.ent_examples.specs.Friends.{flight_136, good_book, takes, together, flies}
 use Rattle.ent_examples.specs.Written.{to_LA}
-use Rattle.ent_protocol.proofs.PartnersPool.{one_case, two_cases}
+use Rattle.ent_examples.proofs.PartnersPool.{one_case, two_cases}
 use Rattle.ent_examples.proofs.Lists.{two_apart}
 
 abbrev flights : List (List Value)

@@ -1,10 +1,9 @@
 -- The component that grows, event by event.
 use Rattle.std.proofs.Common.{◌≡◌, inl, inr, [], ◌∷◌, ◌++◌, map, refl, arith, ap, sym, ◌∙◌}
 use Rattle.ent_tree.specs.declared.script.End.TheVariants.{Commit}
-use Rattle.ent_coordination.specs.Pool.{Posted}
+use Rattle.ent_semantics.specs.Pool.{Posted}
 use Rattle.ent_protocol.specs.Begin.{posting}
 use Rattle.ent_protocol.specs.Commit.{preparing, committing}
-use Rattle.ent_protocol.specs.Partners.{partners_opening}
 use Rattle.ent_protocol.specs.Play.{Plays}
 use Rattle.ent_protocol.specs.PoolEvents.{joining}
 use Rattle.ent_protocol.specs.Reached.{opened}
@@ -13,6 +12,7 @@ use Rattle.ent_protocol.specs.Job.{Job, Joint}
 use Rattle.ent_protocol.specs.PoolEvents.{IsOut, IsOutstandingJoint}
 use Rattle.ent_protocol.specs.Run.{Forms, submitting, starting, ending}
 use Rattle.ent_protocol.specs.State.{State}
+use Rattle.ent_examples.specs.Partners.{partners_opening}
 use Rattle.ent_examples.specs.Grown.{A_for_B, B_for_A, C_for_A, A_and_B, A_B_and_C, job_is_late, all_are_answered}
 use Rattle.ent_examples.specs.Scripts.{ScriptOf, asks_form, script}
 use Rattle.ent_examples.specs.Wish.{posted, wants, first_asks, joint_job, joint_done}

@@ -4,7 +4,7 @@ use Rattle.std.proofs.Common.{◌++◌, map, refl, sym, ap, subst, ◌∙◌, So
 use Rattle.std.specs.List.{AllZip, filter, list_any}
 use Rattle.ent_protocol_laws.proofs.JoinedLabels.{label_same}
 use Rattle.ent_semantics.specs.Entangled.{Valuation}
-use Rattle.ent_coordination.specs.Pool.{Posted}
+use Rattle.ent_semantics.specs.Pool.{Posted}
 use Rattle.ent_protocol.specs.Member.{is_tx}
 use Rattle.ent_protocol.specs.PoolEvents.{answered_by, answered_among, answered_groups, joined_label}
 use Rattle.ent_protocol.specs.PoolEvents.{in_joined_group, joining}

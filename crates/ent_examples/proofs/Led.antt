@@ -3,12 +3,12 @@ use Rattle.std.proofs.Common.{◌≡◌, ℕ, List, [], ◌∷◌, None, refl, s
 use Rattle.ent_form.specs.OpeningFault.{opening_fault}
 use Rattle.ent_form.specs.declared.fault.FormFault.{FormFault}
 use Rattle.ent_protocol.specs.Event.{Event, Reply}
-use Rattle.ent_protocol.specs.Partners.{partners_opening}
 use Rattle.ent_protocol.specs.Play.{Plays}
 use Rattle.ent_protocol.specs.Reached.{LeadsTo, opened}
 use Rattle.ent_protocol.specs.State.{State}
 use Rattle.ent_protocol.specs.Step.{Step}
 use Rattle.ent_headline.specs.Resolved.{resolved_forms}
+use Rattle.ent_examples.specs.Partners.{partners_opening}
 use Rattle.ent_examples.specs.WrittenScripts.{LeadTo}
 
 -- each event keeps the opening

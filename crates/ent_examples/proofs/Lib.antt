@@ -1,3 +1,12 @@
+pub mod Inserted
+pub mod Alone
+pub mod OnCycles
+pub mod WritersPlay
+pub mod PartnersPool
+pub mod PartnersChoice
+pub mod PairAnswered
+pub mod PartnersPlay
+pub mod PairsPlay
 pub mod Conflicting
 pub mod Rows
 pub mod Joined

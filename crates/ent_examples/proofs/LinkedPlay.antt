@@ -17,15 +17,15 @@ use Rattle.ent_protocol.specs.PoolEvents.{joining, Lends}
 use Rattle.ent_protocol.specs.Reached.{opened}
 use Rattle.ent_protocol.specs.Run.{Forms, submitting, starting}
 use Rattle.ent_protocol.specs.State.{State}
-use Rattle.ent_protocol.specs.Partners.{partners_opening, flight_122, booking_job, booking_done}
 use Rattle.ent_protocol.specs.Rollback.{Asked, rolled_back}
-use Rattle.ent_protocol.proofs.Alone.{alone}
-use Rattle.ent_protocol.proofs.Inserted.{only_row}
+use Rattle.ent_examples.specs.Partners.{partners_opening, flight_122, booking_job, booking_done}
 use Rattle.ent_examples.specs.Grown.{A_for_B, B_for_A, A_and_B}
 use Rattle.ent_examples.specs.Linked.{A, B_for_C, C_for_B, B_and_C, sets_136, updates_form, update_job, update_done}
 use Rattle.ent_examples.specs.Linked.{first_link, second_link}
 use Rattle.ent_examples.specs.Scripts.{ScriptOf, asks_form, books_form, script}
 use Rattle.ent_examples.specs.Wish.{Friend, posted, wants, first_asks, joint_job}
+use Rattle.ent_examples.proofs.Alone.{alone}
+use Rattle.ent_examples.proofs.Inserted.{only_row}
 use Rattle.ent_examples.proofs.Answered.{AreTogether, lends, joins, nothing_out}
 use Rattle.ent_examples.proofs.Changed.{inserted, updated, no_row}
 use Rattle.ent_examples.proofs.Choice.{taken}

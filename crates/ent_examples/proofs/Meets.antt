@@ -10,10 +10,10 @@ use Rattle.ent_semantics.specs.declared.entangled.Term.TheVariants as terms
 use Rattle.ent_semantics.specs.declared.answer.Fact.{Fact}
 use Rattle.ent_semantics.specs.Database.{Name, same_name}
 use Rattle.ent_semantics.specs.Names.{equal_names, name_itself}
-use Rattle.ent_coordination.specs.Pool.{CanMeet, Unify, fact_under}
+use Rattle.ent_semantics.specs.Pool.{CanMeet, Unify, fact_under}
 use Rattle.ent_lists.specs.Elements.{and_both, both_and}
 use Rattle.ent_lists.proofs.Contained.{contains_none}
-use Rattle.ent_protocol.specs.Partners.{flight_122}
+use Rattle.ent_examples.specs.Partners.{flight_122}
 use Rattle.ent_examples.specs.Wish.{Wish, Friend, posted}
 use Rattle.ent_examples.proofs.Listed.{first_or_later}
 

@@ -10,10 +10,10 @@ use Rattle.ent_semantics.specs.declared.answer.Answer.TheVariants as answers
 use Rattle.ent_protocol.specs.Begin.{holding, lending}
 use Rattle.ent_protocol.specs.Finish.{finished, stepped}
 use Rattle.ent_protocol.specs.Job.{Changed}
-use Rattle.ent_protocol.specs.Partners.{flight_122}
 use Rattle.ent_protocol.specs.Run.{fresh as started}
 use Rattle.ent_protocol.specs.State.{State, Member}
 use Rattle.ent_protocol.specs.Uses.{shared, exclusive}
+use Rattle.ent_examples.specs.Partners.{flight_122}
 use Rattle.ent_examples.specs.Wish.{Wish}
 
 -- at its first statement, in this attempt

@@ -3,7 +3,7 @@ use Rattle.std.proofs.Common.{◌≡◌, ◌↔◌, inl, inr, List, [], ◌∷�
 use Rattle.std.proofs.Common.{Option, Some, None, Contains, zip}
 use Rattle.std.specs.List.{AllZip}
 use Rattle.ent_semantics.specs.Entangled.{Valuation}
-use Rattle.ent_coordination.specs.Pool.{Posted}
+use Rattle.ent_semantics.specs.Pool.{Posted}
 use Rattle.ent_protocol.specs.State.{State, Member, members}
 use Rattle.ent_lists.specs.Elements.{In, in_contains, contains_in}
 use Rattle.ent_examples.specs.Joining.{own_pair, IsAsBefore, BecomesBy, Passage, before_and_after}

@@ -1,8 +1,8 @@
 -- The friends' pool is safe, and with a third it isn't.
 use Rattle.std.proofs.Common.{◌≡◌, ℕ, refl, arith}
 use Rattle.std.specs.Prelude.{Contains, codes}
-use Rattle.ent_coordination.specs.Pool.{CanMeet, IsSafe, IsUnsafeAt, HasHeadFor}
-use Rattle.ent_protocol.specs.Partners.{Mickey, Minnie}
+use Rattle.ent_semantics.specs.Pool.{CanMeet, IsSafe, IsUnsafeAt, HasHeadFor}
+use Rattle.ent_examples.specs.Partners.{Mickey, Minnie}
 use Rattle.ent_examples.specs.Pool.{friend, flies_as, with_third}
 use Rattle.ent_examples.proofs.Meets.{under_122}
 

@@ -6,7 +6,7 @@ use Rattle.std.specs.List.{list_all}
 use Rattle.std.proofs.lemmas.List.Elements.{All-contains}
 use Rattle.std.proofs.lemmas.Bool.{leb-true}
 use Rattle.ent_group.specs.Cycle.{IsOnCycle, Closes, links, links_to}
-use Rattle.ent_coordination.specs.Pool.{Posted}
+use Rattle.ent_semantics.specs.Pool.{Posted}
 use Rattle.ent_protocol.specs.Member.{is_lent, pool}
 use Rattle.ent_lists.specs.Elements.{contains_in, in_contains}
 use Rattle.ent_lists.proofs.Contained.{of_mapped, contains_none}

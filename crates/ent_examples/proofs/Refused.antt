@@ -14,12 +14,12 @@ use Rattle.ent_semantics.specs.Database.{opening_database, nothing_bound}
 use Rattle.ent_semantics.specs.Entangled.{Valuation, is_grounding}
 use Rattle.ent_semantics.specs.Joint.{IsGood, IsOffered, member_of, read_view_heads, read_view_posts}
 use Rattle.ent_semantics.specs.Serial.{ReadView, Turn, Runs, numbered, scripts_run, scripts_read_views}
-use Rattle.ent_protocol.specs.Partners.{Mickey, Minnie, flight_122}
+use Rattle.ent_examples.specs.Partners.{Mickey, Minnie, flight_122}
 use Rattle.ent_examples.specs.Friends.{friends_opening, friends_scripts, friends_book, flies_with, alone}
 use Rattle.ent_examples.specs.Friends.{flight_136, takes, together, flies, answered_apart}
 use Rattle.ent_examples.specs.Friends.{answered_elsewhere, left_out, answered_twice, widowed}
+use Rattle.ent_examples.proofs.PartnersPool.{one_case, two_cases}
 use Rattle.ent_examples.proofs.Good.{turn, read_view, one_not_two, grounds}
-use Rattle.ent_protocol.proofs.PartnersPool.{one_case, two_cases}
 
 -- ---- the turns of a book of the friends
 

@@ -3,17 +3,17 @@ use Rattle.std.proofs.Common.{inl, [], ◌∷◌, ◌++◌, map, refl}
 use Rattle.ent_tree.specs.declared.script.End.TheVariants.{Commit}
 use Rattle.ent_protocol.specs.Begin.{posting}
 use Rattle.ent_protocol.specs.Commit.{preparing, committing}
-use Rattle.ent_protocol.specs.Partners.{partners_opening}
 use Rattle.ent_protocol.specs.Play.{Plays}
 use Rattle.ent_protocol.specs.PoolEvents.{joining}
 use Rattle.ent_protocol.specs.Reached.{opened}
 use Rattle.ent_protocol.specs.Run.{Forms, submitting, starting, ending}
 use Rattle.ent_protocol.specs.State.{State}
-use Rattle.ent_protocol.proofs.Alone.{alone}
+use Rattle.ent_examples.specs.Partners.{partners_opening}
 use Rattle.ent_examples.specs.Grown.{A_for_B, C_for_A}
 use Rattle.ent_examples.specs.Ring.{B_for_C, ring_of_three, ring_closes, ring_commits}
 use Rattle.ent_examples.specs.Scripts.{ScriptOf, asks_form, script}
 use Rattle.ent_examples.specs.Wish.{posted, wants, first_asks, joint_job}
+use Rattle.ent_examples.proofs.Alone.{alone}
 use Rattle.ent_examples.proofs.Answered.{AreTogether, lends, joins, nothing_out}
 use Rattle.ent_examples.proofs.Choice.{taken}
 use Rattle.ent_examples.proofs.Component.{everyone}

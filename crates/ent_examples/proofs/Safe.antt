@@ -6,8 +6,8 @@ use Rattle.std.specs.Prelude.{Contains, ◌==◌, nat_lt}
 use Rattle.std.specs.List.{list_all}
 use Rattle.std.specs.Ordering.{is_lt}
 use Rattle.std.specs.declared.cmp.Ordering.TheVariants.{Less}
-use Rattle.ent_coordination.specs.Pool.{Posted, CanMeet, IsSafe, Unsafe, HasHeadFor, IsFirstUnsafe, IsUnsafeAt}
-use Rattle.ent_coordination.specs.Pool.{unsafe_cmp}
+use Rattle.ent_semantics.specs.Pool.{Posted, CanMeet, IsSafe, Unsafe, HasHeadFor, IsFirstUnsafe, IsUnsafeAt}
+use Rattle.ent_semantics.specs.Pool.{unsafe_cmp}
 use Rattle.ent_lists.specs.Elements.{both_and, number_itself, same_number}
 use Rattle.ent_lists.proofs.Contained.{of_mapped, to_mapped}
 use Rattle.ent_examples.specs.Wish.{Friend, posted}

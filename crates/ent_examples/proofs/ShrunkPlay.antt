@@ -3,7 +3,6 @@ use Rattle.std.proofs.Common.{inl, inr, List, [], ◌∷◌, ◌++◌, map, refl
 use Rattle.ent_tree.specs.declared.script.End.TheVariants.{Commit, Rollback}
 use Rattle.ent_protocol.specs.Begin.{posting}
 use Rattle.ent_protocol.specs.Commit.{preparing, committing}
-use Rattle.ent_protocol.specs.Partners.{partners_opening}
 use Rattle.ent_protocol.specs.Play.{Plays}
 use Rattle.ent_protocol.specs.Event as replies
 use Rattle.ent_protocol.specs.PoolEvents.{joining, IsOutstandingJoint, Joins, Lends}
@@ -11,11 +10,12 @@ use Rattle.ent_protocol.specs.Reached.{opened}
 use Rattle.ent_protocol.specs.Rollback.{Asked, rolled_back}
 use Rattle.ent_protocol.specs.Run.{Forms, submitting, starting, ending}
 use Rattle.ent_protocol.specs.State.{State}
-use Rattle.ent_protocol.proofs.Alone.{alone}
+use Rattle.ent_examples.specs.Partners.{partners_opening}
 use Rattle.ent_examples.specs.Grown.{A_for_B, B_for_A, C_for_A, A_and_B}
 use Rattle.ent_examples.specs.Scripts.{ScriptOf, asks_form, script}
 use Rattle.ent_examples.specs.Shrunk.{C_for_D, D_for_C, C_and_D, group_forms, comes_and_goes, is_picked_again}
 use Rattle.ent_examples.specs.Wish.{Friend, posted, wants, first_asks, joint_job, joint_done}
+use Rattle.ent_examples.proofs.Alone.{alone}
 use Rattle.ent_examples.proofs.Answered.{AreTogether, lends, joins, nothing_out, grown, stale_joint}
 use Rattle.ent_examples.proofs.Choice.{taken}
 use Rattle.ent_examples.proofs.Component.{everyone}

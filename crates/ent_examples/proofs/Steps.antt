@@ -6,11 +6,11 @@ use Rattle.ent_tree.specs.declared.script.End.{End}
 use Rattle.ent_semantics.specs.declared.operand.Known.{Known}
 use Rattle.ent_semantics.specs.declared.statement.Statement.{Statement}
 use Rattle.ent_protocol.specs.Event.{Event, Reply, Submit, Submitted}
-use Rattle.ent_protocol.specs.Partners.{partners_opening}
 use Rattle.ent_protocol.specs.Play.{Plays}
 use Rattle.ent_protocol.specs.Run.{Forms, SubmitsForm, SubmitsUnless, submitting}
 use Rattle.ent_protocol.specs.State.{State}
 use Rattle.ent_protocol.specs.Step.{Step}
+use Rattle.ent_examples.specs.Partners.{partners_opening}
 use Rattle.ent_examples.specs.Scripts.{ScriptOf, script}
 
 infixr 5 ◌▸◌

@@ -12,13 +12,13 @@ use Rattle.ent_protocol.specs.PoolEvents.{joining}
 use Rattle.ent_protocol.specs.Reached.{opened}
 use Rattle.ent_protocol.specs.Run.{Forms, submitting, starting, ending}
 use Rattle.ent_protocol.specs.State.{State}
-use Rattle.ent_protocol.specs.Partners.{partners_opening, Mickey, Minnie, flight_122, first_booked, booking_job}
-use Rattle.ent_protocol.proofs.Alone.{alone}
-use Rattle.ent_protocol.proofs.Inserted.{one_row, only_row}
+use Rattle.ent_examples.specs.Partners.{partners_opening, Mickey, Minnie, flight_122, first_booked, booking_job}
 use Rattle.ent_examples.specs.HeldBack.{mickey, minnie, two_friends}
 use Rattle.ent_examples.specs.Scripts.{ScriptOf, asks_form, books_form, script}
 use Rattle.ent_examples.specs.Twice.{Mickey_booked, Minnie_booked, joint_comes_twice, single_comes_twice}
 use Rattle.ent_examples.specs.Wish.{posted, wants, first_asks, joint_job, joint_done}
+use Rattle.ent_examples.proofs.Alone.{alone}
+use Rattle.ent_examples.proofs.Inserted.{one_row, only_row}
 use Rattle.ent_examples.proofs.Answered.{lends, joins, nothing_out, stale_joint, stale_single, not_joint, not_single}
 use Rattle.ent_examples.proofs.Changed.{inserted, no_row}
 use Rattle.ent_examples.proofs.Choice.{taken}

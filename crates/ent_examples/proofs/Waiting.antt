@@ -6,8 +6,8 @@ use Rattle.std.specs.Prelude.{slice_get}
 use Rattle.std.specs.List.{list_all}
 use Rattle.ent_lists.proofs.Contained.{of_mapped, contains_none}
 use Rattle.ent_group.specs.Cycle.{IsOnCycle, Closes}
-use Rattle.ent_coordination.specs.Component.{IsInRemainder}
-use Rattle.ent_coordination.specs.Pool.{Posted}
+use Rattle.ent_semantics.specs.Component.{IsInRemainder}
+use Rattle.ent_semantics.specs.Pool.{Posted}
 use Rattle.ent_protocol.specs.Member.{is_lent, pool}
 use Rattle.ent_protocol.specs.PoolEvents.{IsPresentComponent}
 use Rattle.ent_protocol.specs.Quiet.{IsQuiet, HasJobOut}

@@ -4,7 +4,7 @@ use Rattle.std.specs.Prelude.{◌≡◌, ◌≢◌, ◌⊎◌, ◌≤◌, ℕ, s
 use Rattle.ent_value.specs.declared.value.Value.{Value}
 use Rattle.ent_semantics.specs.declared.entangled.Entangled.{Entangled}
 use Rattle.ent_semantics.specs.declared.statement.Statement.{Statement}
-use Rattle.ent_coordination.specs.Pool.{Unsafe, IsSafe, IsFirstUnsafe}
+use Rattle.ent_semantics.specs.Pool.{Unsafe, IsSafe, IsFirstUnsafe}
 use Rattle.ent_protocol.specs.Begin.{single_job, lending, pool_with, posting}
 use Rattle.ent_protocol.specs.Commit.{preparing, committing, committing_members, commit_numbers}
 use Rattle.ent_protocol.specs.Event.{Reply}

@@ -6,8 +6,8 @@ use Rattle.ent_tree.specs.declared.script.End.TheVariants.{Commit, Rollback}
 use Rattle.ent_protocol.specs.Event.{Event, Reply}
 use Rattle.ent_protocol.specs.Event as events
 use Rattle.ent_protocol.specs.Job.{Job, Done}
-use Rattle.ent_protocol.specs.Partners.{booking_job, booking_done}
 use Rattle.ent_protocol.specs.Run.{Forms}
+use Rattle.ent_examples.specs.Partners.{booking_job, booking_done}
 use Rattle.ent_examples.specs.Grown.{A_for_B, B_for_A, A_and_B}
 use Rattle.ent_examples.specs.Scripts.{ScriptOf, asks_form, books_form, script}
 use Rattle.ent_examples.specs.Wish.{joint_job, joint_done}

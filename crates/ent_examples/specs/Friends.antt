@@ -19,8 +19,8 @@ use Rattle.ent_semantics.specs.declared.book.Fate.TheVariants.{Committed, GaveUp
 use Rattle.ent_semantics.specs.declared.book.JointAnswer.{JointAnswer}
 use Rattle.ent_semantics.specs.declared.book.Member.{Member}
 use Rattle.ent_semantics.specs.Database.{Name, Database, opening_database}
-use Rattle.ent_protocol.specs.Partners.{LA, Mickey, Minnie, flight, flight_122}
-use Rattle.ent_protocol.specs.Writers.{named}
+use Rattle.ent_examples.specs.Partners.{LA, Mickey, Minnie, flight, flight_122}
+use Rattle.ent_examples.specs.Writers.{named}
 use Rattle.ent_examples.specs.Written.{literal, to_LA}
 
 abbrev pub written : Value → Term

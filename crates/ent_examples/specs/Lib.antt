@@ -1,3 +1,6 @@
+pub mod Writers
+pub mod Partners
+pub mod Pairs
 pub mod Beginning
 pub mod Joining
 pub mod SerialTrace

@@ -16,8 +16,8 @@ use Rattle.ent_semantics.specs.declared.statement.Statement.TheVariants as forms
 use Rattle.ent_protocol.specs.Event.{Event, Reply}
 use Rattle.ent_protocol.specs.Event as events
 use Rattle.ent_protocol.specs.Job.{Job, One, Done, Changed, applied}
-use Rattle.ent_protocol.specs.Partners.{flight_122, booking_job, booking_done, counts_1}
 use Rattle.ent_protocol.specs.Run.{Forms}
+use Rattle.ent_examples.specs.Partners.{flight_122, booking_job, booking_done, counts_1}
 use Rattle.ent_examples.specs.Grown.{A_for_B, B_for_A, A_and_B}
 use Rattle.ent_examples.specs.Scripts.{ScriptOf, asks_form, books_form, script}
 use Rattle.ent_examples.specs.Wish.{Wish, Friend, in_S, first_asks, joint_job, joint_done}

@@ -7,8 +7,8 @@ use Rattle.ent_semantics.specs.declared.entangled.Atom.{Atom}
 use Rattle.ent_semantics.specs.declared.entangled.Entangled.{Entangled}
 use Rattle.ent_semantics.specs.declared.entangled.Term.TheVariants.{Known, Variable}
 use Rattle.ent_semantics.specs.declared.operand.Operand.TheVariants as operands
-use Rattle.ent_coordination.specs.Pool.{Posted}
-use Rattle.ent_protocol.specs.Partners.{LA, Mickey, Minnie}
+use Rattle.ent_semantics.specs.Pool.{Posted}
+use Rattle.ent_examples.specs.Partners.{LA, Mickey, Minnie}
 
 -- R(name, fno), fno being the only variable
 abbrev pub flies_as : Value → Atom Value

@@ -9,8 +9,8 @@ use Rattle.ent_semantics.specs.declared.operand.Known.{Known}
 use Rattle.ent_semantics.specs.declared.operand.Known.TheVariants as known
 use Rattle.ent_semantics.specs.declared.statement.Statement.{Statement as FormStatement}
 use Rattle.ent_semantics.specs.declared.statement.Statement.TheVariants as forms
-use Rattle.ent_protocol.specs.Partners.{partners_opening}
 use Rattle.ent_protocol.specs.Run.{Forms}
+use Rattle.ent_examples.specs.Partners.{partners_opening}
 use Rattle.ent_examples.specs.Wish.{Wish, asks}
 
 -- a script for so many runs, with this end, that is resolved to these statements over the partners' opening

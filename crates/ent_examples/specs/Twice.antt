@@ -5,8 +5,8 @@ use Rattle.ent_tree.specs.declared.script.End.TheVariants.{Commit}
 use Rattle.ent_protocol.specs.Event.{Event, Reply}
 use Rattle.ent_protocol.specs.Event as events
 use Rattle.ent_protocol.specs.Job.{Done}
-use Rattle.ent_protocol.specs.Partners.{Mickey, Minnie, booking_job, booking_done, first_booked, counts_1}
 use Rattle.ent_protocol.specs.Run.{Forms}
+use Rattle.ent_examples.specs.Partners.{Mickey, Minnie, booking_job, booking_done, first_booked, counts_1}
 use Rattle.ent_examples.specs.HeldBack.{mickey, minnie, two_friends}
 use Rattle.ent_examples.specs.Scripts.{ScriptOf, asks_form, books_form, script}
 use Rattle.ent_examples.specs.Wish.{joint_job, joint_done}

@@ -10,10 +10,10 @@ use Rattle.ent_semantics.specs.declared.entangled.Entangled.{Entangled}
 use Rattle.ent_semantics.specs.declared.entangled.Term.TheVariants as terms
 use Rattle.ent_semantics.specs.declared.operand.Known.{Known}
 use Rattle.ent_semantics.specs.declared.operand.Known.TheVariants as known
-use Rattle.ent_coordination.specs.Pool.{Posted}
+use Rattle.ent_semantics.specs.Pool.{Posted}
 use Rattle.ent_protocol.specs.Job.{Job, Joint, Done, Choice}
-use Rattle.ent_protocol.specs.Partners.{partners_opening, flight_122, Mickey, Minnie}
-use Rattle.ent_protocol.specs.Partners as partners
+use Rattle.ent_examples.specs.Partners.{partners_opening, flight_122, Mickey, Minnie}
+use Rattle.ent_examples.specs.Partners as partners
 
 -- who asks, for whom, and under which answer relation
 pub record Wish : Type 0 where

@@ -15,8 +15,8 @@ use Rattle.ent_tree.specs.declared.script.Statement.TheVariants as statements
 use Rattle.ent_tree.specs.declared.select.Items.TheVariants.{All, Listed}
 use Rattle.ent_tree.specs.declared.select.Select.{Select}
 use Rattle.ent_semantics.specs.Database.{Name}
-use Rattle.ent_protocol.specs.Partners.{LA}
-use Rattle.ent_protocol.specs.Writers.{named}
+use Rattle.ent_examples.specs.Partners.{LA}
+use Rattle.ent_examples.specs.Writers.{named}
 use Rattle.ent_examples.specs.Wish.{Wish}
 
 abbrev pub literal : Value → Literal

@@ -12,11 +12,11 @@ use Rattle.ent_form.specs.Lookup.{test_in}
 use Rattle.ent_form.specs.Ordinary.{select_in, tests_in, insert_in}
 use Rattle.ent_form.specs.declared.fault.FormFault.{FormFault}
 use Rattle.ent_protocol.specs.Event.{Event, Reply}
-use Rattle.ent_protocol.specs.Partners.{Partners, partners_opening, committing_script, reads_form}
 use Rattle.ent_protocol.specs.Play.{Plays}
 use Rattle.ent_protocol.specs.Reached.{IsReached, opened}
 use Rattle.ent_protocol.specs.State.{State}
 use Rattle.ent_headline.specs.Resolved.{resolved_forms}
+use Rattle.ent_examples.specs.Partners.{Partners, partners_opening, committing_script, reads_form}
 use Rattle.ent_examples.specs.HeldBack.{mickey, minnie}
 use Rattle.ent_examples.specs.Scripts.{ScriptOf, asks_form, books_form}
 use Rattle.ent_examples.specs.Wish.{Wish}

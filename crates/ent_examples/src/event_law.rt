@@ -7,7 +7,7 @@ ghost use Rattle.ent_semantics.specs.Database.{Database, Environment};
 ghost use Rattle.ent_semantics.specs.Entangled.{Valuation};
 ghost use Rattle.ent_semantics.specs.Serial.{Operation, Turn, operations_of, read_views, run, script_read_views};
 ghost use Rattle.ent_semantics.specs.Serial.{script_run, scripts_read_views, scripts_run};
-ghost use Rattle.ent_coordination.specs.Pool.{Posted};
+ghost use Rattle.ent_semantics.specs.Pool.{Posted};
 ghost use Rattle.ent_protocol.specs.Begin.{Begins};
 ghost use Rattle.ent_protocol.specs.Event.{Reply};
 ghost use Rattle.ent_protocol.specs.PoolEvents.{joining};

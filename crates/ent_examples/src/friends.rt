@@ -1,12 +1,12 @@
 //! Two friends on one flight. Nothing here has a body; what holds is in the contracts.
 ghost use Rattle.std.specs.Prelude.{◌≡◌, ◌∷◌, [], None};
-ghost use Rattle.ent_protocol.specs.Partners.{Mickey, Minnie, flight_122};
-ghost use Rattle.ent_examples.specs.Friends.{alone, flies_with, friends_opening};
-ghost use Rattle.ent_examples.specs.Friends.{good_book, answered_apart, answered_elsewhere, left_out, answered_twice};
-ghost use Rattle.ent_examples.specs.Friends.{widowed};
 ghost use Rattle.ent_semantics.specs.Book.{IsLegal};
 ghost use Rattle.ent_semantics.specs.Database.{opening_database};
 ghost use Rattle.ent_semantics.specs.Serial.{script_run};
+ghost use Rattle.ent_examples.specs.Partners.{Mickey, Minnie, flight_122};
+ghost use Rattle.ent_examples.specs.Friends.{alone, flies_with, friends_opening};
+ghost use Rattle.ent_examples.specs.Friends.{good_book, answered_apart, answered_elsewhere, left_out, answered_twice};
+ghost use Rattle.ent_examples.specs.Friends.{widowed};
 
 /// The book in which two friends are answered together with one flight is legal.
 pub fn friends_may_fly_together()

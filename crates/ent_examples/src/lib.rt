@@ -1,14 +1,15 @@
-//! Second definitions of events and of the serial run, which a reader believes sooner than the first ones.
+//! Examples and second definitions, which show that books and plays are defined as a reader expects.
 //!
-//! The functions here have no body: their contracts say that these definitions and those of ent_protocol and
-//! ent_semantics say the same.
+//! **Examples**: a legal book, books that aren't, pools, and plays of a core, event by event. The contract of a play
+//! says that its events lead, with these replies, from an opening's own state to a state, and what is so there. The
+//! plays of `play` hold whatever resolves scripts to the statements that they name. In `resolved_play` the scripts are
+//! written out, and resolving gives these statements; so each leads to a state of which the laws of resolved forms say
+//! something.
 //!
-//! Examples of the definitions: a legal book, books that aren't, pools, and plays of a core, event by event.
+//! **Second definitions** of events and of the serial run, which a reader believes sooner than the first ones:
+//! contracts say that they and the definitions of ent_protocol and ent_semantics say the same.
 //!
-//! The contract of a play says that its events lead, with these replies, from an opening's own state to a state, and
-//! what is so there. The plays of `play` hold whatever resolves scripts to the statements that they name. In
-//! `resolved_play` the scripts are written out, and resolving gives these statements; so each leads to a state of which
-//! the laws of resolved forms say something. Nothing here has a body that does more than call laws.
+//! Nothing here has a body that does more than call laws.
 #![tactic(auto)]
 
 mod event_law;
@@ -24,8 +25,9 @@ pub use event_law::{
 pub use friends::{friends_may_fly_together, oracle_answers_are_counted, wrong_books_are_refused};
 pub use play::{
     component_grows, component_shrinks_back, failure_takes_the_group_back,
-    job_outlives_its_attempt, linked_roll_back_together, results_are_taken_once,
-    ring_commits_together, run_is_busy, third_is_held_back,
+    job_outlives_its_attempt, joint_answers_stand_as_made, linked_roll_back_together,
+    partner_passes_a_prepared_lock, results_are_taken_once, ring_commits_together, run_is_busy,
+    third_is_held_back, two_writers_deadlock,
 };
 pub use pool::{friends_are_safe, third_is_unsafe};
 pub use resolved_play::{

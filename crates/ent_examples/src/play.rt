@@ -4,11 +4,14 @@ ghost use Rattle.ent_tree.specs.declared.script.End.TheVariants.{Commit, Rollbac
 ghost use Rattle.ent_semantics.specs.declared.book.Fate.TheVariants.{Committed, Failed, GaveUp, RolledBack};
 ghost use Rattle.ent_semantics.specs.declared.answer.Failure.TheVariants.{Overflow};
 ghost use Rattle.ent_semantics.specs.declared.operand.Known.TheVariants.{Constant};
-ghost use Rattle.ent_protocol.specs.Partners.{partners_opening};
+ghost use Rattle.ent_protocol.specs.Lookup.{Dormant, Finished, standing};
 ghost use Rattle.ent_protocol.specs.Play.{Plays};
-ghost use Rattle.ent_protocol.specs.Reached.{book_of, closing, committed_joints, opened};
+ghost use Rattle.ent_protocol.specs.Reached.{IsReached, book_of, closing, committed_joints, opened};
 ghost use Rattle.ent_protocol.specs.Run.{Forms};
 ghost use Rattle.ent_protocol.specs.State.{State, members};
+ghost use Rattle.ent_examples.specs.Pairs.{Askers, pairs_commit};
+ghost use Rattle.ent_examples.specs.Partners.{Partners, flight_122, partners_opening, partners_pass};
+ghost use Rattle.ent_examples.specs.Writers.{insert_forms, two_writers, writers_opening};
 ghost use Rattle.ent_examples.specs.Busy.{cycle_stands, deletes_form, is_busy};
 ghost use Rattle.ent_examples.specs.Earlier.{job_outlives, next_attempt};
 ghost use Rattle.ent_examples.specs.Failure.{partner_gives_up, set_fails, sets_too_much};
@@ -20,6 +23,46 @@ ghost use Rattle.ent_examples.specs.Ring.{ring_closes, ring_commits};
 ghost use Rattle.ent_examples.specs.Scripts.{ScriptOf, asks_form, books_form};
 ghost use Rattle.ent_examples.specs.Shrunk.{C_for_D, D_for_C, comes_and_goes, group_forms, is_picked_again};
 ghost use Rattle.ent_examples.specs.Twice.{joint_comes_twice, single_comes_twice};
+
+/// Two writers take two tables in turn and wait for each other: the greater one is rolled back and goes to the dormant
+/// list, and the other one commits.
+pub fn two_writers_deadlock()
+    ensures { (last : State)
+        × Plays insert_forms (opened writers_opening) two_writers last
+        × (last.fates ≡ record { tx = 1; fate = Committed 1 1 } ∷ [])
+        × (last.dormant ≡ record { tx = 2; runs = 1 } ∷ [])
+        × (standing last 1 ≡ Some (Finished (Committed 1 1)))
+        × (standing last 2 ≡ Some (Dormant 1))
+        × (standing last 3 ≡ None)
+        × (closing last ≡ None) }
+{}
+
+/// Two partners are answered together; one prepares, and the other passes its lock, which blocks a reader; both commit
+/// in one event, and their joint answer is kept. So there are states that are reached in which a pair has committed.
+pub fn partner_passes_a_prepared_lock<F>()
+    ensures { (resolved : Forms F) (partners : Partners resolved)
+        → (last : State)
+        × Plays resolved (opened partners_opening) (partners_pass partners) last
+        × IsReached resolved last
+        × (last.fates
+        ≡ record { tx = 1; fate = Committed 1 1 } ∷ record { tx = 2; fate = Committed 2 1 } ∷ [])
+        × (committed_joints last
+        ≡ record {
+          members = record { tx = 1; place = 1; grounding = flight_122 ∷ [] }
+              ∷ record { tx = 2; place = 1; grounding = flight_122 ∷ [] } ∷ [];
+        } ∷ []) }
+{}
+
+/// Two pairs are answered one after the other, and the second one commits first: the journal has the pairs in the order
+/// of their commits, and the joint answers stand in the order in which they were made.
+pub fn joint_answers_stand_as_made<F>()
+    ensures { (resolved : Forms F) (askers : Askers resolved)
+        → (last : State)
+        × Plays resolved (opened partners_opening) (pairs_commit askers) last
+        × (map (λ entry. entry.tx) (book_of last).journal ≡ 3 ∷ 4 ∷ 1 ∷ 2 ∷ [])
+        × (map (λ joint. map (λ member. member.tx) joint.members) (book_of last).joint_answers
+        ≡ (1 ∷ 2 ∷ []) ∷ (3 ∷ 4 ∷ []) ∷ []) }
+{}
 
 /// A third who offers what the second does is held back, and is posted once the two have committed. Nobody answers it,
 /// and with its run it gives up; then the book is given.

@@ -1,5 +1,5 @@
 //! Pools of friends. Nothing here has a body; what holds is in the contracts.
-ghost use Rattle.ent_coordination.specs.Pool.{IsFirstUnsafe, IsSafe, IsUnsafeAt};
+ghost use Rattle.ent_semantics.specs.Pool.{IsFirstUnsafe, IsSafe, IsUnsafeAt};
 ghost use Rattle.ent_examples.specs.Pool.{two_friends, with_third};
 
 /// Two friends who name each other are a safe pool.

@@ -3,20 +3,23 @@ ghost use Rattle.std.specs.Prelude.{◌≡◌, ◌∷◌, ◌++◌, [], Some, co
 ghost use Rattle.ent_tree.specs.declared.script.End.TheVariants.{Commit, Rollback};
 ghost use Rattle.ent_semantics.specs.Book.{IsLegal};
 ghost use Rattle.ent_semantics.specs.declared.book.Fate.TheVariants.{Committed, GaveUp, RolledBack};
-ghost use Rattle.ent_protocol.specs.Partners.{flight_122, partners_opening, partners_pass};
 ghost use Rattle.ent_protocol.specs.Reached.{book_of, closing, committed_joints, opened};
 ghost use Rattle.ent_protocol.specs.State.{State};
+ghost use Rattle.ent_examples.specs.Partners.{flight_122, partners_opening, partners_pass};
 ghost use Rattle.ent_examples.specs.Earlier.{job_outlives, next_attempt};
 ghost use Rattle.ent_examples.specs.Grown.{A_for_B, B_for_A, C_for_A};
 ghost use Rattle.ent_examples.specs.HeldBack.{holds_back, mickey, minnie, posts_later};
 ghost use Rattle.ent_examples.specs.Ring.{B_for_C, ring_closes, ring_commits};
 ghost use Rattle.ent_examples.specs.WrittenScripts.{LeadTo, posted, booking, partners};
 
-use crate::play::{job_outlives_its_attempt, ring_commits_together, third_is_held_back};
+use crate::play::{
+    job_outlives_its_attempt, partner_passes_a_prepared_lock, ring_commits_together,
+    third_is_held_back,
+};
 use ent_form::FormFault;
 use ent_headline::resolved_runs_are_legal;
-use ent_protocol::{partner_passes_a_prepared_lock, plays_lead_on};
-use ent_termination::events_keep_the_input;
+use ent_protocol::plays_lead_on;
+use ent_protocol_laws::events_keep_the_input;
 
 /// Two partners are answered together, each with flight 122, and book it; both commit in one event, and their joint
 /// answer stands in the book, which is legal.

@@ -1,5 +1,5 @@
 //! Words of SQL that this language hasn't.
-use crate::mark::Mark;
+use crate::mark::{Mark, has_word};
 use std::alloc::{AllocError, Global};
 
 /// Words, with a space between each two, and what is written in their place.
@@ -8,6 +8,13 @@ struct Absent {
     words: &'static str,
     instead: &'static str,
 }
+
+/// Words of branches and loops. IF is read as a name behind CREATE TABLE, so they count only where the fault stands at
+/// them.
+const BRANCHES: [Absent; 1] = [Absent {
+    words: "IF THEN ELSE ELSEIF ELSIF WHILE LOOP",
+    instead: "write the test into the WHERE of each statement, or a script for each case",
+}];
 
 /// Words that begin a part of a statement. Where one was read as a name, the fault stands at the token behind it.
 const PARTS: [Absent; 11] = [
@@ -89,11 +96,7 @@ const VALUES: [Absent; 6] = [
 /// What is written in the place of a word that is among these.
 fn found(word: &str, absents: &[Absent]) -> Option<&'static str> {
     for absent in absents {
-        if absent
-            .words
-            .split(' ')
-            .any(|one| one.eq_ignore_ascii_case(word))
-        {
+        if has_word(absent.words, word) {
             return Some(absent.instead);
         }
     }
@@ -102,6 +105,10 @@ fn found(word: &str, absents: &[Absent]) -> Option<&'static str> {
 
 /// What is written in the place of a word at which the fault stands.
 fn instead_of(word: &str) -> Option<&'static str> {
+    let branch = found(word, &BRANCHES);
+    if branch.is_some() {
+        return branch;
+    }
     match found(word, &PARTS) {
         Some(instead) => Some(instead),
         None => found(word, &VALUES),

@@ -1,5 +1,5 @@
 //! What is said where numbers of values differ.
-use crate::mark::{Mark, marks_behind};
+use crate::mark::{Mark, is_one, marks_behind};
 use crate::scene::Scene;
 use crate::words::{Quantity, Wording, listed};
 use ent_text::{Keyword, Symbol};
@@ -29,7 +29,7 @@ fn things(marks: &[Mark<'_>], end: Keyword) -> usize {
 /// A row with another number of values than its table has columns, or a sub-select with another number of items than
 /// its tuple has terms.
 pub(crate) fn arity(scene: &Scene<'_>) -> Result<Wording, AllocError> {
-    if scene.follows(Keyword::Values) {
+    if scene.is_back(1, "VALUES") {
         return row_arity(scene);
     }
     tuple_arity(scene)
@@ -75,10 +75,7 @@ fn column_names<'a>(scene: &Scene<'a>, name: &str) -> Result<Vec<&'a str>, Alloc
 fn tuple_arity(scene: &Scene<'_>) -> Result<Wording, AllocError> {
     let alloc = scene.alloc;
     let coming = scene.coming();
-    let is_enclosed = scene
-        .ahead(0)
-        .is_some_and(|mark| mark.is_sign(Symbol::Open));
-    let inside = if is_enclosed {
+    let inside = if scene.is_ahead(0, "(") {
         coming.get(1..)
     } else {
         coming.get(..)
@@ -96,7 +93,7 @@ fn items_behind(scene: &Scene<'_>, marks: &[Mark<'_>]) -> Result<usize, AllocErr
         None => marks.len(),
     };
     let list = marks_behind(marks, start);
-    if !list.first().is_some_and(|mark| mark.is_sign(Symbol::Star)) {
+    if !is_one(list.first(), "*") {
         return Ok(things(list, Keyword::From));
     }
     let mut count = 0usize;

@@ -1,7 +1,7 @@
 //! What can stand at a place: the reader itself is asked, token by token.
 use crate::names::nearest;
 use crate::whole::Whole;
-use crate::words::joined;
+use crate::words::{has_name, joined};
 use std::alloc::{AllocError, Global};
 
 /// The symbols that are tried, but those of comparisons.
@@ -79,7 +79,7 @@ impl Expected {
 
     /// Whether this can stand there.
     pub(crate) fn has(&self, thing: &str) -> bool {
-        self.things.iter().any(|one| *one == thing)
+        has_name(self.things.as_slice(), thing)
     }
 
     /// The reserved word that can stand there and is one letter away from a word, in any mix of upper and lower case.

@@ -1,12 +1,12 @@
 //! A fault, explained.
-ghost use Rattle.std.specs.Prelude.{IfOk};
+ghost use Rattle.std.specs.Prelude.{◌≢◌, ◌↔◌, IfOk, IfSome, IsNone};
 ghost use Rattle.std.specs.Str.{IsCharBoundary};
-ghost use Rattle.ent_fault_text.specs.Fault.{offset_of};
+ghost use Rattle.ent_input.specs.Fault.{place_of};
+ghost use Rattle.ent_input.specs.declared.fault.InputFault.TheVariants.{TooLong};
 ghost use Rattle.ent_excerpt.specs.Place.{IsPlaceAt};
 ghost use Rattle.ent_excerpt.specs.Excerpt.{IsExcerptAt};
 
 use crate::character::{text_fault, word_length};
-use crate::fault::InputFault;
 use crate::form::form_fault;
 use crate::grammar::{too_many, unexpected};
 use crate::mark::Sort;
@@ -16,6 +16,7 @@ use crate::tokens::scene_at;
 use crate::whole::Whole;
 use crate::words::Wording;
 use ent_excerpt::{Excerpt, Line, Place, columns};
+use ent_input::InputFault;
 use ent_sql::SqlFault;
 use ent_tree::Opening;
 use std::alloc::{AllocError, Global};
@@ -31,53 +32,59 @@ pub struct Explanation<'a> {
     pub hint: Option<String>,
 }
 
-/// Explains a fault over the text of the input that has it.
+/// Explains a fault over the text of the input that has it; none, where the fault has no place.
 pub fn explain_fault<'a>(
     alloc: Global,
     text: &'a str,
     fault: InputFault,
-) -> Result<Explanation<'a>, AllocError>
-    ensures place { IfOk result (λ told. IsCharBoundary text.now (offset_of fault text.now)
-        → IsPlaceAt text.now (offset_of fault text.now) told.place) }
-    ensures excerpt { IfOk result (λ told. IsCharBoundary text.now (offset_of fault text.now)
-        → IsExcerptAt text.now (offset_of fault text.now) told.excerpt) }
+) -> Result<Option<Explanation<'a>>, AllocError>
+    ensures explained { IfOk result (λ told. IsNone told ↔ IsNone (place_of fault)) }
+    ensures place { IfOk result (λ told. IfSome told (λ told. IfSome (place_of fault) (λ offset.
+        IsCharBoundary text.now offset → IsPlaceAt text.now offset told.place))) }
+    ensures excerpt { IfOk result (λ told. IfSome told (λ told. IfSome (place_of fault) (λ offset.
+        IsCharBoundary text.now offset → IsExcerptAt text.now offset told.excerpt))) }
 {
-    let offset = fault.offset(text);
+    let Some(offset) = fault.place() else {
+        return Ok(None);
+    };
     let scene = Scene::new(alloc, Whole::Input, text, offset);
-    explained(scene_at(scene)?, text, fault)
+    Ok(Some(explained(scene_at(scene)?, text, fault, offset)?))
 }
 
-/// Explains a fault over the text of the script that has it, which stands alone in its text. The declared tables are
-/// those of an opening.
+/// Explains a fault over the text of the script that has it, which stands alone in its text; none, where the fault has
+/// no place. The declared tables are those of an opening.
 pub fn explain_script_fault<'a>(
     alloc: Global,
     opening: &Opening,
     text: &'a str,
     fault: InputFault,
-) -> Result<Explanation<'a>, AllocError>
-    ensures place { IfOk result (λ told. IsCharBoundary text.now (offset_of fault text.now)
-        → IsPlaceAt text.now (offset_of fault text.now) told.place) }
-    ensures excerpt { IfOk result (λ told. IsCharBoundary text.now (offset_of fault text.now)
-        → IsExcerptAt text.now (offset_of fault text.now) told.excerpt) }
+) -> Result<Option<Explanation<'a>>, AllocError>
+    ensures explained { IfOk result (λ told. IsNone told ↔ IsNone (place_of fault)) }
+    ensures place { IfOk result (λ told. IfSome told (λ told. IfSome (place_of fault) (λ offset.
+        IsCharBoundary text.now offset → IsPlaceAt text.now offset told.place))) }
+    ensures excerpt { IfOk result (λ told. IfSome told (λ told. IfSome (place_of fault) (λ offset.
+        IsCharBoundary text.now offset → IsExcerptAt text.now offset told.excerpt))) }
 {
-    let offset = fault.offset(text);
+    let Some(offset) = fault.place() else {
+        return Ok(None);
+    };
     let mut scene = Scene::new(alloc, Whole::Script, text, offset);
     scene.tables = tables_of(alloc, opening)?;
-    explained(scene_at(scene)?, text, fault)
+    Ok(Some(explained(scene_at(scene)?, text, fault, offset)?))
 }
 
-/// Explains a fault of a text, with what stands around it.
+/// Explains a fault of a text at its place, with what stands around it.
 fn explained<'a>(
     scene: Scene<'_>,
     text: &'a str,
     fault: InputFault,
+    offset: usize,
 ) -> Result<Explanation<'a>, AllocError>
-    ensures place { IfOk result (λ told. IsCharBoundary text.now (offset_of fault text.now)
-        → IsPlaceAt text.now (offset_of fault text.now) told.place) }
-    ensures excerpt { IfOk result (λ told. IsCharBoundary text.now (offset_of fault text.now)
-        → IsExcerptAt text.now (offset_of fault text.now) told.excerpt) }
+    requires { fault ≢ TooLong }
+    ensures place { IfOk result (λ told. IsCharBoundary text.now offset → IsPlaceAt text.now offset told.place) }
+    ensures excerpt { IfOk result (λ told. IsCharBoundary text.now offset
+        → IsExcerptAt text.now offset told.excerpt) }
 {
-    let offset = fault.offset(text);
     let Wording { sentence, hint } = told(&scene, fault)?;
     let place = Place::of(text, offset);
     let line = Line::of(text, offset);
@@ -91,13 +98,16 @@ fn explained<'a>(
 }
 
 /// The sentence and the hint.
-fn told(scene: &Scene<'_>, fault: InputFault) -> Result<Wording, AllocError> {
+fn told(scene: &Scene<'_>, fault: InputFault) -> Result<Wording, AllocError>
+    requires { fault ≢ TooLong }
+{
     match fault {
-        InputFault::NotUtf8 => not_utf8(scene),
+        InputFault::NotUtf8(_) => not_utf8(scene),
         InputFault::Sql(SqlFault::Text(fault)) => text_fault(scene, fault),
         InputFault::Sql(SqlFault::Unexpected(_)) => unexpected(scene),
         InputFault::Sql(SqlFault::TooMany(_)) => too_many(scene),
         InputFault::Form(fault) => form_fault(scene, fault),
+        InputFault::TooLong => unreachable!(),
     }
 }
 

@@ -8,9 +8,8 @@ use crate::repeated::{ambiguous, repeated};
 use crate::scene::Scene;
 use crate::schema::Table;
 use crate::typed::wrong_kind;
-use crate::words::{Wording, listed};
+use crate::words::{Wording, has_name, listed};
 use ent_form::FormFault;
-use ent_text::{Keyword, Symbol};
 use std::alloc::AllocError;
 
 /// The most tables or columns that are named where none is near.
@@ -34,11 +33,11 @@ pub(crate) fn form_fault(scene: &Scene<'_>, fault: FormFault) -> Result<Wording,
 fn no_table(scene: &Scene<'_>) -> Result<Wording, AllocError> {
     let alloc = scene.alloc;
     let name = scene.word();
-    if scene.ahead(1).is_some_and(|mark| mark.is_sign(Symbol::Dot)) {
+    if scene.is_ahead(1, ".") {
         return no_source(scene, name);
     }
     let sentence = format!(in alloc; "there is no table {name}")?;
-    if scene.relations.iter().any(|relation| *relation == name) {
+    if has_name(scene.relations.as_slice(), name) {
         let hint = format!(in alloc; "{name} is an answer relation, and no table")?;
         return Ok(Wording {
             sentence,
@@ -94,7 +93,7 @@ fn hint_among(
 fn no_column(scene: &Scene<'_>) -> Result<Wording, AllocError> {
     let alloc = scene.alloc;
     let name = scene.word();
-    let is_qualified = scene.back(1).is_some_and(|mark| mark.is_sign(Symbol::Dot));
+    let is_qualified = scene.is_back(1, ".");
     let qualifier = if is_qualified { scene.back(2) } else { None };
     let mut tables: Vec<&str> = Vec::new(alloc);
     let mut columns: Vec<&str> = Vec::new(alloc);
@@ -119,7 +118,7 @@ fn no_column(scene: &Scene<'_>) -> Result<Wording, AllocError> {
 /// Adds the names of a table's columns that aren't there yet.
 fn add_columns<'a>(columns: &mut Vec<&'a str>, table: &Table<'a>) -> Result<(), AllocError> {
     for column in &table.columns {
-        if !columns.iter().any(|name| *name == column.name) {
+        if !has_name(columns.as_slice(), column.name) {
             columns.push(column.name)?;
         }
     }

@@ -1,9 +1,9 @@
 //! The sources around a place, and the kinds of what stands there.
 use crate::expected::can_compare;
-use crate::mark::{Mark, Sort, first_marks, marks_behind};
+use crate::mark::{Mark, Sort, first_marks, is_one, marks_behind};
 use crate::scene::Scene;
 use crate::schema::Column;
-use ent_text::{Keyword, Symbol};
+use ent_text::Symbol;
 use ent_value::Kind;
 use std::alloc::{AllocError, Global};
 
@@ -30,7 +30,7 @@ fn select_start(marks: &[Mark<'_>]) -> usize {
         let next = index.saturating_add(1);
         if mark.is_sign(Symbol::Open) {
             depth = depth.saturating_add(1);
-            if is_select(marks.get(next)) {
+            if is_one(marks.get(next), "SELECT") {
                 start = next;
             }
         } else if mark.is_sign(Symbol::Close) {
@@ -41,10 +41,6 @@ fn select_start(marks: &[Mark<'_>]) -> usize {
         }
     }
     start
-}
-
-fn is_select(mark: Option<&Mark<'_>>) -> bool {
-    mark.is_some_and(|mark| mark.is_word(Keyword::Select))
 }
 
 /// The tokens behind the word that introduces sources or a table, outside parentheses.
@@ -58,15 +54,11 @@ fn introduced<'a, 'b>(marks: &'b [Mark<'a>]) -> &'b [Mark<'a>] {
                 return first_marks(marks, 0);
             }
             depth = depth.saturating_sub(1);
-        } else if depth == 0 && introduces(mark) {
+        } else if depth == 0 && mark.is_of("FROM INTO UPDATE") {
             return marks_behind(marks, index.saturating_add(1));
         }
     }
     first_marks(marks, 0)
-}
-
-fn introduces(mark: &Mark<'_>) -> bool {
-    mark.is_word(Keyword::From) || mark.is_word(Keyword::Into) || mark.is_word(Keyword::Update)
 }
 
 /// The sources that these tokens begin with.
@@ -82,7 +74,7 @@ fn sources_of<'a>(alloc: Global, marks: &[Mark<'a>]) -> Result<Vec<SourceNames<'
             rename(&mut sources, name);
         } else if mark.is_sign(Symbol::Comma) {
             is_new = true;
-        } else if !mark.is_word(Keyword::As) {
+        } else if !mark.is_of("AS") {
             break;
         }
     }
@@ -162,7 +154,7 @@ impl<'a> Scene<'a> {
             });
         };
         let is_pair = first.is_sign(Symbol::Minus);
-        let is_qualified = first.is_name() && dot.is_some_and(|mark| mark.is_sign(Symbol::Dot));
+        let is_qualified = first.is_name() && self.is_ahead(1, ".");
         if is_qualified && let Some(column) = second {
             let kind = self.kind_of(Some(first.text), &column)?;
             return Ok(TestSide {
@@ -186,8 +178,9 @@ impl<'a> Scene<'a> {
         if !can_compare(self.alloc, sign.text)? {
             return Ok(None);
         }
-        let is_qualified = self.back(3).is_some_and(|mark| mark.is_sign(Symbol::Dot));
-        if is_qualified && let Some(qualifier) = self.back(4) {
+        if self.is_back(3, ".")
+            && let Some(qualifier) = self.back(4)
+        {
             let kind = self.kind_of(Some(qualifier.text), &last)?;
             return Ok(Some(TestSide {
                 text: self.between(&qualifier, &last),

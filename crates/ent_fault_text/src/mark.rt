@@ -43,6 +43,37 @@ impl Mark<'_> {
     pub(crate) fn is_name(&self) -> bool {
         matches!(self.sort, Sort::Name)
     }
+
+    /// Whether it is one of these tokens, with a space between each two: words and symbols as they are spelled, and
+    /// `<name>`, `<number>`, `<text>` and `<variable>`, which stand for every name, number, text and host variable.
+    pub(crate) fn is_of(&self, tokens: &str) -> bool {
+        let sort = match self.sort {
+            Sort::Name => "<name>",
+            Sort::Number => "<number>",
+            Sort::Text => "<text>",
+            Sort::HostVariable => "<variable>",
+            _ => self.text,
+        };
+        has_word(tokens, sort) || has_word(tokens, self.text)
+    }
+}
+
+/// Whether there is a token, and it is one of these.
+pub(crate) fn is_one(mark: Option<&Mark<'_>>, tokens: &str) -> bool {
+    match mark {
+        Some(mark) => mark.is_of(tokens),
+        None => false,
+    }
+}
+
+/// Whether a word is among others, with a space between each two, in any mix of upper and lower case.
+pub(crate) fn has_word(words: &str, word: &str) -> bool {
+    for one in words.split(' ') {
+        if one.eq_ignore_ascii_case(word) {
+            return true;
+        }
+    }
+    false
 }
 
 /// What kind of token is seen.

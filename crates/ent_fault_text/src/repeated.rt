@@ -1,9 +1,8 @@
 //! What is said where a name stands for two things, or a thing stands twice.
-use crate::mark::{Mark, Sort};
+use crate::mark::Mark;
 use crate::scene::Scene;
 use crate::words::{Wording, listed};
 use ent_excerpt::Place;
-use ent_text::{Keyword, Symbol};
 use std::alloc::AllocError;
 
 /// A plain name that two sources have as a column, or two sources that go by one name.
@@ -17,10 +16,9 @@ pub(crate) fn ambiguous(scene: &Scene<'_>) -> Result<Wording, AllocError> {
     let sentence = format!(in alloc; "two sources have a column {name}")?;
     let mut choices: Vec<String> = Vec::new(alloc);
     for source in &scene.sources()? {
-        let has = scene
-            .table(source.table)
-            .is_some_and(|table| table.column(name).is_some());
-        if has {
+        if let Some(table) = scene.table(source.table)
+            && table.column(name).is_some()
+        {
             let qualifier = source.name;
             choices.push(format!(in alloc; "{qualifier}.{name}")?)?;
         }
@@ -37,10 +35,11 @@ pub(crate) fn ambiguous(scene: &Scene<'_>) -> Result<Wording, AllocError> {
 /// Whether the place stands in a FROM.
 fn is_source(scene: &Scene<'_>) -> bool {
     for mark in scene.passed().iter().rev() {
-        match mark.sort {
-            Sort::Word(Keyword::From) => return true,
-            Sort::Word(Keyword::As) | Sort::Name | Sort::Sign(Symbol::Comma) => (),
-            _ => return false,
+        if mark.is_of("FROM") {
+            return true;
+        }
+        if !mark.is_of("AS <name> ,") {
+            return false;
         }
     }
     false
@@ -58,22 +57,19 @@ enum RepeatedThing {
 
 /// What stands at the place.
 fn repeated_at(scene: &Scene<'_>) -> RepeatedThing {
-    if scene.follows(Keyword::Table) {
+    if scene.is_back(1, "TABLE") {
         return RepeatedThing::Table;
     }
-    if scene.follows(Keyword::Answer) {
+    if scene.is_back(1, "ANSWER") {
         return RepeatedThing::Relation;
     }
-    if scene
-        .ahead(0)
-        .is_some_and(|mark| mark.sort == Sort::HostVariable)
-    {
+    if scene.is_ahead(0, "<variable>") {
         return RepeatedThing::HostVariable;
     }
-    match scene.statement().first() {
-        Some(mark) if mark.is_word(Keyword::Create) => RepeatedThing::Column,
-        _ => RepeatedThing::Assignment,
+    if scene.begins_with("CREATE") {
+        return RepeatedThing::Column;
     }
+    RepeatedThing::Assignment
 }
 
 /// A thing that stands a second time.
@@ -107,7 +103,10 @@ fn first_of(scene: &Scene<'_>, thing: RepeatedThing) -> Option<usize> {
     }
     let mut last: Option<Mark<'_>> = None;
     for mark in scene.statement() {
-        if mark.text == scene.word() && last.is_some_and(|before| leads_to(thing, &before)) {
+        if let Some(before) = last
+            && mark.text == scene.word()
+            && leads_to(thing, &before)
+        {
             return Some(mark.start);
         }
         last = Some(*mark);
@@ -118,10 +117,10 @@ fn first_of(scene: &Scene<'_>, thing: RepeatedThing) -> Option<usize> {
 /// Whether a token can stand before such a thing.
 fn leads_to(thing: RepeatedThing, before: &Mark<'_>) -> bool {
     match thing {
-        RepeatedThing::Table => before.is_word(Keyword::Table),
-        RepeatedThing::Column => before.is_sign(Symbol::Open) || before.is_sign(Symbol::Comma),
-        RepeatedThing::Assignment => before.is_word(Keyword::Set) || before.is_sign(Symbol::Comma),
-        RepeatedThing::Relation => before.is_word(Keyword::Answer),
-        RepeatedThing::HostVariable => before.is_word(Keyword::As),
+        RepeatedThing::Table => before.is_of("TABLE"),
+        RepeatedThing::Column => before.is_of("( ,"),
+        RepeatedThing::Assignment => before.is_of("SET ,"),
+        RepeatedThing::Relation => before.is_of("ANSWER"),
+        RepeatedThing::HostVariable => before.is_of("AS"),
     }
 }

@@ -1,5 +1,5 @@
 //! What stands around a place: the declared tables, and the tokens of its statement.
-use crate::mark::{Mark, Sort, first_marks, marks_behind};
+use crate::mark::{Mark, Sort, first_marks, is_one, marks_behind};
 use crate::schema::{Table, declare};
 use crate::whole::Whole;
 use ent_text::{Keyword, Symbol};
@@ -58,7 +58,10 @@ impl<'a> Scene<'a> {
         if self.is_opening {
             declare(self.alloc, &mut self.tables, last, mark)?;
         }
-        if mark.is_name() && last.is_some_and(|mark| mark.is_word(Keyword::Answer)) {
+        if let Some(before) = last
+            && mark.is_name()
+            && before.is_word(Keyword::Answer)
+        {
             self.relations.push(mark.text)?;
         }
         if mark.start < self.offset {
@@ -107,9 +110,19 @@ impl<'a> Scene<'a> {
         }
     }
 
-    /// Whether the token before the place is this reserved word.
-    pub(crate) fn follows(&self, word: Keyword) -> bool {
-        self.back(1).is_some_and(|mark| mark.is_word(word))
+    /// Whether the token at the place, or so many behind it, is one of these ([`Mark::is_of`]).
+    pub(crate) fn is_ahead(&self, steps: usize, tokens: &str) -> bool {
+        is_one(self.ahead(steps).as_ref(), tokens)
+    }
+
+    /// Whether the token so many before the place is one of these.
+    pub(crate) fn is_back(&self, steps: usize, tokens: &str) -> bool {
+        is_one(self.back(steps).as_ref(), tokens)
+    }
+
+    /// Whether the statement that holds the place begins with one of these tokens.
+    pub(crate) fn begins_with(&self, tokens: &str) -> bool {
+        is_one(self.statement().first(), tokens)
     }
 
     /// The tokens before the place.

@@ -1,6 +1,6 @@
 //! Declared tables, as their tokens say.
-use crate::fault::valid_text;
 use crate::mark::{Mark, Sort};
+use crate::valid::valid_text;
 use ent_text::Keyword;
 use ent_tree::{Create, Opening};
 use ent_value::Kind;

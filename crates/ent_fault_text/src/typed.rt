@@ -30,17 +30,8 @@ pub(crate) fn wrong_kind(scene: &Scene<'_>) -> Result<Wording, AllocError> {
 
 /// Whether the place stands beside `+` or `-`, as a term of a sum.
 fn is_beside_sign(scene: &Scene<'_>) -> bool {
-    let is_behind = scene.back(1).is_some_and(|mark| mark.is_sign(Symbol::Plus)
-        || mark.is_sign(Symbol::Minus));
-    let is_before = scene.ahead(1).is_some_and(|mark| mark.is_sign(Symbol::Plus)
-        || mark.is_sign(Symbol::Minus));
-    let is_qualified = scene.ahead(1).is_some_and(|mark| mark.is_sign(Symbol::Dot));
-    is_behind || is_before || is_qualified && is_before_sign(scene)
-}
-
-/// Whether `+` or `-` stands behind a qualified name at the place.
-fn is_before_sign(scene: &Scene<'_>) -> bool {
-    scene.ahead(3).is_some_and(|mark| mark.is_sign(Symbol::Plus) || mark.is_sign(Symbol::Minus))
+    let is_qualified = scene.is_ahead(1, ".");
+    scene.is_back(1, "+ -") || scene.is_ahead(1, "+ -") || is_qualified && scene.is_ahead(3, "+ -")
 }
 
 fn beside_sign(scene: &Scene<'_>, side: TestSide<'_>) -> Result<Wording, AllocError> {

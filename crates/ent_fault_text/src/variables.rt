@@ -1,6 +1,7 @@
 //! The variables around a place.
-use crate::mark::{Mark, Sort};
+use crate::mark::{Mark, Sort, is_one};
 use crate::scene::Scene;
+use crate::words::has_name;
 use ent_text::Keyword;
 use std::alloc::AllocError;
 
@@ -19,7 +20,7 @@ impl<'a> Scene<'a> {
 
     /// Whether a name is neither a table's nor an answer relation's.
     fn is_variable(&self, name: &str) -> bool {
-        self.table(name).is_none() && !self.relations.iter().any(|relation| *relation == name)
+        self.table(name).is_none() && !has_name(self.relations.as_slice(), name)
     }
 
     /// The host variables that statements before this one give values.
@@ -28,8 +29,8 @@ impl<'a> Scene<'a> {
         let earlier = self.marks.len().saturating_sub(self.statement().len());
         let mut last: Option<Mark<'a>> = None;
         for mark in self.marks.iter().take(earlier) {
-            let is_new = !names.iter().any(|name| *name == mark.text);
-            if mark.sort == Sort::HostVariable && is_new && gives(last) {
+            let is_new = !has_name(names.as_slice(), mark.text);
+            if mark.sort == Sort::HostVariable && is_new && is_one(last.as_ref(), "AS SET") {
                 names.push(mark.text)?;
             }
             last = Some(*mark);
@@ -47,9 +48,4 @@ impl<'a> Scene<'a> {
             None => false,
         }
     }
-}
-
-/// Whether the token before a host variable says that it is given a value.
-fn gives(last: Option<Mark<'_>>) -> bool {
-    last.is_some_and(|mark| mark.is_word(Keyword::As) || mark.is_word(Keyword::Set))
 }

@@ -55,6 +55,16 @@ pub(crate) fn other_than(kind: Kind) -> Kind {
     }
 }
 
+/// Whether a name is among others.
+pub(crate) fn has_name(names: &[&str], name: &str) -> bool {
+    for one in names {
+        if *one == name {
+            return true;
+        }
+    }
+    false
+}
+
 /// These words with another text between each two.
 pub(crate) fn joined(alloc: Global, words: &[&str], between: &str) -> Result<String, AllocError> {
     let mut list = String::new(alloc);

@@ -1,4 +1,7 @@
-//! The feed of commits.
+//! The feed of commits: groups of tickets with what they changed, numbered, until a store has taken them in.
+//!
+//! A [`Feed`] keeps the groups that aren't settled, in order of their numbers. A [`Group`] tells of the tickets that
+//! committed together or ended otherwise, and of the net change of each table; [`append_line`] writes it as JSON.
 #![tactic(auto)]
 
 mod answer;

@@ -14,3 +14,11 @@ pub mod AllFaults
 pub mod EntangledFaults
 pub mod ScriptFaults
 pub mod FirstFault
+pub mod InputFault
+pub mod Tables
+pub mod TableKinds
+pub mod Opened
+pub mod Standing
+pub mod EntangledStanding
+pub mod ScriptStanding
+pub mod Demanded

@@ -22,9 +22,9 @@ use Rattle.ent_form.specs.Kinds.{Bound, none_bound}
 use Rattle.ent_form.specs.declared.catalogue.TableSchema.{TableSchema}
 use Rattle.ent_form.specs.declared.fault.FormFault.{FormFault}
 use Rattle.ent_form.proofs.Heads.{found_of}
-use Rattle.ent_form_laws.specs.Kinds.{AreDeclared}
-use Rattle.ent_form_laws.proofs.Steps.{one_answer}
-use Rattle.ent_coordination.specs.Pool.{Posted}
+use Rattle.ent_form.specs.TableKinds.{AreDeclared}
+use Rattle.ent_form.proofs.ResolvedSteps.{one_answer}
+use Rattle.ent_semantics.specs.Pool.{Posted}
 use Rattle.ent_protocol.specs.Member.{Ordinary, posted_by, end_next, environment_of, next_in, next_of, pool}
 use Rattle.ent_protocol.specs.Member.{statement_next}
 use Rattle.ent_protocol.specs.PoolEvents.{IsPresentComponent, joint_uses}
@@ -37,7 +37,7 @@ use Rattle.ent_headline.specs.Resolved.{resolved_forms}
 use Rattle.ent_lists.specs.Elements.{In, contains_in, in_either, in_flat, of_all, all_joined}
 use Rattle.ent_lists.specs.Elements.{all_first, all_second}
 use Rattle.ent_lists.proofs.Lists.{index_all}
-use Rattle.ent_serializability.proofs.Locks.{uses_from}
+use Rattle.ent_protocol_laws.proofs.Locks.{uses_from}
 use Rattle.ent_headline.proofs.Lists.{numbered_in}
 use Rattle.ent_headline.proofs.Places.{statements_given}
 

@@ -24,16 +24,16 @@ use Rattle.ent_form.specs.Form.{statement_in, statements_from, script_in}
 use Rattle.ent_form.specs.Kinds.{Bound, none_bound}
 use Rattle.ent_form.specs.OpeningFault.{declarations_fault, opening_fault}
 use Rattle.ent_form.proofs.Heads.{found_of}
-use Rattle.ent_form_laws.specs.Kinds.{AreKinded}
-use Rattle.ent_form_laws.specs.Opened.{opening_tables}
-use Rattle.ent_form_laws.specs.Tables.{database_of, AreWide, HaveDistinctColumns, effect_of, Answers}
-use Rattle.ent_form_laws.proofs.Opened.{declared_once}
-use Rattle.ent_form_laws.proofs.Steps.{one_answer}
+use Rattle.ent_form.specs.TableKinds.{AreKinded}
+use Rattle.ent_form.specs.Opened.{opening_tables}
+use Rattle.ent_form.specs.Tables.{database_of, AreWide, HaveDistinctColumns, effect_of, Answers}
+use Rattle.ent_form.proofs.Opened.{declared_once}
+use Rattle.ent_form.proofs.ResolvedSteps.{one_answer}
 use Rattle.ent_protocol.specs.Reached.{table_names}
 use Rattle.ent_protocol.specs.Uses.{shared, exclusive, statement_uses}
-use Rattle.ent_serializability.specs.Faithful.{table_number, is_used, is_owned}
-use Rattle.ent_serializability.specs.Faithful.{IsFaithfulEntangled, IsFaithful, InTurn}
-use Rattle.ent_serializability.specs.Faithful.{AreFaithful}
+use Rattle.ent_protocol_laws.specs.Faithful.{table_number, is_used, is_owned}
+use Rattle.ent_protocol_laws.specs.Faithful.{IsFaithfulEntangled, IsFaithful, InTurn}
+use Rattle.ent_protocol_laws.specs.Faithful.{AreFaithful}
 use Rattle.ent_headline.specs.Resolved.{resolved_forms}
 use Rattle.ent_headline.proofs.FormLaws.{FormLaws}
 use Rattle.ent_headline.proofs.Named.{IsRight, statement_right}

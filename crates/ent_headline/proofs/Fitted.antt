@@ -28,9 +28,9 @@ use Rattle.ent_form.specs.Kinds.{Bound, none_bound}
 use Rattle.ent_form.specs.declared.catalogue.TableSchema.{TableSchema}
 use Rattle.ent_form.specs.declared.fault.FormFault.{FormFault}
 use Rattle.ent_form.proofs.Heads.{found_of}
-use Rattle.ent_form_laws.specs.Kinds.{column_kinds, kinds_numbered}
-use Rattle.ent_form_laws.proofs.Steps.{one_answer}
-use Rattle.ent_form_laws.proofs.NamesApart.{schema_kinds}
+use Rattle.ent_form.specs.TableKinds.{column_kinds, kinds_numbered}
+use Rattle.ent_form.proofs.ResolvedSteps.{one_answer}
+use Rattle.ent_form.proofs.NamesApart.{schema_kinds}
 use Rattle.ent_protocol.specs.Job.{Numbered}
 use Rattle.ent_protocol.specs.Member.{Ordinary, next_in, next_of, statement_next, end_next, environment_of}
 use Rattle.ent_protocol.specs.Member.{declared_kinds, seen_now}

@@ -18,7 +18,7 @@ use Rattle.ent_form.specs.Kinds.{Bound}
 use Rattle.ent_form.specs.Catalogue.{column_named}
 use Rattle.ent_form.proofs.Columns.{own_length_from}
 use Rattle.ent_form.proofs.Heads.{found_of}
-use Rattle.ent_form_laws.proofs.Steps.{one_answer, demand_given}
+use Rattle.ent_form.proofs.ResolvedSteps.{one_answer, demand_given}
 
 one_more : (out made more columns : ℕ) → out ≡ more + columns → more ≡ made + 1 → out ≡ made + suc columns
 one_more out made more columns e l = omega (arith, e, l)

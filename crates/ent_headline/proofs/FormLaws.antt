@@ -15,8 +15,8 @@ use Rattle.ent_form.specs.Entangled.{entangled_in}
 use Rattle.ent_form.specs.Form.{statement_in}
 use Rattle.ent_form.specs.Kinds.{Bound}
 use Rattle.ent_form.specs.declared.catalogue.TableSchema.{TableSchema}
-use Rattle.ent_form_laws.specs.Kinds.{AreKinded}
-use Rattle.ent_form_laws.specs.Tables.{database_of, effect_of, Answers, AreWide, HaveDistinctColumns}
+use Rattle.ent_form.specs.TableKinds.{AreKinded}
+use Rattle.ent_form.specs.Tables.{database_of, effect_of, Answers, AreWide, HaveDistinctColumns}
 
 pub record FormLaws : Type 0 where
   pub means : (creates : List Create) (tables : Tables) (environment : Environment) (valuation : Valuation)

@@ -40,8 +40,8 @@ use Rattle.ent_form.specs.Ordinary.{update_in, set_in}
 use Rattle.ent_form.specs.Scope.{Scope, with_source, source_place, sources_from, sources_in, no_source, table_in}
 use Rattle.ent_form.specs.Scope.{table_scope}
 use Rattle.ent_form.specs.Steps.{there}
-use Rattle.ent_form_laws.proofs.Steps.{one_answer, demand_given}
-use Rattle.ent_serializability.specs.Faithful.{table_number, IsFaithfulEntangled, AreAlike}
+use Rattle.ent_form.proofs.ResolvedSteps.{one_answer, demand_given}
+use Rattle.ent_protocol_laws.specs.Faithful.{table_number, IsFaithfulEntangled, AreAlike}
 use Rattle.ent_lists.specs.Elements.{all_joined}
 use Rattle.ent_form.specs.Catalogue.{schemas_of, table_named}
 use Rattle.ent_form.proofs.Heads.{found_of, there_of}

@@ -6,7 +6,7 @@ use Rattle.ent_tree.specs.declared.entangled.Entangled.{Entangled as TreeEntangl
 use Rattle.ent_semantics.specs.Database.{Name, same_name, index_of}
 use Rattle.ent_semantics.specs.Names.{name_itself}
 use Rattle.ent_form.specs.Entangled.{variables_of}
-use Rattle.ent_form_laws.proofs.Noted.{OfItems, OfConditions, variables_all, variables_once}
+use Rattle.ent_form.proofs.Noted.{OfItems, OfConditions, variables_all, variables_once}
 
 -- of those that differ from a name
 both_each : (P Q : Name → Type 0) (names : List Name) → AllByRecursion P names → AllByRecursion Q names

@@ -14,8 +14,8 @@ use Rattle.ent_form.specs.declared.fault.FormFault.TheVariants.{NoTable}
 use Rattle.ent_form.specs.Catalogue.{column_schema, table_schema, schemas_of, table_from, table_named}
 use Rattle.ent_form.specs.Scope.{table_in}
 use Rattle.ent_form.proofs.Heads.{there_of}
-use Rattle.ent_form_laws.specs.Tables.{AreWide}
-use Rattle.ent_serializability.specs.Faithful.{table_number}
+use Rattle.ent_form.specs.Tables.{AreWide}
+use Rattle.ent_protocol_laws.specs.Faithful.{table_number}
 
 -- the columns of the table of a number
 abbrev pub width_numbered : List Create → ℕ → ℕ

@@ -25,7 +25,7 @@ use Rattle.ent_form.specs.declared.catalogue.TableSchema.{TableSchema}
 use Rattle.ent_form.specs.declared.fault.FormFault.TheVariants.{Repeated}
 use Rattle.ent_form.specs.declared.script.Plain.{Plain}
 use Rattle.ent_form.proofs.Heads.{found_of}
-use Rattle.ent_form_laws.proofs.Steps.{one_answer, demand_given}
+use Rattle.ent_form.proofs.ResolvedSteps.{one_answer, demand_given}
 use Rattle.ent_plan.specs.Plan.{HasDistinctHeads}
 use Rattle.ent_headline.proofs.Statements.{OfResolved, script_each}
 

@@ -6,7 +6,7 @@ use Rattle.ent_protocol.specs.Event.{Reply}
 use Rattle.ent_protocol.specs.Job.{Done}
 use Rattle.ent_protocol.specs.PoolEvents.{JoinsOrIsStale}
 use Rattle.ent_protocol.specs.State.{State}
-use Rattle.ent_serializability.specs.Present.{LentIsPresent}
+use Rattle.ent_protocol_laws.specs.Present.{LentIsPresent}
 use Rattle.ent_protocol_laws.specs.Lent.{LentStandOnce}
 use Rattle.ent_headline.specs.Outstanding.{IsOutstanding, IsOutstandingTogether, IsHandedBack}
 

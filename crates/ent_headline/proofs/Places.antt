@@ -13,12 +13,12 @@ use Rattle.ent_form.specs.Form.{statements_from, script_in}
 use Rattle.ent_form.specs.Kinds.{Bound, none_bound}
 use Rattle.ent_form.specs.declared.script.Plain.{Plain}
 use Rattle.ent_form.proofs.Heads.{found_of}
-use Rattle.ent_form_laws.specs.Kinds.{AreKinded, HasKinds}
-use Rattle.ent_form_laws.specs.Opened.{opening_tables}
-use Rattle.ent_serializability.specs.History.{History, Replays, AreSerial}
-use Rattle.ent_serializability.specs.SerialState.{IsSerialState, Follows, IsWhole}
-use Rattle.ent_form_laws.specs.Tables.{database_of, HaveDistinctColumns}
-use Rattle.ent_form_laws.proofs.Steps.{one_answer}
+use Rattle.ent_form.specs.TableKinds.{AreKinded, HasKinds}
+use Rattle.ent_form.specs.Opened.{opening_tables}
+use Rattle.ent_protocol_laws.specs.History.{History, Replays, AreSerial}
+use Rattle.ent_protocol_laws.specs.SerialState.{IsSerialState, Follows, IsWhole}
+use Rattle.ent_form.specs.Tables.{database_of, HaveDistinctColumns}
+use Rattle.ent_form.proofs.ResolvedSteps.{one_answer}
 use Rattle.ent_protocol.specs.Member.{environment_of}
 use Rattle.ent_protocol.specs.Reached.{IsReached, settled}
 use Rattle.ent_protocol.specs.State.{State, Submitted, Member}

@@ -14,13 +14,13 @@ use Rattle.ent_semantics.specs.declared.entangled.Entangled.{Entangled}
 use Rattle.ent_semantics.specs.declared.operand.Known.{Known}
 use Rattle.ent_semantics.specs.declared.statement.Statement.{Statement}
 use Rattle.ent_semantics.specs.declared.statement.Statement.TheVariants as statements
-use Rattle.ent_coordination.specs.Pool.{Posted}
+use Rattle.ent_semantics.specs.Pool.{Posted}
 use Rattle.ent_form.specs.Catalogue.{schemas_of}
 use Rattle.ent_form.specs.Form.{script_in}
 use Rattle.ent_form.specs.declared.catalogue.TableSchema.{TableSchema}
 use Rattle.ent_form.specs.declared.fault.FormFault.{FormFault}
 use Rattle.ent_form.specs.declared.script.Plain.{Plain}
-use Rattle.ent_form_laws.proofs.Steps.{one_answer}
+use Rattle.ent_form.proofs.ResolvedSteps.{one_answer}
 use Rattle.ent_protocol.specs.Member.{Next, Ordinary, Asks, Commits, RollsBack, next_in, next_of, posted_by, pool}
 use Rattle.ent_protocol.specs.Member.{statement_next, end_next, environment_of}
 use Rattle.ent_protocol.specs.Reached.{IsReached}

@@ -39,9 +39,9 @@ use Rattle.ent_form.specs.declared.catalogue.TableSchema.{TableSchema}
 use Rattle.ent_form.specs.declared.fault.FormFault.TheVariants.{Arity, WrongKind}
 use Rattle.ent_form.specs.declared.script.Plain.{Plain}
 use Rattle.ent_form.proofs.Heads.{found_of}
-use Rattle.ent_form_laws.proofs.Grounded.{IsDemanded, OfSubselect, OfOther, of_both, items_demanded, others_demanded}
-use Rattle.ent_form_laws.proofs.Noted.{OfVariable, OfVariables, variable_weaker, items_weaker, terms_weaker}
-use Rattle.ent_form_laws.proofs.Steps.{one_answer, demand_given}
+use Rattle.ent_form.proofs.Grounded.{IsDemanded, OfSubselect, OfOther, of_both, items_demanded, others_demanded}
+use Rattle.ent_form.proofs.Noted.{OfVariable, OfVariables, variable_weaker, items_weaker, terms_weaker}
+use Rattle.ent_form.proofs.ResolvedSteps.{one_answer, demand_given}
 use Rattle.ent_plan.specs.Ranged.{is_variable, stands_in, IsRanged}
 use Rattle.ent_headline.proofs.Noted.{variable_at}
 use Rattle.ent_headline.proofs.Statements.{OfResolved, script_each}

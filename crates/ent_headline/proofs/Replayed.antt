@@ -35,9 +35,9 @@ use Rattle.ent_form.specs.Kinds.{Bound}
 use Rattle.ent_form.specs.declared.catalogue.TableSchema.{TableSchema}
 use Rattle.ent_form.specs.declared.fault.FormFault.{FormFault}
 use Rattle.ent_form.proofs.Heads.{found_of}
-use Rattle.ent_form_laws.specs.Kinds.{kinds_numbered, AnswersInKind, AreKinded, HasKinds}
-use Rattle.ent_form_laws.specs.Tables.{database_of, effect_of, Answers, AreWide, HaveDistinctColumns}
-use Rattle.ent_form_laws.proofs.Steps.{one_answer}
+use Rattle.ent_form.specs.TableKinds.{kinds_numbered, AnswersInKind, AreKinded, HasKinds}
+use Rattle.ent_form.specs.Tables.{database_of, effect_of, Answers, AreWide, HaveDistinctColumns}
+use Rattle.ent_form.proofs.ResolvedSteps.{one_answer}
 use Rattle.ent_headline.specs.Kinds.{bound_behind}
 use Rattle.ent_headline.proofs.FormLaws.{FormLaws}
 

@@ -23,7 +23,7 @@ use Rattle.ent_form.specs.declared.catalogue.TableSchema.{TableSchema}
 use Rattle.ent_form.specs.declared.fault.FormFault.TheVariants.{Arity}
 use Rattle.ent_form.specs.declared.script.Plain.{Plain}
 use Rattle.ent_form.proofs.Heads.{found_of}
-use Rattle.ent_form_laws.proofs.Steps.{one_answer, demand_given}
+use Rattle.ent_form.proofs.ResolvedSteps.{one_answer, demand_given}
 
 -- what holds of each entangled statement that is resolved
 abbrev pub OfResolved : (Entangled Known → Type 0) → Type 0

@@ -19,7 +19,7 @@ use Rattle.ent_semantics.specs.declared.statement.Statement.TheVariants as forms
 use Rattle.ent_semantics.specs.Names.{equal_names}
 use Rattle.ent_protocol.specs.State.{Use}
 use Rattle.ent_protocol.specs.Uses.{shared, exclusive, statement_uses}
-use Rattle.ent_serializability.specs.Faithful.{table_number, is_used, is_owned}
+use Rattle.ent_protocol_laws.specs.Faithful.{table_number, is_used, is_owned}
 use Rattle.ent_lists.specs.Elements.{number_itself, or_cases, or_first}
 use Rattle.ent_headline.proofs.Named.{read_by, changed_by}
 

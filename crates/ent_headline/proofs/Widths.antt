@@ -26,8 +26,8 @@ use Rattle.ent_semantics.specs.Selection.{meets}
 use Rattle.ent_semantics.specs.Term.{expression_value}
 use Rattle.ent_semantics.proofs.EachRow.{EachRow, of_ascending, to_ascending, each_inserted, each_all_inserted}
 use Rattle.ent_semantics.proofs.EachRow.{each_retained}
-use Rattle.ent_form_laws.specs.Tables.{AreWide}
-use Rattle.ent_form_laws.proofs.Kept.{over_overflow}
+use Rattle.ent_form.specs.Tables.{AreWide}
+use Rattle.ent_form.proofs.Kept.{over_overflow}
 use Rattle.ent_headline.proofs.Numbers.{width_numbered, wide_at, wide_with}
 
 -- ---- images

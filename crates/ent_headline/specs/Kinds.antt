@@ -10,8 +10,8 @@ use Rattle.ent_form.specs.Form.{statement_in}
 use Rattle.ent_form.specs.Kinds.{Bound, none_bound}
 use Rattle.ent_form.specs.declared.catalogue.TableSchema.{TableSchema}
 use Rattle.ent_form.specs.declared.fault.FormFault.{FormFault}
-use Rattle.ent_form_laws.specs.Kinds.{AreKinded, HasKinds}
-use Rattle.ent_form_laws.specs.Tables.{database_of}
+use Rattle.ent_form.specs.TableKinds.{AreKinded, HasKinds}
+use Rattle.ent_form.specs.Tables.{database_of}
 use Rattle.ent_protocol.specs.Member.{environment_of}
 use Rattle.ent_protocol.specs.Reached.{settled}
 use Rattle.ent_protocol.specs.State.{State, Submitted, Member}

@@ -1,12 +1,12 @@
 -- Results that are outstanding: their jobs are lent, and members and tables are as they were when these were made.
 use Rattle.std.specs.Prelude.{◌≡◌, List, Contains}
-use Rattle.ent_coordination.specs.Pool.{Posted}
+use Rattle.ent_semantics.specs.Pool.{Posted}
 use Rattle.ent_protocol.specs.Event.{Reply, Stale}
 use Rattle.ent_protocol.specs.Job.{Single, Done, One, Joint, tables_of}
 use Rattle.ent_protocol.specs.PoolEvents.{IsPresentComponent}
 use Rattle.ent_protocol.specs.State.{State}
 use Rattle.ent_protocol.specs.Uses.{entangled_uses}
-use Rattle.ent_serializability.specs.Present.{IsPresentSingle, SameWhereUsed}
+use Rattle.ent_protocol_laws.specs.Present.{IsPresentSingle, SameWhereUsed}
 use Rattle.ent_protocol_laws.specs.Lent.{StandsBefore}
 
 -- of one statement: a member of this transaction and attempt stands at this place, its next statement is this one, and

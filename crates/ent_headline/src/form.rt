@@ -2,10 +2,10 @@
 ghost use Rattle.std.specs.Prelude.{◌≡◌, None};
 ghost use Rattle.ent_tree.specs.declared.declaration.Opening.{Opening};
 ghost use Rattle.ent_form.specs.OpeningFault.{opening_fault};
-ghost use Rattle.ent_serializability.specs.Faithful.{AreFaithful};
+ghost use Rattle.ent_protocol_laws.specs.Faithful.{AreFaithful};
 ghost use Rattle.ent_headline.specs.Resolved.{resolved_forms};
 
-use ent_form_laws::{
+use ent_form::{
     declared_columns_are_distinct, kinded_tables_are_wide, opening_tables_are_kinded,
     resolved_grounds_the_same, resolved_means_the_same, resolved_offers_and_demands_the_same,
     variables_are_the_written_ones,

@@ -6,7 +6,7 @@ ghost use Rattle.ent_semantics.specs.declared.statement.Statement.{Statement};
 ghost use Rattle.ent_semantics.specs.FormKinds.{Fits, tables_named};
 ghost use Rattle.ent_form.specs.Catalogue.{schemas_of};
 ghost use Rattle.ent_form.specs.OpeningFault.{opening_fault};
-ghost use Rattle.ent_form_laws.specs.Kinds.{kinds_numbered};
+ghost use Rattle.ent_form.specs.TableKinds.{kinds_numbered};
 ghost use Rattle.ent_protocol.specs.Begin.{single_job};
 ghost use Rattle.ent_protocol.specs.Member.{Ordinary, next_of};
 ghost use Rattle.ent_protocol.specs.Reached.{IsReached};
@@ -15,7 +15,7 @@ ghost use Rattle.ent_headline.specs.Kinds.{HasKindsThere, HoldsKinds};
 ghost use Rattle.ent_headline.specs.Resolved.{resolved_forms};
 
 use crate::run::resolved_runs_are_serial;
-use ent_form_laws::{
+use ent_form::{
     declared_columns_are_distinct, effects_keep_kinds, groundings_are_of_their_kinds,
     kinded_tables_are_wide, opening_tables_are_kinded, resolved_grounds_the_same,
     resolved_means_the_same, resolved_statements_fit, variables_are_the_written_ones,

@@ -1,20 +1,16 @@
-//! What resolved entangled statements offer, and where their variables get their values.
+//! The headline: the book of every state that a core can reach is legal, so its committed transactions are
+//! serializable with an oracle.
 //!
-//! [`resolved_heads_are_distinct`]: the heads of each are of distinct relations, so each post unifies with one of them
-//! at most, as a plan and a joint job require. [`resolved_variables_are_ranged`]: each written variable stands in a
-//! tuple of some sub-select, so rows of tables give its values.
-//!
-//! The headline: the book of every state that a core can reach is legal, so its committed transactions are serializable
-//! with an oracle. [`resolved_runs_are_legal`] says so, for scripts that `resolve` resolves over an opening without a
-//! fault of form.
-//!
-//! ent_serializability proves the same for all forms that mean what their statements mean and use the tables that those
+//! [`resolved_runs_are_legal`] says so, for scripts that `resolve` resolves over an opening without a fault of form.
+//! ent_protocol_laws proves the same for all forms that mean what their statements mean and use the tables that those
 //! use. Here it is proved that the forms of `resolve` are such.
 //!
 //! More holds of these states. The form of each submitted script is what it resolves to. The heads of a statement in
-//! the pool are of distinct relations, and its written variables stand in tuples of sub-selects. The host variables of
-//! an unprepared member have values of the kinds that are known at its place, so its next statement fits the tables
-//! that are lent with it. Each law is the contract of a public function that does nothing but call laws.
+//! the pool are of distinct relations ([`resolved_heads_are_distinct`]), so each post unifies with one of them at most,
+//! as a plan and a joint job require; and its written variables stand in tuples of sub-selects
+//! ([`resolved_variables_are_ranged`]), so rows of tables give their values. The host variables of an unprepared member
+//! have values of the kinds that are known at its place, so its next statement fits the tables that are lent with it.
+//! Each law is the contract of a public function that does nothing but call laws.
 #![tactic(auto)]
 
 mod form;

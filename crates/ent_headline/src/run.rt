@@ -4,13 +4,13 @@ ghost use Rattle.ent_tree.specs.declared.declaration.Opening.{Opening};
 ghost use Rattle.ent_tree.specs.declared.script.Script.{Script};
 ghost use Rattle.ent_form.specs.declared.fault.FormFault.{FormFault};
 ghost use Rattle.ent_form.specs.OpeningFault.{opening_fault};
-ghost use Rattle.ent_serializability.specs.Answered.{HasAsked, IsAnsweredOnce, NothingElse};
-ghost use Rattle.ent_serializability.specs.Conflicts.{ConflictsStandInGroups};
-ghost use Rattle.ent_serializability.specs.GoodAnswers.{AnswersAreGood};
-ghost use Rattle.ent_serializability.specs.GroupAnswers.{GroupAnswers, HaveGroups};
-ghost use Rattle.ent_serializability.specs.GroupRuns.{GroupRuns, UnownedIsSettled};
-ghost use Rattle.ent_serializability.specs.Present.{LentIsPresent, UsesAreApart};
-ghost use Rattle.ent_serializability.specs.SerialState.{IsSerialState};
+ghost use Rattle.ent_protocol_laws.specs.Answered.{HasAsked, IsAnsweredOnce, NothingElse};
+ghost use Rattle.ent_protocol_laws.specs.Conflicts.{ConflictsStandInGroups};
+ghost use Rattle.ent_protocol_laws.specs.GoodAnswers.{AnswersAreGood};
+ghost use Rattle.ent_protocol_laws.specs.GroupAnswers.{GroupAnswers, HaveGroups};
+ghost use Rattle.ent_protocol_laws.specs.GroupRuns.{GroupRuns, UnownedIsSettled};
+ghost use Rattle.ent_protocol_laws.specs.Present.{LentIsPresent, UsesAreApart};
+ghost use Rattle.ent_protocol_laws.specs.SerialState.{IsSerialState};
 ghost use Rattle.ent_protocol.specs.Event.{Finish, JoinAnswer, Reply};
 ghost use Rattle.ent_protocol.specs.Job.{Done};
 ghost use Rattle.ent_protocol.specs.Play.{Plays};
@@ -30,12 +30,11 @@ ghost use Rattle.ent_semantics.specs.Serial.{ReadView, Turn};
 use crate::form::resolved_forms_are_faithful;
 use ent_form::FormFault;
 use ent_protocol::plays_lead_on;
-use ent_protocol_laws::lent_jobs_stand_once;
-use ent_serializability::{
+use ent_protocol_laws::{
     committed_runs_give_the_book, conflicts_stand_in_groups,
     entangled_statements_are_answered_once, groups_run_alone, joint_answers_are_good,
-    journals_fit_the_fates, lent_jobs_are_present, live_answers_are_good_in_groups,
-    reached_states_are_legal, reached_states_are_serial,
+    journals_fit_the_fates, lent_jobs_are_present, lent_jobs_stand_once,
+    live_answers_are_good_in_groups, reached_states_are_legal, reached_states_are_serial,
 };
 
 /// Every state that is reached is a serial state: the committed transactions, run alone in the order of their commits,

@@ -5,7 +5,7 @@ ghost use Rattle.ent_semantics.specs.FormKinds.{changed_tables};
 ghost use Rattle.ent_semantics.specs.declared.statement.Statement.{Statement};
 ghost use Rattle.ent_job.specs.Work.{IsJoint, IsOne};
 ghost use Rattle.ent_form.specs.OpeningFault.{opening_fault};
-ghost use Rattle.ent_coordination.specs.Pool.{Posted};
+ghost use Rattle.ent_semantics.specs.Pool.{Posted};
 ghost use Rattle.ent_protocol.specs.Begin.{single_job};
 ghost use Rattle.ent_protocol.specs.Member.{Ordinary, next_of};
 ghost use Rattle.ent_protocol.specs.PoolEvents.{IsPresentComponent, joint_job, joint_uses};
@@ -17,8 +17,7 @@ ghost use Rattle.ent_headline.specs.Resolved.{resolved_forms};
 use crate::kinds::next_statements_fit;
 use crate::reached::{posted_heads_are_distinct, posted_variables_are_ranged};
 use ent_eval::{components_stand_alone, lent_tables_stand};
-use ent_form::FormFault;
-use ent_form_laws::resolved_statements_fit;
+use ent_form::{FormFault, resolved_statements_fit};
 use ent_protocol_laws::pools_are_safe;
 
 /// In every state that is reached by scripts resolved over their opening, the tables that a member's next statement

@@ -20,3 +20,16 @@ pub mod Table
 pub mod Findings
 pub mod Formed
 pub mod Verdict
+pub mod Fates
+pub mod Bindings
+pub mod Counts
+pub mod Listing
+pub mod Names
+pub mod Openings
+pub mod ScriptLines
+pub mod Heads
+pub mod JointLines
+pub mod Begins
+pub mod Filling
+pub mod Only
+pub mod Read

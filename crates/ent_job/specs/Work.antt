@@ -1,8 +1,8 @@
 -- Jobs as they are kept: which tables work has.
 use Rattle.std.specs.Prelude.{◌≡◌, List, map, slice_index_or}
 use Rattle.ent_lists.specs.Sets as set
-use Rattle.ent_coordination.specs.Component.{IsComponent}
-use Rattle.ent_coordination.specs.Pool.{IsSafe, Posted}
+use Rattle.ent_semantics.specs.Component.{IsComponent}
+use Rattle.ent_semantics.specs.Pool.{IsSafe, Posted}
 use Rattle.ent_semantics.specs.FormKinds.{Fits}
 use Rattle.ent_plan.specs.Plan.{HaveDistinctHeads}
 use Rattle.ent_plan.specs.Ranged.{AreRanged}

@@ -13,8 +13,8 @@ use Rattle.ent_tree.specs.declared.operand.Test.{Test}
 use Rattle.ent_rel.specs.Numbered.{Numbered}
 use Rattle.ent_semantics.specs.Entangled.{Valuation}
 use Rattle.ent_semantics.specs.Form.{Tables}
-use Rattle.ent_coordination.specs.Choice.{AreGroundings, IsChoice, IsLeastChoice, choice_cmp}
-use Rattle.ent_coordination.specs.Pool.{Posted}
+use Rattle.ent_semantics.specs.Choice.{AreGroundings, IsChoice, IsLeastChoice, choice_cmp}
+use Rattle.ent_semantics.specs.Pool.{Posted}
 use Rattle.ent_plan.specs.Plan.{IsGroundedSpread, IsPlan, Plan, slot_kind, spread}
 use Rattle.ent_plan.specs.Tables.{source_tables}
 use Rattle.ent_plan.specs.declared.slot.Slot.{Slot}

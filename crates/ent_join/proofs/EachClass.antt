@@ -15,8 +15,8 @@ use Rattle.ent_semantics.specs.declared.answer.Fact.{Fact}
 use Rattle.ent_semantics.specs.Term.{no_value}
 use Rattle.ent_semantics.specs.Form.{atom_fact}
 use Rattle.ent_semantics.specs.declared.entangled.Atom.{Atom}
-use Rattle.ent_coordination.specs.Choice.{all_posts}
-use Rattle.ent_coordination.specs.Pool.{Posted}
+use Rattle.ent_semantics.specs.Choice.{all_posts}
+use Rattle.ent_semantics.specs.Pool.{Posted}
 use Rattle.ent_plan.specs.Plan.{AreNumbered, IsPlan, Plan, slot_kind, slot_value}
 use Rattle.ent_plan.specs.declared.slot.Slot.{Slot}
 use Rattle.ent_plan.specs.declared.slot.Slot.TheVariants.{Fixed, Class}

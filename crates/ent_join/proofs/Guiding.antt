@@ -15,7 +15,7 @@ use Rattle.ent_value.specs.Value.{kind_of, value_cmp, row_cmp}
 use Rattle.ent_value.specs.declared.value.Kind.{Kind}
 use Rattle.ent_value.specs.declared.value.Value.{Value}
 use Rattle.ent_semantics.specs.Term.{no_value}
-use Rattle.ent_select.specs.Early.{may_compare}
+use Rattle.ent_ordinary.specs.Early.{may_compare}
 use Rattle.ent_plan.specs.declared.slot.Slot.{Slot}
 use Rattle.ent_plan.specs.declared.slot.Slot.TheVariants.{Fixed, Class}
 use Rattle.ent_join.specs.Cursor.{column_values, IsAmong, IsAscending}

@@ -16,7 +16,7 @@ use Rattle.ent_semantics.specs.Term.{no_value}
 use Rattle.ent_semantics.specs.Form.{Tables, form_rows}
 use Rattle.ent_semantics.specs.declared.entangled.Membership.{Membership}
 use Rattle.ent_semantics.specs.declared.entangled.Term.{Term}
-use Rattle.ent_coordination.specs.Pool.{Posted}
+use Rattle.ent_semantics.specs.Pool.{Posted}
 use Rattle.ent_plan.specs.Plan.{IsPlan, Plan, slot_kind}
 use Rattle.ent_plan.specs.Tables.{sources_of, source_tables}
 use Rattle.ent_plan.specs.declared.slot.Slot.{Slot}

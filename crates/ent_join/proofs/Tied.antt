@@ -23,15 +23,15 @@ use Rattle.ent_semantics.specs.declared.entangled.Membership.{Membership}
 use Rattle.ent_semantics.specs.declared.entangled.Term.{Term}
 use Rattle.ent_semantics.specs.declared.entangled.Term.TheVariants as terms
 use Rattle.ent_semantics.specs.declared.statement.Select.{Select}
-use Rattle.ent_select.specs.Early.{may_compare}
-use Rattle.ent_coordination.specs.Choice.{AreGroundings}
-use Rattle.ent_coordination.specs.Pool.{Posted}
+use Rattle.ent_ordinary.specs.Early.{may_compare}
+use Rattle.ent_semantics.specs.Choice.{AreGroundings}
+use Rattle.ent_semantics.specs.Pool.{Posted}
 use Rattle.ent_plan.specs.Plan.{slot_kind, slot_value}
 use Rattle.ent_plan.specs.Tables.{sources_of}
 use Rattle.ent_plan.specs.declared.slot.Slot.{Slot}
 use Rattle.ent_plan.specs.declared.slot.Slot.TheVariants.{Fixed, Class}
-use Rattle.ent_select.specs.Tables.{rows_in}
-use Rattle.ent_select.specs.Worth.{worth_over}
+use Rattle.ent_ordinary.specs.Tables.{rows_in}
+use Rattle.ent_ordinary.specs.Worth.{worth_over}
 use Rattle.ent_join.specs.Alone.{is_left}
 use Rattle.ent_join.specs.Asked.{tables_at, left_rows, select_rows, membership_index, all_indexes, slot_test}
 use Rattle.ent_join.specs.Asked.{all_tests}

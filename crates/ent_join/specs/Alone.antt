@@ -3,7 +3,7 @@ use Rattle.std.specs.Prelude.{Bool, true, ◌&&◌, List, Option, Some}
 use Rattle.std.specs.List.{filter, list_all, list_any}
 use Rattle.ent_tree.specs.declared.operand.Test.{Test}
 use Rattle.ent_value.specs.declared.value.Value.{Value}
-use Rattle.ent_select.specs.Early.{may_compare}
+use Rattle.ent_ordinary.specs.Early.{may_compare}
 use Rattle.ent_plan.specs.declared.slot.Slot.{Slot}
 use Rattle.ent_plan.specs.declared.slot.Slot.TheVariants.{Fixed, Class}
 use Rattle.ent_join.specs.Keyed.{is_class, value_under}

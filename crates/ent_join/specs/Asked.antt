@@ -10,10 +10,10 @@ use Rattle.ent_semantics.specs.Selection.{meets, selection}
 use Rattle.ent_semantics.specs.declared.entangled.Membership.{Membership}
 use Rattle.ent_semantics.specs.declared.entangled.Term.{Term}
 use Rattle.ent_semantics.specs.declared.statement.Select.{Select}
-use Rattle.ent_coordination.specs.Pool.{Posted}
+use Rattle.ent_semantics.specs.Pool.{Posted}
 use Rattle.ent_plan.specs.declared.slot.Slot.{Slot}
-use Rattle.ent_select.specs.Tables.{rows_in}
-use Rattle.ent_select.specs.Worth.{worth_over}
+use Rattle.ent_ordinary.specs.Tables.{rows_in}
+use Rattle.ent_ordinary.specs.Worth.{worth_over}
 use Rattle.ent_join.specs.Alone.{is_left}
 use Rattle.ent_join.specs.Index.{Indexed}
 use Rattle.ent_join.specs.declared.made.Made.{Made}

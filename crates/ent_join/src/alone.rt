@@ -6,8 +6,8 @@ ghost use Rattle.ent_join.specs.Alone.{is_slot_of, is_test_of, may_hold_in, slot
 ghost use Rattle.ent_join.specs.Keyed.{is_class};
 
 use crate::keyed::{is_class, slot_copy, value_under};
+use ent_ordinary::compares;
 use ent_plan::Slot;
-use ent_select::compares;
 use ent_tree::Test;
 use ent_value::Value;
 use std::alloc::{AllocError, Global};

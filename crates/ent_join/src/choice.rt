@@ -1,8 +1,8 @@
 //! The least coordinating choice.
 ghost use Rattle.std.specs.Prelude.{◌≡◌, ◌+◌, ◌<◌, ◌^◌, [], ◌∷◌, IfOk, List, OnErr, is_some, length, map};
 ghost use Rattle.ent_semantics.specs.Form.{Tables};
-ghost use Rattle.ent_coordination.specs.Choice.{IsLeastChoiceIfAny};
-ghost use Rattle.ent_coordination.specs.Pool.{Posted};
+ghost use Rattle.ent_semantics.specs.Choice.{IsLeastChoiceIfAny};
+ghost use Rattle.ent_semantics.specs.Pool.{Posted};
 ghost use Rattle.ent_plan.specs.Plan.{slot_value};
 ghost use Rattle.ent_join.specs.Laid.{AreLaid};
 ghost use Rattle.ent_plan.specs.Ranged.{AreRanged};

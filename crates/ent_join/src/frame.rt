@@ -12,8 +12,8 @@ use crate::index::Index;
 use crate::keyed::is_class;
 use crate::reason::mark;
 use crate::search::Guide;
+use ent_ordinary::compares;
 use ent_plan::Slot;
-use ent_select::compares;
 use ent_tree::Test;
 use ent_value::{Kind, Sequence, Value};
 

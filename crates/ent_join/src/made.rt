@@ -10,9 +10,9 @@ ghost use Rattle.ent_join.specs.Laid.{table_at};
 
 use crate::index::Index;
 use crate::keyed::index_of;
+use ent_ordinary::all;
 use ent_plan::Slot;
 use ent_rel::NumberedTable;
-use ent_select::all;
 use ent_semantics::Select;
 use ent_tree::{Duplicate, Same, Test};
 use ent_value::{Sequence, Value};

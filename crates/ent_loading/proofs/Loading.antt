@@ -30,8 +30,8 @@ use Rattle.ent_semantics.specs.Kinds.{RowsHaveKinds}
 use Rattle.ent_semantics.specs.Form.{Tables}
 use Rattle.ent_form.specs.declared.catalogue.TableSchema.{TableSchema}
 use Rattle.ent_form.specs.Catalogue.{table_schema, schemas_of, names_of}
-use Rattle.ent_form_laws.specs.Kinds.{column_kinds, AreKinded}
-use Rattle.ent_form_laws.specs.Opened.{opening_tables}
+use Rattle.ent_form.specs.TableKinds.{column_kinds, AreKinded}
+use Rattle.ent_form.specs.Opened.{opening_tables}
 
 -- the rows of a schema's table at first
 abbrev pub rows_at_first : Opening → TableSchema → Rows

@@ -6,11 +6,10 @@ ghost use Rattle.ent_value.specs.Value.{row_cmp};
 ghost use Rattle.ent_semantics.specs.Database.{rows_named};
 ghost use Rattle.ent_form.specs.Catalogue.{schemas_of};
 ghost use Rattle.ent_form.specs.OpeningFault.{opening_fault};
-ghost use Rattle.ent_form_laws.specs.Kinds.{column_kinds};
-ghost use Rattle.ent_form_laws.specs.Opened.{opening_tables};
+ghost use Rattle.ent_form.specs.TableKinds.{column_kinds};
+ghost use Rattle.ent_form.specs.Opened.{opening_tables};
 
-use ent_form::{Catalogue, ColumnSchema, TableSchema, opening_rows};
-use ent_form_laws::opening_tables_are_kinded;
+use ent_form::{Catalogue, ColumnSchema, TableSchema, opening_rows, opening_tables_are_kinded};
 use ent_rel::{Table, TableFull};
 use ent_tree::Opening;
 use ent_value::{Kind, Refusal};

@@ -11,7 +11,7 @@ use Rattle.ent_lock.specs.declared.mode.Mode.{Mode}
 use Rattle.ent_lock.specs.declared.holders.Holder.{Holder}
 use Rattle.ent_lock.specs.Mode.{in_conflict}
 use Rattle.ent_lock.specs.Holders.{is_conflicting, lesser, least_conflicting}
-use Rattle.ent_lock.specs.Use.{Use, Uses, Holds, InConflictAt, Blocks, IsLeastIfAny, AddsUses, DropsUses, with_uses}
+use Rattle.ent_lock.specs.Use.{Use, Uses, Holds, Blocks, IsLeastIfAny, AddsUses, DropsUses, with_uses}
 use Rattle.ent_lock.specs.Layout.{is_use_of_none}
 use Rattle.ent_lock.proofs.Held.{the_use, use_total, is_use, is_use-true, is_use-itself, of_none_alike}
 
@@ -72,14 +72,14 @@ least_either P Q (Some x) (Some y) p q = (
 abbrev pub holder_of : ℕ → Mode → Holder
 holder_of v mode = record { holder = v; mode = mode }
 
-abbrev pub Conflicting : Option ℕ → Mode → List ℕ → List Holder → ℕ → Type 0
+abbrev pub Conflicting : ℕ → Mode → List ℕ → List Holder → ℕ → Type 0
 Conflicting tx mode pass hs v =
     (theirs : Mode) × Contains hs (holder_of v theirs) × (is_conflicting tx mode pass (holder_of v theirs) ≡ true)
 
-abbrev FirstConflicting : Option ℕ → Mode → List ℕ → Holder → ℕ → Type 0
+abbrev FirstConflicting : ℕ → Mode → List ℕ → Holder → ℕ → Type 0
 FirstConflicting tx mode pass h v = (h.holder ≡ v) × (is_conflicting tx mode pass h ≡ true)
 
-least_first : (tx : Option ℕ) (mode : Mode) (pass : List ℕ) (h : Holder)
+least_first : (tx : ℕ) (mode : Mode) (pass : List ℕ) (h : Holder)
     → IsLeastIfAny (FirstConflicting tx mode pass h) (if is_conflicting tx mode pass h then Some h.holder else None)
 least_first tx mode pass h =
     elim (is_conflicting tx mode pass h) as (λ b. is_conflicting tx mode pass h ≡ b
@@ -88,7 +88,7 @@ least_first tx mode pass h =
       | false ↦ λ e v it. true≢false (sym it.1 ∙ e)
     ] refl
 
-conflicting_head : (tx : Option ℕ) (mode : Mode) (pass : List ℕ) (h : Holder) (hs : List Holder) (v : ℕ)
+conflicting_head : (tx : ℕ) (mode : Mode) (pass : List ℕ) (h : Holder) (hs : List Holder) (v : ℕ)
     → FirstConflicting tx mode pass h v ⊎ Conflicting tx mode pass hs v → Conflicting tx mode pass (h ∷ hs) v
 conflicting_head tx mode pass h hs v (inl (same, conflicting)) =
     let whole : h ≡ holder_of v h.mode = λ i. holder_of (same i) h.mode in
@@ -96,14 +96,14 @@ conflicting_head tx mode pass h hs v (inl (same, conflicting)) =
 conflicting_head tx mode pass h hs v (inr (theirs, inside, conflicting)) =
     (theirs, Contains-append_right (h ∷ []) hs (holder_of v theirs) inside, conflicting)
 
-conflicting_cases : (tx : Option ℕ) (mode : Mode) (pass : List ℕ) (h : Holder) (hs : List Holder) (v : ℕ)
+conflicting_cases : (tx : ℕ) (mode : Mode) (pass : List ℕ) (h : Holder) (hs : List Holder) (v : ℕ)
     → Conflicting tx mode pass (h ∷ hs) v → FirstConflicting tx mode pass h v ⊎ Conflicting tx mode pass hs v
 conflicting_cases tx mode pass h hs v (theirs, (zero, within, e), conflicting) =
     inl (ap (λ (k : Holder). k.holder) e, ap (is_conflicting tx mode pass) e ∙ conflicting)
 conflicting_cases tx mode pass h hs v (theirs, (suc k, within, e), conflicting) =
     inr (theirs, (k, omega arith, e), conflicting)
 
-pub least_conflicting-IsLeastIfAny : (tx : Option ℕ) (mode : Mode) (pass : List ℕ) (hs : List Holder)
+pub least_conflicting-IsLeastIfAny : (tx : ℕ) (mode : Mode) (pass : List ℕ) (hs : List Holder)
     → IsLeastIfAny (Conflicting tx mode pass hs) (least_conflicting tx mode pass hs)
 least_conflicting-IsLeastIfAny tx mode pass [] = λ v it. nobody it
   where
@@ -125,7 +125,7 @@ BlocksOne held tx table mode pass v =
     (v ≢ tx) × ¬ Contains pass v × ((theirs : Mode) × Holds held v table theirs × IsTrue (in_conflict theirs mode))
 
 way_parts : (tx : ℕ) (mode : Mode) (pass : List ℕ) (v : ℕ) (theirs : Mode)
-    → is_conflicting (Some tx) mode pass (holder_of v theirs) ≡ true
+    → is_conflicting tx mode pass (holder_of v theirs) ≡ true
     → (v ≢ tx) × ¬ Contains pass v × IsTrue (in_conflict theirs mode)
 way_parts tx mode pass v theirs e =
     let first = and_both (not (v == tx)) (in_conflict theirs mode && not (list_any (λ m. m == v) pass)) e in
@@ -133,31 +133,30 @@ way_parts tx mode pass v theirs e =
     (λ same. true≢false (sym (sym (ap not (eq-eqb v tx same)) ∙ first.0)), not_inside v pass second.1, second.0)
 
 way_whole : (tx : ℕ) (mode : Mode) (pass : List ℕ) (v : ℕ) (theirs : Mode) → (v ≢ tx) → ¬ Contains pass v
-    → IsTrue (in_conflict theirs mode) → is_conflicting (Some tx) mode pass (holder_of v theirs) ≡ true
+    → IsTrue (in_conflict theirs mode) → is_conflicting tx mode pass (holder_of v theirs) ≡ true
 way_whole tx mode pass v theirs other apart conflict =
     λ i. ap not (ne_eqb v tx other) i && (conflict i && not_any v pass apart i)
 
 conflicting_blocks : (held : Uses) (tx : ℕ) (table : List ℕ) (mode : Mode) (pass : List ℕ) (hs : List Holder) →
     ((v : ℕ) (theirs : Mode) → Contains hs (holder_of v theirs) ↔ Holds held v table theirs) → (v : ℕ)
-    → Conflicting (Some tx) mode pass hs v → BlocksOne held tx table mode pass v
+    → Conflicting tx mode pass hs v → BlocksOne held tx table mode pass v
 conflicting_blocks held tx table mode pass hs holders v (theirs, inside, conflicting) =
     let parts = way_parts tx mode pass v theirs conflicting in
     (parts.0, parts.1, (theirs, (holders v theirs).0 inside, parts.2))
 
 blocks_conflicting : (held : Uses) (tx : ℕ) (table : List ℕ) (mode : Mode) (pass : List ℕ) (hs : List Holder) →
     ((v : ℕ) (theirs : Mode) → Contains hs (holder_of v theirs) ↔ Holds held v table theirs) → (v : ℕ)
-    → BlocksOne held tx table mode pass v → Conflicting (Some tx) mode pass hs v
+    → BlocksOne held tx table mode pass v → Conflicting tx mode pass hs v
 blocks_conflicting held tx table mode pass hs holders v (other, apart, (theirs, there, conflict)) =
     (theirs, (holders v theirs).1 there, way_whole tx mode pass v theirs other apart conflict)
 
 pub least_of_one : (held : Uses) (tx : ℕ) (table : List ℕ) (mode : Mode) (pass : List ℕ) (hs : List Holder) →
     ((v : ℕ) (theirs : Mode) → Contains hs (holder_of v theirs) ↔ Holds held v table theirs)
-    → IsLeastIfAny (BlocksOne held tx table mode pass) (least_conflicting (Some tx) mode pass hs)
+    → IsLeastIfAny (BlocksOne held tx table mode pass) (least_conflicting tx mode pass hs)
 least_of_one held tx table mode pass hs holders =
-    least_same (Conflicting (Some tx) mode pass hs) (BlocksOne held tx table mode pass)
-    (least_conflicting (Some tx) mode pass hs)
+    least_same (Conflicting tx mode pass hs) (BlocksOne held tx table mode pass) (least_conflicting tx mode pass hs)
     (conflicting_blocks held tx table mode pass hs holders) (blocks_conflicting held tx table mode pass hs holders)
-    (least_conflicting-IsLeastIfAny (Some tx) mode pass hs)
+    (least_conflicting-IsLeastIfAny tx mode pass hs)
 
 blocks_more : (held : Uses) (tx : ℕ) (a : List ℕ × Mode) (asked : List (List ℕ × Mode)) (pass : List ℕ) (v : ℕ)
     → Blocks held tx asked pass v ⊎ BlocksOne held tx a.0 a.1 pass v → Blocks held tx (asked ++ a ∷ []) pass v
@@ -194,33 +193,6 @@ least_of_more held tx a asked pass o p before last =
 pub nobody_blocks : (held : Uses) (tx : ℕ) (pass : List ℕ) (v : ℕ) → ¬ Blocks held tx [] pass v
 nobody_blocks held tx pass v (other, apart, (table, mode, theirs, (k, within, e), there, conflict)) =
     absurd (omega arith)
-
--- ---- whoever is in conflict
-
--- a transaction that isn't to be passed holds one table in conflict
-abbrev pub ConflictsOne : Uses → List ℕ → Mode → List ℕ → ℕ → Type 0
-ConflictsOne held table mode pass v = ¬ Contains pass v × InConflictAt held v table mode
-
-way_conflicts : (held : Uses) (table : List ℕ) (mode : Mode) (pass : List ℕ) (hs : List Holder) →
-    ((v : ℕ) (theirs : Mode) → Contains hs (holder_of v theirs) ↔ Holds held v table theirs) → (v : ℕ)
-    → Conflicting None mode pass hs v → ConflictsOne held table mode pass v
-way_conflicts held table mode pass hs holders v (theirs, inside, conflicting) =
-    let parts = and_both (in_conflict theirs mode) (not (list_any (λ m. m == v) pass)) conflicting in
-    (not_inside v pass parts.1, (theirs, (holders v theirs).0 inside, parts.0))
-
-conflicts_way : (held : Uses) (table : List ℕ) (mode : Mode) (pass : List ℕ) (hs : List Holder) →
-    ((v : ℕ) (theirs : Mode) → Contains hs (holder_of v theirs) ↔ Holds held v table theirs) → (v : ℕ)
-    → ConflictsOne held table mode pass v → Conflicting None mode pass hs v
-conflicts_way held table mode pass hs holders v (apart, (theirs, there, conflict)) =
-    (theirs, (holders v theirs).1 there, (λ i. conflict i && not_any v pass apart i))
-
-pub least_of_any : (held : Uses) (table : List ℕ) (mode : Mode) (pass : List ℕ) (hs : List Holder) →
-    ((v : ℕ) (theirs : Mode) → Contains hs (holder_of v theirs) ↔ Holds held v table theirs)
-    → IsLeastIfAny (ConflictsOne held table mode pass) (least_conflicting None mode pass hs)
-least_of_any held table mode pass hs holders =
-    least_same (Conflicting None mode pass hs) (ConflictsOne held table mode pass) (least_conflicting None mode pass hs)
-    (way_conflicts held table mode pass hs holders) (conflicts_way held table mode pass hs holders)
-    (least_conflicting-IsLeastIfAny None mode pass hs)
 
 -- ---- uses that are added
 

@@ -1,5 +1,5 @@
 -- The holders of one table.
-use Rattle.std.specs.Prelude.{ℕ, ◌==◌, ◌&&◌, Bool, false, not, min, if◌then◌else◌, List, [], ◌∷◌, Option, None, Some}
+use Rattle.std.specs.Prelude.{ℕ, ◌==◌, ◌&&◌, Bool, not, min, if◌then◌else◌, List, [], ◌∷◌, Option, None, Some}
 use Rattle.std.specs.List.{list_any}
 use Rattle.ent_lock.specs.declared.mode.Mode.{Mode}
 use Rattle.ent_lock.specs.declared.holders.Holder.{Holder}
@@ -16,15 +16,10 @@ is_no_holder tx mode h = not (is_holder tx mode h)
 abbrev pub is_not_of : List ℕ → Holder → Bool
 is_not_of members h = not (list_any (λ m. m == h.holder) members)
 
--- the transaction that asks, where one is named
-abbrev pub is_asker : Option ℕ → ℕ → Bool
-is_asker None tx = false
-is_asker (Some asker) tx = tx == asker
-
 -- a transaction holds the table in a mode that is in conflict, and is neither the asker nor to be passed
-abbrev pub is_conflicting : Option ℕ → Mode → List ℕ → Holder → Bool
+abbrev pub is_conflicting : ℕ → Mode → List ℕ → Holder → Bool
 is_conflicting asker mode pass h =
-    not (is_asker asker h.holder) && (in_conflict h.mode mode && not (list_any (λ m. m == h.holder) pass))
+    not (h.holder == asker) && (in_conflict h.mode mode && not (list_any (λ m. m == h.holder) pass))
 
 -- the lesser of two numbers, where there are two
 abbrev pub lesser : Option ℕ → Option ℕ → Option ℕ
@@ -33,7 +28,7 @@ lesser (Some x) None = Some x
 lesser (Some x) (Some y) = Some (min x y)
 
 -- the least transaction that is in conflict
-abbrev pub least_conflicting : Option ℕ → Mode → List ℕ → List Holder → Option ℕ
+abbrev pub least_conflicting : ℕ → Mode → List ℕ → List Holder → Option ℕ
 least_conflicting asker mode pass [] = None
 least_conflicting asker mode pass (h ∷ hs) =
     lesser (if is_conflicting asker mode pass h then Some h.holder else None) (least_conflicting asker mode pass hs)

@@ -1,7 +1,7 @@
 //! The holders of one table.
 ghost use Rattle.std.specs.Prelude.{◌≡◌, ◌+◌, ◌<◌, ◌≤◌, ◌^◌, ◌==◌, ◌&&◌, not, filter};
 ghost use Rattle.std.specs.List.{list_any};
-ghost use Rattle.ent_lock.specs.Holders.{is_asker, is_holder, is_no_holder, is_not_of, is_conflicting};
+ghost use Rattle.ent_lock.specs.Holders.{is_holder, is_no_holder, is_not_of, is_conflicting};
 ghost use Rattle.ent_lock.specs.Holders.{lesser, least_conflicting};
 
 use crate::mode::Mode;
@@ -41,28 +41,17 @@ pub(crate) fn drop_holders(holders: &mut Vec<Holder>, members: &Members)
     holders.retain(|h| !members.contains(h.holder));
 }
 
-fn is_asker(asker: Option<Tx>, tx: Tx) -> bool
-    ensures { result ≡ is_asker asker tx }
-{
-    match asker {
-        Some(own) => tx == own,
-        None => false,
-    }
-}
-
-fn is_conflicting(holder: &Holder, asker: Option<Tx>, mode: Mode, pass: &Members) -> bool
+fn is_conflicting(holder: &Holder, asker: Tx, mode: Mode, pass: &Members) -> bool
     ensures { result ≡ is_conflicting asker mode pass.now holder.now }
 {
-    !is_asker(asker, holder.holder)
-        && holder.mode.in_conflict(mode)
-        && !pass.contains(holder.holder)
+    holder.holder != asker && holder.mode.in_conflict(mode) && !pass.contains(holder.holder)
 }
 
 /// The same, where those that are to be passed mostly come in their order: a holder that is the next of them isn't
 /// looked for among all.
 fn is_conflicting_from(
     holder: &Holder,
-    asker: Option<Tx>,
+    asker: Tx,
     mode: Mode,
     pass: &Members,
     next: &mut usize,
@@ -89,11 +78,11 @@ pub fn lesser(left: Option<Tx>, right: Option<Tx>) -> Option<Tx>
     }
 }
 
-/// The least holder whose use is in conflict with one that is asked for, save the asker, where one is named, and those
-/// that are to be passed.
+/// The least holder whose use is in conflict with one that is asked for, save the asker and those that are to be
+/// passed.
 pub(crate) fn least_conflicting(
     holders: &[Holder],
-    asker: Option<Tx>,
+    asker: Tx,
     mode: Mode,
     pass: &Members,
 ) -> Option<Tx>

@@ -1,7 +1,7 @@
 //! The locks of all tables.
 ghost use Rattle.std.specs.Prelude.{◌≡◌, ◌≢◌, ℕ, ◌↔◌, OnOk, OnErr, Contains};
 ghost use Rattle.std.specs.FinSet as set;
-ghost use Rattle.ent_lock.specs.Use.{Holds, InConflictAt, Blocks, IsLeast, IsLeastIfAny, AddsUses, DropsUses, keyed};
+ghost use Rattle.ent_lock.specs.Use.{Holds, Blocks, IsLeast, IsLeastIfAny, AddsUses, DropsUses, keyed};
 
 use crate::holders::{Holder, least_conflicting, lesser};
 use crate::mode::Mode;
@@ -53,13 +53,6 @@ impl<T: TableKey> LockTable<T> {
         }
     }
 
-    /// The least transaction that holds a table in conflict with a mode of using it, save those that are to be passed.
-    pub fn least_in_conflict_at(&self, table: &T, mode: Mode, pass: &Members) -> Option<Tx>
-        ensures { IsLeastIfAny (λ v. ¬ Contains pass.now v × InConflictAt self.now v (T.key table.now) mode) result }
-    {
-        least_conflicting(self.holders(table), None, mode, pass)
-    }
-
     /// Asks for uses of tables: all of them are granted, or none where another transaction, which is not to be
     /// passed, holds a use in conflict with one of them. A use that is held already stays, once. Where memory runs out
     /// nothing is changed.
@@ -108,7 +101,7 @@ impl<T: TableKey> LockTable<T> {
     {
         let mut least = None;
         for (table, mode) in asked {
-            let holder = least_conflicting(self.holders(table), Some(tx), *mode, pass);
+            let holder = least_conflicting(self.holders(table), tx, *mode, pass);
             least = lesser(least, holder);
         }
         least

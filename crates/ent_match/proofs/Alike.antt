@@ -1,8 +1,8 @@
 -- What holds of a pool holds of every other one of the same statements.
 use Rattle.std.proofs.Common.{ℕ, zero, suc, List}
-use Rattle.ent_coordination.specs.Component.{IsComponent, IsIn, IsInRemainder, IsSupported, AreLinked, AreLinkedIn}
-use Rattle.ent_coordination.specs.Component.{SetOfTransactions}
-use Rattle.ent_coordination.specs.Pool.{Posted, IsSafe, Unsafe, HasHeadFor, IsUnsafeAt, IsFirstUnsafe}
+use Rattle.ent_semantics.specs.Component.{IsComponent, IsIn, IsInRemainder, IsSupported, AreLinked, AreLinkedIn}
+use Rattle.ent_semantics.specs.Component.{SetOfTransactions}
+use Rattle.ent_semantics.specs.Pool.{Posted, IsSafe, Unsafe, HasHeadFor, IsUnsafeAt, IsFirstUnsafe}
 use Rattle.ent_match.specs.Same.{SameStatements}
 
 turned : (pool other : List Posted) → SameStatements pool other → SameStatements other pool

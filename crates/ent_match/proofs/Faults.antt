@@ -9,8 +9,8 @@ use Rattle.std.specs.declared.cmp.Ordering.TheVariants.{Less, Equal, Greater}
 use Rattle.std.proofs.lemmas.Bool.{cases_lt}
 use Rattle.std.proofs.lemmas.Option.{slice_get_within}
 use Rattle.ent_lists.proofs.Numbers.{cmp_above}
-use Rattle.ent_coordination.specs.Pool.{Posted, CanMeet, IsSafe, Unsafe, HasHeadFor, IsUnsafeAt, unsafe_cmp}
-use Rattle.ent_coordination.specs.Pool.{IsFirstUnsafe}
+use Rattle.ent_semantics.specs.Pool.{Posted, CanMeet, IsSafe, Unsafe, HasHeadFor, IsUnsafeAt, unsafe_cmp}
+use Rattle.ent_semantics.specs.Pool.{IsFirstUnsafe}
 use Rattle.ent_match.specs.Fault.{IsByNumber, MeetsOne, IsOwner, AreTwoLeast, IsFaultOf, IsSafeBut, AreSoFar}
 use Rattle.ent_match.proofs.Numbered.{same_member, in_front, front_cases, front_more, front_last, front_all, Stands}
 use Rattle.ent_match.proofs.Numbered.{stands, front_less}

@@ -2,8 +2,8 @@
 use Rattle.std.proofs.Common.{◌≡◌, ℕ, zero, suc, ◌<◌, ◌≤◌, Bool, true, false, List, [], ◌∷◌, refl, sym, ap}
 use Rattle.std.proofs.Common.{◌∙◌, arith, length, true≢false}
 use Rattle.std.specs.Prelude.{Contains}
-use Rattle.ent_coordination.specs.Pool.{Posted, first_tx}
-use Rattle.ent_coordination.proofs.Linked.{joined_back}
+use Rattle.ent_semantics.specs.Pool.{Posted, first_tx}
+use Rattle.ent_semantics.proofs.Linked.{joined_back}
 use Rattle.ent_match.specs.declared.link.Link.{Link}
 use Rattle.ent_match.specs.Links.{Closed, IsMarked}
 use Rattle.ent_match.specs.Remainder.{At}

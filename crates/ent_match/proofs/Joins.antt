@@ -7,10 +7,10 @@ use Rattle.std.proofs.lemmas.Bool.{cases_Bool}
 use Rattle.std.proofs.lemmas.List.{get_or_default}
 use Rattle.std.proofs.lemmas.List.Kept.{AllPairs-cons}
 use Rattle.ent_lists.proofs.Contained.{contains_cases, contains_later, contains_first}
-use Rattle.ent_coordination.specs.Component.{IsComponent, IsInRemainder, AreLinked}
-use Rattle.ent_coordination.specs.Component.{AreLinkedIn}
-use Rattle.ent_coordination.specs.Pool.{Posted}
-use Rattle.ent_coordination.proofs.Linked.{linked_end}
+use Rattle.ent_semantics.specs.Component.{IsComponent, IsInRemainder, AreLinked}
+use Rattle.ent_semantics.specs.Component.{AreLinkedIn}
+use Rattle.ent_semantics.specs.Pool.{Posted}
+use Rattle.ent_semantics.proofs.Linked.{linked_end}
 use Rattle.ent_match.specs.declared.link.Link.{Link}
 use Rattle.ent_match.specs.Fault.{IsByNumber}
 use Rattle.ent_match.specs.Links.{IsMarked, PathIn, Closed}

@@ -8,8 +8,8 @@ use Rattle.std.proofs.lemmas.Option.{slice_get-get_or}
 use Rattle.std.proofs.lemmas.List.Elements.{Contains-push_cases, Contains-push, Contains-append_left}
 use Rattle.ent_value.specs.declared.value.Value.{Value}
 use Rattle.ent_semantics.specs.declared.entangled.Atom.{Atom}
-use Rattle.ent_coordination.specs.Component.{IsInRemainder}
-use Rattle.ent_coordination.specs.Pool.{Posted}
+use Rattle.ent_semantics.specs.Component.{IsInRemainder}
+use Rattle.ent_semantics.specs.Pool.{Posted}
 use Rattle.ent_match.specs.declared.link.Link.{Link}
 use Rattle.ent_match.specs.Fault.{HasNoOwner}
 use Rattle.ent_match.specs.Remainder.{At, IsOwnerAt, IsLinkOf, HasLink, HasLinks, IsAsked, AsksTo}

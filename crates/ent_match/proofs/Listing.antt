@@ -5,9 +5,9 @@ use Rattle.std.specs.Prelude.{Contains, ◌==◌, if◌then◌else◌}
 use Rattle.std.proofs.lemmas.Bool.{cases_lt, cases_Bool, eq-eqb, eqb-true, not_from_false}
 use Rattle.std.proofs.lemmas.Option.{slice_get_within}
 use Rattle.ent_lists.specs.Elements.{turned}
-use Rattle.ent_coordination.specs.Component.{IsInRemainder, IsSupported}
-use Rattle.ent_coordination.specs.Component.{SetOfTransactions}
-use Rattle.ent_coordination.specs.Pool.{Posted, CanMeet, IsSafe}
+use Rattle.ent_semantics.specs.Component.{IsInRemainder, IsSupported}
+use Rattle.ent_semantics.specs.Component.{SetOfTransactions}
+use Rattle.ent_semantics.specs.Pool.{Posted, CanMeet, IsSafe}
 use Rattle.ent_match.specs.declared.link.Link.{Link}
 use Rattle.ent_match.specs.Fault.{IsByNumber}
 use Rattle.ent_match.specs.Links.{IsMarked, PathIn, Closes}

@@ -9,7 +9,7 @@ use Rattle.std.proofs.lemmas.Option.{slice_get_within}
 use Rattle.ent_lists.specs.Elements.{clash, turned, or_first, or_second, or_cases, not_so, same_number}
 use Rattle.ent_lists.specs.Elements.{other_number, differ}
 use Rattle.ent_lists.proofs.Contained.{to_filtered, of_filtered}
-use Rattle.ent_coordination.specs.Pool.{Posted, CanMeet, IsSafe}
+use Rattle.ent_semantics.specs.Pool.{Posted, CanMeet, IsSafe}
 use Rattle.ent_match.specs.declared.offers.Offer.{Offer}
 use Rattle.ent_match.specs.Fault.{HasNoOwner, IsByNumber, IsSafeBut}
 use Rattle.ent_match.specs.Offers.{AreOffers, AreOffersBut, GrowBy, IsBetween, IsContested, IsMetBy}

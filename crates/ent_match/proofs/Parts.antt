@@ -5,10 +5,10 @@ use Rattle.std.specs.Prelude.{◌==◌, ◌&&◌, Contains, HoldsAt}
 use Rattle.std.specs.List.{list_any}
 use Rattle.std.proofs.lemmas.Bool.Decides.{Decides-and, Decides-by_or, Decides-eqb}
 use Rattle.std.proofs.lemmas.List.{get_or_default}
-use Rattle.ent_coordination.specs.Component.{IsComponent, IsIn, IsInRemainder}
-use Rattle.ent_coordination.specs.Component.{AreLinkedIn, SetOfTransactions}
-use Rattle.ent_coordination.specs.Pool.{Posted}
-use Rattle.ent_coordination.proofs.Linked.{joined_back}
+use Rattle.ent_semantics.specs.Component.{IsComponent, IsIn, IsInRemainder}
+use Rattle.ent_semantics.specs.Component.{AreLinkedIn, SetOfTransactions}
+use Rattle.ent_semantics.specs.Pool.{Posted}
+use Rattle.ent_semantics.proofs.Linked.{joined_back}
 use Rattle.ent_match.specs.Fault.{IsByNumber}
 use Rattle.ent_match.specs.Parts.{IsPart}
 use Rattle.ent_match.proofs.Numbered.{same_member}

@@ -9,7 +9,7 @@ use Rattle.std.proofs.lemmas.List.Elements.{All-nil, All-cons, All-head, All-tai
 use Rattle.std.proofs.lemmas.List.Elements.{All-contains_itself}
 use Rattle.std.proofs.lemmas.List.Kept.{AllPairs-cons, AllPairs-filter}
 use Rattle.ent_lists.proofs.Contained.{contains_cases, contains_later, contains_first}
-use Rattle.ent_coordination.specs.Pool.{Posted, IsSafe, IsUnsafeAt, IsFirstUnsafe, HasHeadFor, Unsafe}
+use Rattle.ent_semantics.specs.Pool.{Posted, IsSafe, IsUnsafeAt, IsFirstUnsafe, HasHeadFor, Unsafe}
 use Rattle.ent_match.specs.Fault.{IsByNumber, IsSafeBut}
 use Rattle.ent_match.specs.Posting.{HasNone, Adds, IsPlaceFor}
 

@@ -1,6 +1,6 @@
 -- Why a statement isn't posted.
 use Rattle.std.proofs.Common.{List}
-use Rattle.ent_coordination.specs.Pool.{Posted}
+use Rattle.ent_semantics.specs.Pool.{Posted}
 use Rattle.ent_match.specs.declared.fault.PostFault.{PostFault}
 use Rattle.ent_match.specs.declared.fault.PostFault.TheVariants as faults
 use Rattle.ent_match.specs.Fault.{IsByNumber}

@@ -20,7 +20,7 @@ use Rattle.ent_semantics.specs.Form.{term_worth}
 use Rattle.ent_semantics.specs.declared.entangled.Atom.{Atom}
 use Rattle.ent_semantics.specs.declared.entangled.Term.{Term}
 use Rattle.ent_semantics.specs.declared.entangled.Term.TheVariants.{Known, Variable}
-use Rattle.ent_coordination.specs.Pool.{CanMeet, Posted}
+use Rattle.ent_semantics.specs.Pool.{CanMeet, Posted}
 use Rattle.ent_group.proofs.Walks.{no_mark}
 use Rattle.ent_match.specs.Signature.{IsMarkedAt, IsSignature, MarksToo, hashed_value, mark_by, mark_of, mark_place}
 

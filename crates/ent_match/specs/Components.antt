@@ -1,8 +1,8 @@
 -- Components by their places.
 use Rattle.std.specs.Prelude.{◌≡◌, ◌<◌, ◌≤◌, ◌⊎◌, ◌==◌, ℕ, Bool, true, false, List, [], ◌∷◌, length, map, AllPairs}
 use Rattle.std.specs.Prelude.{Contains, Option, Some, None, slice_index_or}
-use Rattle.ent_coordination.specs.Component.{IsComponent, IsInRemainder, AreJoined}
-use Rattle.ent_coordination.specs.Pool.{Posted, first_tx}
+use Rattle.ent_semantics.specs.Component.{IsComponent, IsInRemainder, AreJoined}
+use Rattle.ent_semantics.specs.Pool.{Posted, first_tx}
 use Rattle.ent_match.specs.Fault.{IsByNumber}
 use Rattle.ent_match.specs.declared.link.Link.{Link}
 use Rattle.ent_match.specs.Links.{IsMarked}

@@ -1,6 +1,6 @@
 -- Who offers what a statement demands.
 use Rattle.std.specs.Prelude.{◌≡◌, ◌<◌, ℕ, List, length, slice_index_or}
-use Rattle.ent_coordination.specs.Pool.{Posted}
+use Rattle.ent_semantics.specs.Pool.{Posted}
 use Rattle.ent_match.specs.Fault.{HasNoOwner, IsOwner}
 use Rattle.ent_match.specs.declared.demand.Demand.{Demand}
 use Rattle.ent_match.specs.declared.demand.Demand.TheVariants.{Met, Unmet}

@@ -1,6 +1,6 @@
 -- Posts that unify with heads of two statements of a pool by number.
 use Rattle.std.specs.Prelude.{◌≡◌, ◌≢◌, ◌<◌, ◌≤◌, ◌⊎◌, ℕ, List, AllPairs, Contains, Option, Some, None}
-use Rattle.ent_coordination.specs.Pool.{Posted, CanMeet, Unsafe}
+use Rattle.ent_semantics.specs.Pool.{Posted, CanMeet, Unsafe}
 
 -- the statements by number of their transactions, each once
 abbrev pub IsByNumber : List Posted → Type 0

@@ -1,7 +1,7 @@
 -- Which statements of a pool have heads for which posts.
 use Rattle.std.specs.Prelude.{◌≡◌, ◌≢◌, ◌<◌, ◌≤◌, ◌⊎◌, ◌↔◌, ◌==◌, ◌||◌, ℕ, Bool, true, not, List, length, Contains}
 use Rattle.std.specs.Prelude.{slice_index_or}
-use Rattle.ent_coordination.specs.Pool.{Posted, CanMeet, HasHeadFor, IsSafe}
+use Rattle.ent_semantics.specs.Pool.{Posted, CanMeet, HasHeadFor, IsSafe}
 use Rattle.ent_match.specs.Fault.{IsByNumber}
 use Rattle.ent_match.specs.declared.offers.Offer.{Offer}
 

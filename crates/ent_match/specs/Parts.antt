@@ -1,7 +1,7 @@
 -- Parts of a pool, which nothing joins to the rest of it.
 use Rattle.std.specs.Prelude.{List, Contains}
-use Rattle.ent_coordination.specs.Component.{AreJoined}
-use Rattle.ent_coordination.specs.Pool.{Posted}
+use Rattle.ent_semantics.specs.Component.{AreJoined}
+use Rattle.ent_semantics.specs.Pool.{Posted}
 
 -- some of the statements of a pool, and with each all those that are joined to it
 pub record IsPart (pool part : List Posted) : Type 0 where

@@ -1,6 +1,6 @@
 -- Where the statement of a transaction stands.
 use Rattle.std.specs.Prelude.{◌≡◌, ◌≢◌, ◌<◌, ℕ, List, length, Contains, slice_index_or}
-use Rattle.ent_coordination.specs.Pool.{Posted}
+use Rattle.ent_semantics.specs.Pool.{Posted}
 
 -- no statement of a pool is of a transaction
 abbrev pub HasNoneOf : List Posted → ℕ → Type 0

@@ -1,7 +1,7 @@
 -- Posting a statement.
 use Rattle.std.specs.Prelude.{◌≡◌, ◌≢◌, ◌==◌, ◌<◌, ◌≤◌, ◌⊎◌, ◌↔◌, ℕ, Bool, not, List, ◌∷◌, Contains, length}
 use Rattle.std.specs.Prelude.{slice_index_or}
-use Rattle.ent_coordination.specs.Pool.{Posted, IsSafe, IsFirstUnsafe}
+use Rattle.ent_semantics.specs.Pool.{Posted, IsSafe, IsFirstUnsafe}
 use Rattle.ent_match.specs.Fault.{IsByNumber}
 use Rattle.ent_match.specs.declared.fault.PostFault.{PostFault}
 use Rattle.ent_match.specs.declared.fault.PostFault.TheVariants as faults

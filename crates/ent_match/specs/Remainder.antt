@@ -1,7 +1,7 @@
 -- Which statements of a pool remain, by their places.
 use Rattle.std.specs.Prelude.{◌≡◌, ◌<◌, ◌⊎◌, ℕ, Bool, true, false, List, length, Contains, slice_index_or}
-use Rattle.ent_coordination.specs.Component.{IsInRemainder}
-use Rattle.ent_coordination.specs.Pool.{Posted, CanMeet}
+use Rattle.ent_semantics.specs.Component.{IsInRemainder}
+use Rattle.ent_semantics.specs.Pool.{Posted, CanMeet}
 use Rattle.ent_match.specs.declared.link.Link.{Link}
 use Rattle.ent_match.specs.Links.{IsMarked}
 

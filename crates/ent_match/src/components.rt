@@ -1,6 +1,6 @@
 //! The components of a pool.
 ghost use Rattle.std.specs.Prelude.{◌≡◌, ◌↔◌, ◌+◌, ◌∷◌, IsTrue, drop, length, IfOk};
-ghost use Rattle.ent_coordination.specs.Pool.{IsSafe};
+ghost use Rattle.ent_semantics.specs.Pool.{IsSafe};
 ghost use Rattle.ent_match.specs.Components.{AreComponents, AreFirstPlaces, AscendByFirst, begins_at};
 ghost use Rattle.ent_match.specs.Components.{component_at};
 ghost use Rattle.ent_match.specs.Fault.{IsByNumber};

@@ -1,6 +1,6 @@
 //! Why a pool isn't safe.
 ghost use Rattle.std.specs.Prelude.{◌≡◌, ◌+◌, ◌<◌, ℕ, Contains, MatchOption, length};
-ghost use Rattle.ent_coordination.specs.Pool.{IsSafe, IsFirstUnsafe};
+ghost use Rattle.ent_semantics.specs.Pool.{IsSafe, IsFirstUnsafe};
 ghost use Rattle.ent_match.specs.Fault.{IsByNumber, MeetsOne, AreTwoLeast, IsFaultOf, IsSafeBut};
 
 use crate::meets::can_meet;
@@ -18,7 +18,7 @@ pub struct Unsafe {
 }
 
 impl Model for Unsafe {
-    ghost use Rattle.ent_coordination.specs.Pool.{Unsafe as Fault};
+    ghost use Rattle.ent_semantics.specs.Pool.{Unsafe as Fault};
 
     ghost Value = { Fault };
 

@@ -1,7 +1,7 @@
 //! Laws of pools. Nothing here has a body; what holds is in the contracts.
 ghost use Rattle.std.specs.Prelude.{◌↔◌, Contains, List};
-ghost use Rattle.ent_coordination.specs.Component.{IsComponent, IsInRemainder};
-ghost use Rattle.ent_coordination.specs.Pool.{Posted, IsSafe, Unsafe, IsFirstUnsafe};
+ghost use Rattle.ent_semantics.specs.Component.{IsComponent, IsInRemainder};
+ghost use Rattle.ent_semantics.specs.Pool.{Posted, IsSafe, Unsafe, IsFirstUnsafe};
 ghost use Rattle.ent_match.specs.Fault.{IsByNumber};
 ghost use Rattle.ent_match.specs.Parts.{IsPart};
 ghost use Rattle.ent_match.specs.Same.{SameStatements};

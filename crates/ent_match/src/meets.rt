@@ -1,6 +1,6 @@
 //! Which posts and heads of statements unify.
 ghost use Rattle.std.specs.Prelude.{◌≡◌, ◌↔◌, ◌<◌, IsTrue, length, Some, slice_get};
-ghost use Rattle.ent_coordination.specs.Pool.{CanMeet};
+ghost use Rattle.ent_semantics.specs.Pool.{CanMeet};
 
 use crate::posted::Posted;
 use ent_unify::unifies;

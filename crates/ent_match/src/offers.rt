@@ -1,7 +1,7 @@
 //! Which statements of a pool have heads for which posts: found out when a statement is posted, and kept.
 ghost use Rattle.std.specs.Prelude.{◌≡◌, ◌↔◌, false, Contains, IfErr, IsTrue, MatchOption, OnErr, OnOk};
 ghost use Rattle.std.specs.Prelude.{filter};
-ghost use Rattle.ent_coordination.specs.Pool.{IsFirstUnsafe, IsSafe};
+ghost use Rattle.ent_semantics.specs.Pool.{IsFirstUnsafe, IsSafe};
 ghost use Rattle.ent_match.specs.Fault.{IsByNumber, IsSafeBut};
 ghost use Rattle.ent_match.specs.Offers.{AreOffers, AreOffersBut, GrowBy, HasRival, IsBetween};
 ghost use Rattle.ent_match.specs.Offers.{IsContested, IsMetBy, IsOfPair, is_of, is_of_others};

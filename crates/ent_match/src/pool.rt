@@ -1,6 +1,6 @@
 //! The pool.
 ghost use Rattle.std.specs.Prelude.{◌≡◌, ◌≢◌, [], ◌<◌, AllPairs, IfOk, OnOk, OnErr, IfErr, filter};
-ghost use Rattle.ent_coordination.specs.Pool.{IsSafe};
+ghost use Rattle.ent_semantics.specs.Pool.{IsSafe};
 ghost use Rattle.ent_match.specs.Components.{AreComponents, AreFirstPlaces, AscendByFirst};
 ghost use Rattle.ent_match.specs.Fault.{IsByNumber};
 ghost use Rattle.ent_match.specs.Offers.{AreOffers};
@@ -26,7 +26,7 @@ pub struct Pool {
 
 impl Model for Pool {
     ghost use Rattle.std.specs.Prelude.{List};
-    ghost use Rattle.ent_coordination.specs.Pool.{Posted};
+    ghost use Rattle.ent_semantics.specs.Pool.{Posted};
     ghost use Rattle.ent_match.specs.Offers.{IsSafeWith};
 
     ghost Value = { List Posted };

@@ -1,7 +1,7 @@
 //! Posted statements.
 ghost use Rattle.std.specs.Prelude.{◌≡◌, ℕ, IfOk, false};
 ghost use Rattle.std.specs.Arc.{arc_value};
-ghost use Rattle.ent_coordination.specs.Pool.{CanMeet};
+ghost use Rattle.ent_semantics.specs.Pool.{CanMeet};
 
 use crate::signature::signature_of;
 use ent_group::{Row, Tx};
@@ -40,7 +40,7 @@ impl Drop for Posted {
 
 impl Model for Posted {
     ghost use Rattle.std.specs.Arc.{arc_value};
-    ghost use Rattle.ent_coordination.specs.Pool.{Posted as PostedStatement};
+    ghost use Rattle.ent_semantics.specs.Pool.{Posted as PostedStatement};
     ghost use Rattle.ent_match.specs.Signature.{AreSignatures};
 
     ghost Value = { PostedStatement };

@@ -1,11 +1,9 @@
-//! Who may meet, by the text alone: what a script offers and demands of the others, and which demands offers may meet.
+//! Who may meet, by the text alone: what a script offers and demands of the others, and which of those who wait meet.
 //!
 //! A script demands the postconditions of all its entangled statements, and offers all their heads. Of a term the text
 //! may know the value: that of a literal, and of a host variable that the script has SET to a literal and not bound
 //! since. A demand may be met by an offer of its relation and length, unless two known values differ. So what is told
 //! here doesn't depend on tables, and a meeting that the tables forbid is not ruled out.
-//!
-//! People who wait, and which of them may meet.
 #![tactic(auto)]
 
 mod board;

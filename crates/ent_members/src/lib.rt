@@ -1,23 +1,17 @@
-//! A member of the present run, and what it has.
+//! The transactions of a core: those that wait for a run, the members of the present run, and those that are finished.
+//!
+//! A [`SubmittedScript`] is a script with its statements resolved; the number of a transaction finds its script. A
+//! [`TransactionTable`] is told of each script that is submitted. It keeps those who wait for a run, in order of their
+//! arrival, and the fates of those who are finished. `admit` alone takes memory to change it: its type keeps room for
+//! whatever becomes of the scripts that were submitted.
 //!
 //! A [`Progress`] is what a member has itself: its place, what it bound and its answers. A [`RunMember`] is one in its
-//! run, with the locks that the lock table shows for it and the label that the groups give it. Here too are those who
-//! wait for a run, the uses that a statement asks for, what a member gets of a joint answer, and the list of those who
-//! leave. A caller may rely on it that each call does to a member exactly what the protocol's functions say, and that a
-//! call that finds no memory leaves it as it was.
+//! run, with the locks that the lock table shows for it and the label that the groups give it. [`next_of`] is what the
+//! protocol says comes next, closed under what the member bound. [`next_form`] takes no memory, and answers the
+//! statement before it is closed, which needs the same locks.
 //!
-//! What comes next in submitted scripts: what a member begins, and which locks its statement needs.
-//!
-//! A [`SubmittedScript`] is a script with its statements resolved; the number of a transaction finds its script.
-//! [`next_of`] is what the protocol says comes next, closed under what the member bound. [`next_form`] takes no memory,
-//! and answers the statement before it is closed, which needs the same locks.
-//!
-//! Who waits for a run, and who is finished.
-//!
-//! A [`TransactionTable`] is told of each script that is submitted. It keeps those who wait for a run, in order of
-//! their arrival, and the fates of those who are finished. A caller may rely on it that each call does to both lists
-//! exactly what the protocol's functions say, and that `admit` alone takes memory to change them: its type keeps room
-//! for whatever becomes of the scripts that were submitted.
+//! A caller may rely on it that each call does exactly what the protocol's functions say, and that a call that finds no
+//! memory leaves everything as it was.
 #![tactic(auto)]
 
 mod by_number;

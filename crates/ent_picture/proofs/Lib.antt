@@ -2,3 +2,4 @@ pub mod Lines
 pub mod Parts
 pub mod Found
 pub mod Rising
+pub mod Escaping

@@ -1,3 +1,4 @@
 pub mod Trace
 pub mod Columns
 pub mod Members
+pub mod Escape

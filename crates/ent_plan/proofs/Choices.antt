@@ -3,8 +3,8 @@ use Rattle.std.proofs.Common.{List, [], ◌∷◌, refl, sym, subst}
 use Rattle.std.specs.Prelude.{◌↔◌}
 use Rattle.ent_semantics.specs.Entangled.{Valuation}
 use Rattle.ent_semantics.specs.Form.{Tables}
-use Rattle.ent_coordination.specs.Choice.{AreGroundings, IsChoice}
-use Rattle.ent_coordination.specs.Pool.{Posted}
+use Rattle.ent_semantics.specs.Choice.{AreGroundings, IsChoice}
+use Rattle.ent_semantics.specs.Pool.{Posted}
 use Rattle.ent_plan.specs.Plan.{Plan, IsPlan, AreKindedFor, IsGroundedSpread}
 
 -- groundings are of the variables' kinds

@@ -10,8 +10,8 @@ use Rattle.ent_value.specs.declared.value.Value.{Value}
 use Rattle.ent_semantics.specs.declared.answer.Fact.{Fact}
 use Rattle.ent_semantics.specs.Entangled.{Valuation}
 use Rattle.ent_semantics.specs.declared.entangled.Atom.{Atom}
-use Rattle.ent_coordination.specs.Choice.{all_heads, all_posts}
-use Rattle.ent_coordination.specs.Pool.{Posted, fact_under}
+use Rattle.ent_semantics.specs.Choice.{all_heads, all_posts}
+use Rattle.ent_semantics.specs.Pool.{Posted, fact_under}
 use Rattle.ent_unify.proofs.Pairs.{kinds_at}
 use Rattle.ent_plan.specs.Agreement.{variables_of}
 use Rattle.ent_plan.specs.Pairs.{Placed, placed_at, placed_from}

@@ -12,8 +12,8 @@ use Rattle.ent_value.specs.declared.value.Value.{Value}
 use Rattle.ent_semantics.specs.declared.answer.Fact.{Fact}
 use Rattle.ent_semantics.specs.Entangled.{Valuation}
 use Rattle.ent_semantics.specs.declared.entangled.Atom.{Atom}
-use Rattle.ent_coordination.specs.Choice.{all_heads, all_posts}
-use Rattle.ent_coordination.specs.Pool.{Posted, IsPool, IsSafe, CanMeet, fact_under}
+use Rattle.ent_semantics.specs.Choice.{all_heads, all_posts}
+use Rattle.ent_semantics.specs.Pool.{Posted, IsPool, IsSafe, CanMeet, fact_under}
 use Rattle.ent_unify.specs.Unifier.{AreAllOfKinds, AreEqual, NoneEquals, IsMostGeneral, AreKinded}
 use Rattle.ent_unify.specs.declared.unifier.ClassBinding.{ClassBinding}
 use Rattle.ent_unify.specs.declared.unifier.MemberAtom.{MemberAtom}

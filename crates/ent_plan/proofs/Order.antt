@@ -14,7 +14,7 @@ use Rattle.ent_value.specs.Order.{values_total, exact_values}
 use Rattle.ent_value.specs.Value.{value_cmp, row_cmp}
 use Rattle.ent_value.specs.declared.value.Value.{Value}
 use Rattle.ent_semantics.specs.Term.{no_value}
-use Rattle.ent_coordination.specs.Choice.{choice_cmp}
+use Rattle.ent_semantics.specs.Choice.{choice_cmp}
 use Rattle.ent_plan.specs.Plan.{Plan, IsPlan, AreNumbered, all_slots, slot_value, spread}
 use Rattle.ent_plan.specs.declared.slot.Slot.{Slot}
 use Rattle.ent_plan.specs.declared.slot.Slot.TheVariants.{Fixed, Class}

@@ -6,7 +6,7 @@ use Rattle.std.proofs.lemmas.List.{append-nil, append_assoc, map-append, map_mor
 use Rattle.std.proofs.lemmas.List.Elements.{Contains-append_left, Contains-push, Contains-push_cases}
 use Rattle.ent_value.specs.declared.value.Value.{Value}
 use Rattle.ent_semantics.specs.declared.entangled.Atom.{Atom}
-use Rattle.ent_coordination.specs.Pool.{Posted}
+use Rattle.ent_semantics.specs.Pool.{Posted}
 use Rattle.ent_unify.specs.declared.unifier.MemberAtom.{MemberAtom}
 use Rattle.ent_plan.specs.declared.pair.PlacedAtom.{PlacedAtom}
 use Rattle.ent_plan.specs.Pairs.{Placed, seen, placed_at, placed_from, AtPlace, seen_pair, pair_of, DoUnify, StandApart}

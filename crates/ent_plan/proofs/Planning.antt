@@ -10,7 +10,7 @@ use Rattle.ent_value.specs.declared.value.Kind.TheVariants as kinds
 use Rattle.ent_value.specs.declared.value.Value.{Value}
 use Rattle.ent_semantics.specs.Entangled.{Valuation}
 use Rattle.ent_semantics.specs.Term.{no_value}
-use Rattle.ent_coordination.specs.Pool.{Posted}
+use Rattle.ent_semantics.specs.Pool.{Posted}
 use Rattle.ent_unify.specs.Unifier.{class_of, constant_in, constant_of, member_value, IsVariableOf, Agrees}
 use Rattle.ent_unify.specs.declared.unifier.ClassBinding.{ClassBinding}
 use Rattle.ent_unify.specs.declared.variable.Representative.TheVariants.{Constant, Variable}

@@ -4,7 +4,7 @@ use Rattle.std.proofs.Common.{arith}
 use Rattle.std.specs.Prelude.{Contains}
 use Rattle.std.proofs.lemmas.List.Elements.{All-contains, All-contains_itself, All-filter}
 use Rattle.std.proofs.lemmas.List.Kept.{AllPairs-filter}
-use Rattle.ent_coordination.specs.Pool.{Posted, IsPool, IsSafe}
+use Rattle.ent_semantics.specs.Pool.{Posted, IsPool, IsSafe}
 use Rattle.ent_match.specs.Fault.{IsByNumber}
 use Rattle.ent_plan.specs.Plan.{HaveDistinctHeads, is_named, named}
 

@@ -2,7 +2,7 @@
 use Rattle.std.specs.Prelude.{◌↔◌, List, map}
 use Rattle.ent_value.specs.declared.value.Kind.{Kind}
 use Rattle.ent_semantics.specs.Entangled.{Valuation}
-use Rattle.ent_coordination.specs.Pool.{Posted}
+use Rattle.ent_semantics.specs.Pool.{Posted}
 use Rattle.ent_unify.specs.Unifier.{Agrees}
 use Rattle.ent_unify.specs.declared.unifier.ClassBinding.{ClassBinding}
 use Rattle.ent_plan.specs.Plan.{AreKindedFor, AreMet}

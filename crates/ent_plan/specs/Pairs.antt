@@ -3,7 +3,7 @@ use Rattle.std.specs.Prelude.{◌≡◌, ◌⊎◌, ℕ, suc, Bool, List, [], �
 use Rattle.ent_value.specs.declared.value.Kind.{Kind}
 use Rattle.ent_value.specs.declared.value.Value.{Value}
 use Rattle.ent_semantics.specs.declared.entangled.Atom.{Atom}
-use Rattle.ent_coordination.specs.Pool.{Posted, Unify}
+use Rattle.ent_semantics.specs.Pool.{Posted, Unify}
 use Rattle.ent_unify.specs.Unifier.{AreApart}
 use Rattle.ent_unify.specs.declared.unifier.MemberAtom.{MemberAtom}
 use Rattle.ent_plan.specs.declared.pair.PlacedAtom.{PlacedAtom}

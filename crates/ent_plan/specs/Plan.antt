@@ -11,8 +11,8 @@ use Rattle.ent_semantics.specs.Entangled.{Valuation}
 use Rattle.ent_semantics.specs.Term.{no_value}
 use Rattle.ent_semantics.specs.Form.{Tables}
 use Rattle.ent_semantics.specs.declared.entangled.Atom.{Atom}
-use Rattle.ent_coordination.specs.Choice.{AreGroundings, all_heads, all_posts}
-use Rattle.ent_coordination.specs.Pool.{Posted}
+use Rattle.ent_semantics.specs.Choice.{AreGroundings, all_heads, all_posts}
+use Rattle.ent_semantics.specs.Pool.{Posted}
 use Rattle.ent_plan.specs.declared.slot.Slot.{Slot}
 use Rattle.ent_plan.specs.declared.slot.Slot.TheVariants.{Fixed, Class}
 

@@ -6,7 +6,7 @@ use Rattle.ent_semantics.specs.declared.entangled.Entangled.{Entangled}
 use Rattle.ent_semantics.specs.declared.entangled.Membership.{Membership}
 use Rattle.ent_semantics.specs.declared.entangled.Term.{Term}
 use Rattle.ent_semantics.specs.declared.entangled.Term.TheVariants as terms
-use Rattle.ent_coordination.specs.Pool.{Posted}
+use Rattle.ent_semantics.specs.Pool.{Posted}
 
 abbrev pub is_variable : ℕ → Term Value → Bool
 is_variable number (terms.Known value) = false

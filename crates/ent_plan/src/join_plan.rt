@@ -1,6 +1,6 @@
 //! Plans.
 ghost use Rattle.std.specs.Prelude.{◌≡◌, IfOk, MatchOption, map};
-ghost use Rattle.ent_coordination.specs.Pool.{IsPool, IsSafe};
+ghost use Rattle.ent_semantics.specs.Pool.{IsPool, IsSafe};
 ghost use Rattle.ent_unify.specs.Unifier.{kinds_seen};
 ghost use Rattle.ent_plan.specs.Agreement.{IsUnifierOf, variables_of};
 ghost use Rattle.ent_plan.specs.Plan.{HaveDistinctHeads, HaveNoPlan, IsPlan, named};

@@ -5,7 +5,7 @@ ghost use Rattle.ent_value.specs.Value.{value_cmp};
 ghost use Rattle.ent_value.specs.declared.value.Value.{Value};
 ghost use Rattle.ent_semantics.specs.Entangled.{Valuation};
 ghost use Rattle.ent_semantics.specs.Form.{Tables};
-ghost use Rattle.ent_coordination.specs.Choice.{IsChoice, choice_cmp};
+ghost use Rattle.ent_semantics.specs.Choice.{IsChoice, choice_cmp};
 ghost use Rattle.ent_plan.specs.Plan.{IsGroundedSpread, IsPlan, Plan, all_slots, spread};
 ghost use Rattle.ent_plan.specs.declared.slot.Slot.TheVariants.{Class};
 

@@ -10,7 +10,7 @@ use Rattle.lru.specs.LruCache.{LruCache, lru_cache, promoted, put_entries}
 use Rattle.lru.proofs.CallerLemmas.{Contains-lookup, Contains-promoted, Contains-put_entries, IsPut}
 use Rattle.ent_tree.specs.declared.script.Script.{Script}
 use Rattle.ent_prepare.specs.Cached.{AreRead}
-use Rattle.ent_prepare.specs.Reading.{IsScript}
+use Rattle.ent_input.specs.Reading.{IsScript}
 use denote.Ref.{Bor}
 
 -- a key of these bytes

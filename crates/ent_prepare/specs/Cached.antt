@@ -2,7 +2,7 @@
 use Rattle.std.specs.Prelude.{ℕ, List, Contains, vec_items}
 use Rattle.std.specs.declared.vec.Vec.{Vec}
 use Rattle.ent_tree.specs.declared.script.Script.{Script}
-use Rattle.ent_prepare.specs.Reading.{IsScript}
+use Rattle.ent_input.specs.Reading.{IsScript}
 
 -- each text reads as its script
 pub record AreRead {Z : Type 0} (entries : List (Vec ℕ Z × Script)) : Type 0 where

@@ -2,14 +2,14 @@
 ghost use Rattle.std.specs.Prelude.{◌≡◌, IfErr, IfOk, None};
 ghost use Rattle.ent_bound.specs.Bound.{bound_script};
 ghost use Rattle.ent_bound.specs.Refused.{first_fault};
+ghost use Rattle.ent_input.specs.Reading.{IsScript};
 ghost use Rattle.ent_prepare.specs.Cached.{AreRead};
 ghost use Rattle.ent_prepare.specs.Prepared.{IsBound, RefusesBinding, RefusesBound, RefusesReading};
-ghost use Rattle.ent_prepare.specs.Reading.{IsScript};
 
 use crate::cache::{Cache, keep, kept, touch};
 use crate::fault::PrepareFault;
-use crate::reading::read;
 use ent_bound::{BoundVariable, bound};
+use ent_input::read_script;
 use ent_tree::Script;
 use ent_value::Refusal;
 use std::alloc::Global;
@@ -19,10 +19,10 @@ fn script_of(alloc: Global, text: &[u8]) -> Result<Script, Refusal<PrepareFault>
     ensures script { IfOk result (λ script. IsScript text.now script) }
     ensures refused { IfErr result (λ refusal. RefusesReading text.now refusal) }
 {
-    match read(alloc, text) {
+    match read_script(alloc, text) {
         Ok(script) => Ok(script),
         Err(Refusal::Memory) => Err(Refusal::Memory),
-        Err(Refusal::Fault(fault)) => Err(Refusal::Fault(PrepareFault::Reading(fault))),
+        Err(Refusal::Fault(fault)) => Err(Refusal::Fault(PrepareFault::Text(fault))),
     }
 }
 

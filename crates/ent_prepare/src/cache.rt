@@ -1,7 +1,7 @@
 //! Scripts that were read before.
 ghost use Rattle.std.specs.Prelude.{◌≡◌, IfOk, IfSome};
 ghost use Rattle.ent_prepare.specs.Cached.{AreRead};
-ghost use Rattle.ent_prepare.specs.Reading.{IsScript};
+ghost use Rattle.ent_input.specs.Reading.{IsScript};
 
 use ent_tree::Script;
 use lru::LruCache;

@@ -10,6 +10,7 @@ use crate::cache::{Cache, empty};
 use crate::fault::PrepareFault;
 use ent_bound::BoundVariable;
 use ent_form::{Catalogue, FormFault, resolve};
+use ent_input::InputFault;
 use ent_tree::{Opening, Script};
 use ent_value::Refusal;
 use std::alloc::Global;
@@ -75,6 +76,8 @@ fn check(alloc: Global, catalogue: &Catalogue, script: &Script) -> Result<(), Re
     match resolve(alloc, catalogue, script) {
         Ok(_) => Ok(()),
         Err(Refusal::Memory) => Err(Refusal::Memory),
-        Err(Refusal::Fault(fault)) => Err(Refusal::Fault(PrepareFault::Form(fault))),
+        Err(Refusal::Fault(fault)) => {
+            Err(Refusal::Fault(PrepareFault::Text(InputFault::Form(fault))))
+        }
     }
 }

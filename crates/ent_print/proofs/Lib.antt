@@ -1,3 +1,4 @@
+mod Beginning
 pub mod Lexemes
 pub mod Reading
 pub mod Places

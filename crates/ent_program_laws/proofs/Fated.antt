@@ -11,7 +11,7 @@ use Rattle.ent_semantics.specs.Entangled.{Valuation}
 use Rattle.ent_semantics.specs.declared.entangled.Entangled.{Entangled}
 use Rattle.ent_semantics.specs.declared.operand.Known.{Known}
 use Rattle.ent_semantics.specs.declared.statement.Statement.{Statement}
-use Rattle.ent_coordination.specs.Pool.{Posted}
+use Rattle.ent_semantics.specs.Pool.{Posted}
 use Rattle.ent_protocol.specs.Begin.{BeginsCommit, BeginsEntangled, BeginsMember, BeginsNext, BeginsOrdinary}
 use Rattle.ent_protocol.specs.Begin.{BeginsUnless, Posts}
 use Rattle.ent_protocol.specs.Commit.{commit_fates, committing, committing_members, is_ready, preparing}
@@ -33,7 +33,7 @@ use Rattle.ent_protocol_laws.proofs.Found.{found}
 use Rattle.ent_protocol_laws.proofs.Left.{tx_of}
 use Rattle.ent_lists.specs.Elements.{In, in_either, in_first, in_second, of_filter}
 use Rattle.ent_lists.proofs.Lists.{of_filter_map}
-use Rattle.ent_verdict.specs.Reportable.{runs_of}
+use Rattle.ent_program_laws.specs.Reportable.{runs_of}
 
 -- ---- fates that members get
 

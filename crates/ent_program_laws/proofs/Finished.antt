@@ -31,12 +31,12 @@ use Rattle.ent_protocol.specs.Reached.{IsFinished, IsFinishedBook, IsReached, bo
 use Rattle.ent_protocol.specs.State.{State, Submitted}
 use Rattle.ent_protocol_laws.specs.Attempts.{AskForMost, AsksForRun}
 use Rattle.ent_protocol_laws.specs.Numbered.{from_by_number}
-use Rattle.ent_termination.specs.Fates.{HaveFates}
+use Rattle.ent_protocol_laws.specs.Fates.{HaveFates}
 use Rattle.ent_headline.specs.Resolved.{resolved_forms}
 use Rattle.ent_lists.specs.Elements.{In, all_map, contains_in, in_contains, of_all, of_filter, to_all, to_map}
-use Rattle.ent_answer_laws.specs.Answered.{CanRun}
+use Rattle.ent_program_laws.specs.Answered.{CanRun}
 use Rattle.ent_report_laws.specs.Read.{IsOpeningRead}
-use Rattle.ent_verdict.specs.Reportable.{CanBeReported, CountsRuns}
+use Rattle.ent_program_laws.specs.Reportable.{CanBeReported, CountsRuns}
 
 -- ---- scripts
 

@@ -1,184 +1,90 @@
--- What the report of a legal book over texts of whole characters tells is of whole characters.
-use Rattle.std.proofs.Common.{◌≡◌, ℕ, List, map, refl, sym, subst, Contains, Option, Some, None}
-use Rattle.std.specs.List.{AllByRecursion}
+-- Members and tables that a report shows.
+use Rattle.std.proofs.Common.{◌≡◌, ◌≤◌, List, [], ◌∷◌, map, length, refl, sym, ap, subst, ◌∙◌, arith, inl, inr}
+use Rattle.std.proofs.Common.{Contains, Option, Some, Ok, Result}
 use Rattle.ent_lists.specs.Sets as set
+use Rattle.ent_value.specs.Value.{kinds_of}
 use Rattle.ent_value.specs.declared.value.Value.{Value}
-use Rattle.ent_tree.specs.declared.declaration.Opening.{Opening}
-use Rattle.ent_tree.specs.declared.declaration.OpeningRow.{OpeningRow}
+use Rattle.ent_tree.specs.declared.declaration.Column.{Column}
+use Rattle.ent_tree.specs.declared.declaration.Create.{Create}
 use Rattle.ent_tree.specs.declared.script.Script.{Script}
-use Rattle.ent_tree.specs.Places.{unplaced_script}
-use Rattle.ent_print.specs.Spelling.{script_spelling}
-use Rattle.ent_semantics.specs.declared.answer.Answer.{Answer}
-use Rattle.ent_semantics.specs.declared.book.Book.{Book}
-use Rattle.ent_semantics.specs.declared.book.Entry.{Entry}
-use Rattle.ent_semantics.specs.declared.book.Fate.{Fate}
-use Rattle.ent_semantics.specs.declared.book.Fate.TheVariants as fates
-use Rattle.ent_semantics.specs.declared.book.Fated.{Fated}
-use Rattle.ent_semantics.specs.declared.book.JointAnswer.{JointAnswer}
-use Rattle.ent_semantics.specs.declared.book.Member.{Member}
-use Rattle.ent_semantics.specs.Book.{IsLegal, all_members}
-use Rattle.ent_semantics.specs.Database.{Database, Name, opening_database, row_of}
-use Rattle.ent_semantics.specs.Serial.{Runs, Turn, numbered}
-use Rattle.ent_semantics.proofs.Numbered.{numbered_in}
-use Rattle.ent_book.specs.Report.{entry_answers, fate_answers, names_by_bytes}
-use Rattle.ent_history.specs.declared.history.Shown.{Shown}
-use Rattle.ent_history.specs.declared.history.Told.{Told}
-use Rattle.ent_history.specs.declared.history.ToldJoint.{ToldJoint}
-use Rattle.ent_history.specs.declared.history.ToldMember.{ToldMember}
-use Rattle.ent_history.specs.Told.{opening_row, shown_table, told_by, told_fate, told_joint, told_member, told_opening}
-use Rattle.ent_history.specs.Told.{told_rows}
-use Rattle.ent_lists.specs.Elements.{In, all_by, all_map, contains_in, in_contains, in_flat, of_all, of_map, to_all}
-use Rattle.ent_lists.specs.Elements.{to_flat, to_map}
-use Rattle.ent_report_laws.proofs.Opened.{row_again}
-use Rattle.ent_answer_laws.specs.Answered.{CanRun}
-use Rattle.ent_answer_laws.specs.Unplaced.{unplaced_book, unplaced_opening}
-use Rattle.ent_verdict.specs.Reportable.{CanBeReported}
-use Rattle.ent_verdict.proofs.Joints.{all_grounded}
-use Rattle.ent_answer_laws.specs.Kept.{CanKeep, OpeningsKeep, RunsKeep, ReadViewsKeep, TablesShow}
-use Rattle.ent_answer_laws.specs.Values.{HoldsValues, IsOfCharacters, IsWritten}
-use Rattle.ent_answer_laws.specs.Characters.{HoldsCharacters, IsAnswerOfCharacters, IsLexemeOfCharacters}
-use Rattle.ent_answer_laws.specs.Characters.{IsOpeningOfCharacters, IsRowOfCharacters, IsScriptOfCharacters}
-use Rattle.ent_program_laws.proofs.Kept.{lexeme_kept}
+use Rattle.ent_tree.specs.declared.script.Statement.{Statement as TreeStatement}
+use Rattle.ent_tree.specs.declared.script.Statement.TheVariants as trees
+use Rattle.ent_semantics.specs.Database.{Database, Name}
+use Rattle.ent_semantics.specs.Entangled.{written_variables}
+use Rattle.ent_semantics.specs.Joint.{member_of}
+use Rattle.ent_semantics.specs.Serial.{ReadView, Turn, numbered}
+use Rattle.ent_semantics.specs.declared.operand.Known.{Known}
+use Rattle.ent_semantics.specs.declared.statement.Statement.{Statement}
+use Rattle.ent_form.specs.Catalogue.{schemas_of}
+use Rattle.ent_form.specs.Form.{script_in}
+use Rattle.ent_form.specs.declared.fault.FormFault.{FormFault}
+use Rattle.ent_form.specs.declared.script.Plain.{Plain}
+use Rattle.ent_book.specs.Report2.{member_variables, script_statement, statement_variables}
+use Rattle.ent_book.proofs.Ascending.{count_of_ascending}
+use Rattle.ent_history.specs.Told.{shown_table, told_member}
+use Rattle.ent_history.specs.declared.history.History.{History}
+use Rattle.ent_history.specs.Joints.{Binds, BindsRight, binds_of, member_binds, resolved_at, script_binds}
+use Rattle.ent_history.specs.Parts.{IsRow}
+use Rattle.ent_lists.specs.Elements.{In}
+use Rattle.ent_semantics.proofs.EachRow.{to_ascending}
+use Rattle.ent_report_laws.specs.Tellable.{AreRowsOf, AreTablesOf, IsMemberTold}
+use Rattle.ent_program_laws.specs.Held.{HoldsRowsOf}
+use Rattle.ent_program_laws.proofs.Rows.{rows_rise}
+use Rattle.ent_program_laws.proofs.Walking.{IsReadViewTold}
 
--- what other laws say
-pub record Laws : Type 0 where
-  pub opens : OpeningsKeep IsOfCharacters
-  pub shows : TablesShow IsOfCharacters
-  pub runs : RunsKeep IsOfCharacters
-  pub read_views : ReadViewsKeep IsOfCharacters
-  pub spelled : (script : Script) → script_spelling (unplaced_script script) ≡ script_spelling script
-  pub unplaced : (opening : Opening) → opening_database (unplaced_opening opening) ≡ opening_database opening
+-- ---- members
 
-module _ (laws : Laws) (book : Book Database) (legal : IsLegal book) (reported : CanBeReported book)
-    (opening : IsOpeningOfCharacters book.opening) (scripts : AllByRecursion IsScriptOfCharacters book.scripts) where
-  abbrev first : Database
-  first = opening_database book.opening
+pub member_told : (history : History) (turn : Turn) (plain : Plain) (read_view : ReadView)
+    → numbered history.scripts turn.tx ≡ Some turn.script
+    → script_in (schemas_of history.opening.tables) turn.script ≡ Ok plain
+    → IsReadViewTold turn.tx turn.script plain read_view
+    → IsMemberTold history (told_member history.scripts (member_of read_view))
+member_told history turn plain read_view own made told =
+    let tables = schemas_of history.opening.tables in
+    let place = read_view.place in
+    let at : numbered history.scripts read_view.tx ≡ Some turn.script =
+    ap (numbered history.scripts) told.of_script ∙ own in
+    let variables : member_variables history.scripts (member_of read_view) ≡ written_variables read_view.entangled =
+    ap (λ (o : Option Script). statement_variables (script_statement place o)) at
+    ∙ ap (λ (o : Option TreeStatement). statement_variables o) told.statement in
+    let binds : member_binds history read_view.tx place
+    ≡ Some (written_variables read_view.entangled, told.form.variables) =
+    ap (λ (o : Option Script). script_binds tables o place) at
+    ∙ ap (λ (o : Option TreeStatement). binds_of o (resolved_at (script_in tables turn.script) place)) told.statement
+    ∙ ap (λ (r : Result Plain FormFault). binds_of (Some (trees.Entangled read_view.entangled)) (resolved_at r place))
+    made
+    ∙ ap (λ (o : Option (Statement Known)). binds_of (Some (trees.Entangled read_view.entangled)) o) told.resolved in
+    record {
+      paired = ap (λ (names : List Name). length names) variables ∙ sym told.answered.many;
+      are_values = told.answered.values;
+      binds = subst (λ (b : Option Binds).
+          BindsRight b (member_variables history.scripts (member_of read_view)) read_view.valuation) (sym binds)
+          (variables, told.answered.kinds);
+    }
 
-  first_holds : HoldsValues IsOfCharacters first
-  first_holds =
-      laws.opens book.opening (λ row c.
-      of_all (λ (r : OpeningRow). IsRowOfCharacters (row_of r)) book.opening.rows row opening
-      (contains_in book.opening.rows row c))
+-- ---- tables
 
-  -- ---- the run
+module _ (declared : List Create) (database : Database) (holds : HoldsRowsOf declared database) where
+  module _ (create : Create) (there : Contains declared create) where
+    pub few_are_told : length (set.ascending (database create.name.name)) ≤ 65536
+    few_are_told =
+        let few = holds.few create there in
+        omega (arith, few, count_of_ascending (database create.name.name))
 
-  own_script : (turn : Turn) → Contains legal.turns turn → In turn.script book.scripts
-  own_script turn c = numbered_in book.scripts turn.tx turn.script (legal.runs.own_scripts turn c)
+    pub rows_are_told : AreRowsOf create.columns (set.ascending (database create.name.name))
+    rows_are_told = (
+      to_ascending (λ (row : List Value).
+          IsRow row × (kinds_of row ≡ map (λ (column : Column). column.kind) create.columns))
+          (database create.name.name) (holds.rows create there),
+      rows_rise (database create.name.name),
+    )
 
-  can_keep : CanKeep IsOfCharacters book.opening.tables legal.turns
-  can_keep = record {
-    resolved = λ turn c.
-        (of_all (CanRun book.opening.tables) book.scripts turn.script reported.scripts (own_script turn c)).resolved;
-    writes = λ turn c.
-        all_by IsLexemeOfCharacters (IsWritten IsOfCharacters) (script_spelling turn.script) lexeme_kept
-        (of_all IsScriptOfCharacters book.scripts turn.script scripts (own_script turn c));
-  }
-
-  abbrev answers_of : Entry → List Answer
-  answers_of entry = entry.answers
-
-  abbrev left : Runs
-  left = record { database = book.database; answers = map answers_of book.journal }
-
-  left_keeps : HoldsValues IsOfCharacters book.database
-      × AllByRecursion (AllByRecursion IsAnswerOfCharacters) (map answers_of book.journal)
-  left_keeps =
-      laws.runs book.opening.tables legal.turns first left can_keep first_holds (all_grounded book legal)
-      legal.runs.run
-
-  -- ---- the opening
-
-  abbrev bare : Opening
-  bare = unplaced_opening book.opening
-
-  bare_holds : HoldsValues IsOfCharacters (opening_database bare)
-  bare_holds = subst (HoldsValues IsOfCharacters) (sym (laws.unplaced book.opening)) first_holds
-
-  opening_row_holds : (name : Name) (values : List Value) → In values (set.ascending (opening_database bare name))
-      → IsRowOfCharacters (row_of (opening_row name values))
-  opening_row_holds name values at =
-      subst IsRowOfCharacters (sym (row_again name values))
-      (of_all IsRowOfCharacters (set.ascending (opening_database bare name)) values
-      (laws.shows (opening_database bare) name bare_holds) at)
-
-  opening_holds : IsOpeningOfCharacters (told_opening bare)
-  opening_holds =
-      to_all (λ (row : OpeningRow). IsRowOfCharacters (row_of row)) (told_opening bare).rows (λ row at.
-      let under = in_flat (told_rows bare) (names_by_bytes bare) row at in
-      let one = of_map (opening_row under.0) (set.ascending (opening_database bare under.0)) row under.2 in
-      subst (λ (r : OpeningRow). IsRowOfCharacters (row_of r)) (sym one.2)
-      (opening_row_holds under.0 one.0 one.1))
-
-  -- ---- scripts
-
-  scripts_hold : AllByRecursion IsScriptOfCharacters (map unplaced_script book.scripts)
-  scripts_hold =
-      all_map unplaced_script IsScriptOfCharacters book.scripts
-      (all_by IsScriptOfCharacters (λ (s : Script). IsScriptOfCharacters (unplaced_script s)) book.scripts
-      (λ script is. subst (AllByRecursion IsLexemeOfCharacters) (sym (laws.spelled script)) is) scripts)
-
-  -- ---- transactions
-
-  entry_holds : (o : Option Entry) (number : ℕ) → numbered book.journal number ≡ o
-      → AllByRecursion IsAnswerOfCharacters (entry_answers o)
-  entry_holds (Some entry) number e =
-      of_all (AllByRecursion IsAnswerOfCharacters) (map answers_of book.journal) entry.answers left_keeps.1
-      (to_map answers_of book.journal entry (numbered_in book.journal number entry e))
-  entry_holds None number e = tt
-
-  fate_holds : (fate : Fate) → AllByRecursion IsAnswerOfCharacters (fate_answers book.journal fate)
-  fate_holds (fates.Committed number runs) = entry_holds (numbered book.journal number) number refl
-  fate_holds (fates.GaveUp runs) = tt
-  fate_holds (fates.RolledBack runs) = tt
-  fate_holds (fates.Failed failure runs) = tt
-
-  transactions_hold : AllByRecursion (λ (told : Told). AllByRecursion IsAnswerOfCharacters told.answers)
-      (map (told_fate book.journal) book.fates)
-  transactions_hold =
-      all_map (told_fate book.journal) (λ (told : Told). AllByRecursion IsAnswerOfCharacters told.answers) book.fates
-      (to_all (λ (fated : Fated). AllByRecursion IsAnswerOfCharacters (fate_answers book.journal fated.fate)) book.fates
-      (λ fated at. fate_holds fated.fate))
-
-  -- ---- joint answers
-
-  member_holds : (joint : JointAnswer) → In joint book.joint_answers → (member : Member) → In member joint.members
-      → IsRowOfCharacters member.grounding
-  member_holds joint jt member mt =
-      let seen = legal.no_widow member (in_contains (all_members book.joint_answers) member
-      (to_flat (λ (j : JointAnswer). j.members) book.joint_answers joint member jt mt)) in
-      subst (λ (m : Member). IsRowOfCharacters m.grounding) (sym seen.2)
-      (laws.read_views book.opening.tables legal.turns first seen.0 can_keep first_holds (all_grounded book legal)
-      seen.1)
-
-  abbrev IsMemberHeld : ToldMember → Type 0
-  IsMemberHeld told = IsRowOfCharacters told.member.grounding
-
-  abbrev IsJointHeld : ToldJoint → Type 0
-  IsJointHeld joint = AllByRecursion IsMemberHeld joint.members
-
-  joints_hold : AllByRecursion IsJointHeld (map (told_joint (map unplaced_script book.scripts)) book.joint_answers)
-  joints_hold =
-      all_map (told_joint (map unplaced_script book.scripts)) IsJointHeld book.joint_answers
-      (to_all (λ (joint : JointAnswer). IsJointHeld (told_joint (map unplaced_script book.scripts) joint))
-      book.joint_answers (λ joint jt.
-      all_map (told_member (map unplaced_script book.scripts)) IsMemberHeld joint.members
-      (to_all (λ (member : Member). IsRowOfCharacters member.grounding) joint.members (member_holds joint jt))))
-
-  -- ---- tables
-
-  tables_hold : (names : List Name)
-      → AllByRecursion (λ (shown : Shown). AllByRecursion IsRowOfCharacters shown.rows)
-      (map (shown_table book.database) names)
-  tables_hold names =
-      all_map (shown_table book.database) (λ (shown : Shown). AllByRecursion IsRowOfCharacters shown.rows) names
-      (to_all (λ (name : Name). AllByRecursion IsRowOfCharacters (set.ascending (book.database name))) names
-      (λ name at. laws.shows book.database name left_keeps.0))
-
-  pub holds_characters : HoldsCharacters (told_by (unplaced_book book))
-  holds_characters = record {
-    opening = opening_holds;
-    scripts = scripts_hold;
-    answers = transactions_hold;
-    groundings = joints_hold;
-    tables = tables_hold (names_by_bytes bare);
-  }
+  pub tables_are_told : (creates : List Create) → ((create : Create) → In create creates → Contains declared create)
+      → AreTablesOf creates (map (λ (create : Create). shown_table database create.name.name) creates)
+  tables_are_told [] among = tt
+  tables_are_told (create ∷ more) among = (
+    refl,
+    few_are_told create (among create (inl refl)),
+    rows_are_told create (among create (inl refl)),
+    tables_are_told more (λ other at. among other (inr at)),
+  )

@@ -3,18 +3,18 @@ ghost use Rattle.std.specs.Prelude.{◌≡◌, ℕ, List, Ok};
 ghost use Rattle.std.specs.Str.{IsUtf8};
 ghost use Rattle.ent_sql.specs.Reading.{reading};
 ghost use Rattle.ent_book.specs.Report2.{report_2_text};
-ghost use Rattle.ent_verdict.specs.Reportable.{CanBeReported};
+ghost use Rattle.ent_program_laws.specs.Reportable.{CanBeReported};
 ghost use Rattle.ent_semantics.specs.Book.{IsLegal};
 ghost use Rattle.ent_semantics.specs.Database.{Database};
 ghost use Rattle.ent_semantics.specs.declared.book.Book.{Book};
 
-use ent_answer_laws::{
+use crate::{
     histories_of_characters_have_texts_of_characters, openings_are_the_same_without_places,
-    runs_keep_texts, tables_keep_texts, texts_of_characters_say_characters,
+    reports_of_legal_books_are_told, runs_keep_texts, tables_keep_texts,
+    texts_of_characters_say_characters,
 };
 use ent_print::places_do_not_show;
 use ent_report_laws::told_histories_can_be_told;
-use ent_verdict::reports_of_legal_books_are_told;
 
 /// The report of a legal book that can be reported is a text of whole characters, where a text of whole characters says
 /// its opening and its scripts.

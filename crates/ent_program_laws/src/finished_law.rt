@@ -14,7 +14,7 @@ ghost use Rattle.ent_semantics.specs.declared.book.JointAnswer.{JointAnswer};
 ghost use Rattle.ent_semantics.specs.declared.book.Member.{Member};
 ghost use Rattle.ent_semantics.specs.Database.{Database};
 ghost use Rattle.ent_book.specs.Report2.{report_2_text};
-ghost use Rattle.ent_termination.specs.Fates.{HaveFates};
+ghost use Rattle.ent_protocol_laws.specs.Fates.{HaveFates};
 ghost use Rattle.ent_protocol.specs.Reached.{IsFinishedBook, IsReached};
 ghost use Rattle.ent_protocol.specs.Run.{Forms};
 ghost use Rattle.ent_protocol.specs.State.{State};
@@ -23,18 +23,18 @@ ghost use Rattle.ent_headline.specs.Resolved.{resolved_forms};
 ghost use Rattle.ent_check_report.specs.Verdicts.{IsVerdict};
 ghost use Rattle.ent_check_report.specs.declared.verdict.Verdict.TheVariants.{Yes};
 ghost use Rattle.ent_report_laws.specs.Read.{IsOpeningRead};
-ghost use Rattle.ent_verdict.specs.Reportable.{CanBeReported, CountsRuns};
+ghost use Rattle.ent_program_laws.specs.Reportable.{CanBeReported, CountsRuns};
 
 use crate::characters::reports_over_texts_are_of_characters;
-use ent_form::FormFault;
-use ent_form_laws::first_fault_is_first;
+use crate::reports_of_legal_books_are_right;
+use ent_form::{FormFault, first_fault_is_first};
 use ent_headline::{finished_books_are_legal, submitted_forms_are_resolved};
-use ent_protocol_laws::{attempts_stay_within, steps_go_on};
+use ent_protocol_laws::{
+    attempts_stay_within, events_lead_on, finished_scripts_have_fates, steps_go_on,
+};
 use ent_sql::reading_is_exact;
 use ent_sql_laws::read_scripts_can_be_printed;
-use ent_termination::{events_lead_on, finished_scripts_have_fates};
 use ent_text::reader_is_exact;
-use ent_verdict::reports_of_legal_books_are_right;
 
 /// In every state that is reached each joint answer names its members by rising number of their transactions.
 pub fn joint_answers_come_by_number<F>()

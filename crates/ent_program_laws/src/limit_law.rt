@@ -14,9 +14,9 @@ ghost use Rattle.ent_protocol.specs.Reached.{IsReached};
 ghost use Rattle.ent_protocol.specs.Run.{Forms};
 ghost use Rattle.ent_protocol.specs.State.{State, members};
 ghost use Rattle.ent_protocol.specs.Step.{Step};
-ghost use Rattle.ent_engine.specs.Reading.{IsInput, IsRefused};
-ghost use Rattle.ent_engine.specs.declared.fault.RunFault.TheVariants.{TooLong};
-ghost use Rattle.ent_engine.specs.declared.reader.TheConstants.{MOST_BYTES};
+ghost use Rattle.ent_input.specs.Reading.{IsInput, IsNoInput};
+ghost use Rattle.ent_input.specs.declared.fault.InputFault.TheVariants.{TooLong};
+ghost use Rattle.ent_input.specs.declared.reading.TheConstants.{MOST_BYTES};
 ghost use Rattle.ent_check_report.specs.declared.check.TheConstants.{MOST_REPORT_BYTES};
 
 use ent_protocol_laws::transactions_stand_once;
@@ -43,7 +43,7 @@ pub fn limits_are_numbers()
 /// An input has 16,777,216 bytes at most, and bytes are refused as too many exactly where there are more.
 pub fn inputs_are_16_777_216_bytes_at_most()
     ensures within { (bytes : List ℕ) (input : Input) → IsInput bytes input → length bytes ≤ 16777216 }
-    ensures refused { (bytes : List ℕ) → IsRefused bytes TooLong ↔ 16777216 < length bytes }
+    ensures refused { (bytes : List ℕ) → IsNoInput bytes TooLong ↔ 16777216 < length bytes }
 {}
 
 /// A script more than 10,000 is refused for that, and no other one is.

@@ -2,9 +2,10 @@
 ghost use Rattle.std.specs.Prelude.{◌≤◌, ℕ, List, length};
 ghost use Rattle.ent_check_report.specs.Verdicts.{IsVerdict};
 ghost use Rattle.ent_check_report.specs.declared.verdict.Verdict.TheVariants.{Yes};
-ghost use Rattle.ent_engine.specs.Reading.{IsInput};
-ghost use Rattle.ent_engine.specs.Report.{IsBookOf, text_of};
-ghost use Rattle.ent_engine.specs.declared.options.ReportVersion.TheVariants.{Two};
+ghost use Rattle.ent_book.specs.Version.{text_of};
+ghost use Rattle.ent_book.specs.declared.version.ReportVersion.TheVariants.{Two};
+ghost use Rattle.ent_core.specs.Book.{IsBookOf};
+ghost use Rattle.ent_input.specs.Reading.{IsInput};
 ghost use Rattle.ent_semantics.specs.Database.{Database};
 ghost use Rattle.ent_semantics.specs.declared.book.Book.{Book};
 ghost use Rattle.ent_tree.specs.declared.script.Input.{Input};

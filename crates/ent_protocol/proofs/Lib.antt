@@ -6,12 +6,3 @@ pub mod TidySteps
 pub mod Led
 pub mod Closing
 pub mod Numbering
-pub mod Inserted
-pub mod Alone
-pub mod OnCycles
-pub mod WritersPlay
-pub mod PartnersPool
-pub mod PartnersChoice
-pub mod PairAnswered
-pub mod PartnersPlay
-pub mod PairsPlay

@@ -12,7 +12,7 @@ use Rattle.ent_semantics.specs.Entangled.{Valuation}
 use Rattle.ent_semantics.specs.FormKinds.{changed_tables}
 use Rattle.ent_semantics.specs.declared.statement.Statement.{Statement}
 use Rattle.ent_semantics.specs.Form.{Tables}
-use Rattle.ent_coordination.specs.Pool.{Posted}
+use Rattle.ent_semantics.specs.Pool.{Posted}
 use Rattle.ent_protocol.specs.Begin.{replaced, with_member}
 use Rattle.ent_protocol.specs.Commit.{preparing, committing, committing_members}
 use Rattle.ent_protocol.specs.Finish.{finished, noted}

@@ -6,7 +6,7 @@ use Rattle.ent_value.specs.declared.value.Value.{Value}
 use Rattle.ent_lock.specs.Mode.{mode_rank}
 use Rattle.ent_semantics.specs.declared.entangled.Entangled.{Entangled}
 use Rattle.ent_semantics.specs.declared.statement.Statement.{Statement}
-use Rattle.ent_coordination.specs.Pool.{Posted, Unsafe, IsSafe, IsFirstUnsafe}
+use Rattle.ent_semantics.specs.Pool.{Posted, Unsafe, IsSafe, IsFirstUnsafe}
 use Rattle.ent_protocol.specs.Commit.{preparing, is_ready, committing, committing_members, commit_numbers}
 use Rattle.ent_protocol.specs.Event.{Reply}
 use Rattle.ent_protocol.specs.Event as replies

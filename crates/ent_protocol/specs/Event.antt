@@ -3,7 +3,7 @@ use Rattle.std.specs.Prelude.{ℕ, List}
 use Rattle.ent_tree.specs.declared.script.Script.{Script}
 use Rattle.ent_semantics.specs.declared.answer.Answer.{Answer}
 use Rattle.ent_semantics.specs.declared.answer.Failure.{Failure}
-use Rattle.ent_coordination.specs.Pool.{Unsafe}
+use Rattle.ent_semantics.specs.Pool.{Unsafe}
 use Rattle.ent_protocol.specs.Job.{Job, Done}
 
 pub data Event : Type 0 where

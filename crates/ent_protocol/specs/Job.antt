@@ -12,8 +12,8 @@ use Rattle.ent_semantics.specs.FormKinds.{changed_tables}
 use Rattle.ent_semantics.specs.declared.entangled.Entangled.{Entangled}
 use Rattle.ent_semantics.specs.declared.statement.Statement.{Statement}
 use Rattle.ent_semantics.specs.Form.{Tables, closed_worth, form_meaning}
-use Rattle.ent_coordination.specs.Choice.{IsLeastChoiceIfAny}
-use Rattle.ent_coordination.specs.Pool.{Posted}
+use Rattle.ent_semantics.specs.Choice.{IsLeastChoiceIfAny}
+use Rattle.ent_semantics.specs.Pool.{Posted}
 
 -- a closed statement of a transaction, of this attempt and at this place
 pub record Single : Type 0 where

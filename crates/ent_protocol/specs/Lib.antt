@@ -15,9 +15,6 @@ pub mod Step
 pub mod Reached
 pub mod Lookup
 pub mod Play
-pub mod Writers
-pub mod Partners
-pub mod Pairs
 pub mod Tidy
 pub mod Numbers
 pub mod PostedBy

@@ -16,7 +16,7 @@ use Rattle.ent_semantics.specs.declared.entangled.Entangled.{Entangled}
 use Rattle.ent_semantics.specs.declared.operand.Known.{Known}
 use Rattle.ent_semantics.specs.declared.statement.Statement.{Statement}
 use Rattle.ent_semantics.specs.declared.statement.Statement.TheVariants as statements
-use Rattle.ent_coordination.specs.Pool.{Posted}
+use Rattle.ent_semantics.specs.Pool.{Posted}
 use Rattle.ent_protocol.specs.Job.{Job, Work, One, Joint, Numbered}
 use Rattle.ent_protocol.specs.State.{State, Submitted, Member, Use, first_of}
 

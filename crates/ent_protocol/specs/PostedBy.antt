@@ -6,8 +6,8 @@ use Rattle.ent_semantics.specs.Serial.{numbered}
 use Rattle.ent_semantics.specs.Closing.{closed}
 use Rattle.ent_semantics.specs.declared.operand.Known.{Known}
 use Rattle.ent_semantics.specs.declared.statement.Statement.{Statement}
-use Rattle.ent_coordination.specs.Component.{IsComponent}
-use Rattle.ent_coordination.specs.Pool.{Posted}
+use Rattle.ent_semantics.specs.Component.{IsComponent}
+use Rattle.ent_semantics.specs.Pool.{Posted}
 use Rattle.ent_lists.specs.Elements.{In, contains_in, in_contains, in_flat, to_flat}
 use Rattle.ent_protocol.specs.Member.{Next, Ordinary, Asks, Commits, RollsBack}
 use Rattle.ent_protocol.specs.Member.{next_in, next_of, pool, posted_as, posted_by}

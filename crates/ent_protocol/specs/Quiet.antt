@@ -3,7 +3,7 @@ use Rattle.std.specs.Prelude.{◌≡◌, ◌⊎◌, ℕ, ◌||◌, true, false, 
 use Rattle.ent_value.specs.declared.value.Value.{Value}
 use Rattle.ent_lock.specs.Use.{IsLeast}
 use Rattle.ent_semantics.specs.declared.entangled.Entangled.{Entangled}
-use Rattle.ent_coordination.specs.Pool.{IsSafe, Posted, first_tx}
+use Rattle.ent_semantics.specs.Pool.{IsSafe, Posted, first_tx}
 use Rattle.ent_protocol.specs.Begin.{pool_with}
 use Rattle.ent_protocol.specs.Event.{Reason, JobOut, CanBegin, Untried, Cycle}
 use Rattle.ent_protocol.specs.Member.{Next, Ordinary, Asks, Commits, RollsBack, next_of, is_lent}

@@ -8,7 +8,6 @@
 mod law;
 
 pub use law::{
-    closing_gives_the_book, commits_are_numbered, joint_answers_stand_as_made,
-    partner_passes_a_prepared_lock, played_states_are_gathered, plays_lead_on,
-    reached_states_are_tidy, refusals_change_nothing, two_writers_deadlock,
+    closing_gives_the_book, commits_are_numbered, played_states_are_gathered, plays_lead_on,
+    reached_states_are_tidy, refusals_change_nothing,
 };

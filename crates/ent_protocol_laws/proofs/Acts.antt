@@ -9,8 +9,8 @@ use Rattle.ent_semantics.specs.declared.entangled.Entangled.{Entangled}
 use Rattle.ent_semantics.specs.declared.operand.Known.{Known}
 use Rattle.ent_semantics.specs.declared.statement.Statement.{Statement}
 use Rattle.ent_semantics.specs.Form.{Tables}
-use Rattle.ent_coordination.specs.Choice.{AreGroundings, IsLeastChoiceIfAny}
-use Rattle.ent_coordination.specs.Pool.{IsSafe, Posted}
+use Rattle.ent_semantics.specs.Choice.{AreGroundings, IsLeastChoiceIfAny}
+use Rattle.ent_semantics.specs.Pool.{IsSafe, Posted}
 use Rattle.ent_protocol.specs.Begin.{BeginsOrdinary, Posts, BeginsEntangled, BeginsCommit, BeginsNext, BeginsUnless}
 use Rattle.ent_protocol.specs.Begin.{BeginsMember, lending, posting, pool_with}
 use Rattle.ent_protocol.specs.Commit.{preparing, committing, is_ready}

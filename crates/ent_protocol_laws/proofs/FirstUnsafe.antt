@@ -5,7 +5,7 @@ use Rattle.std.proofs.lemmas.Bool.{ltb-false}
 use Rattle.std.specs.Ordering.{nat_cmp, ordering_then}
 use Rattle.std.specs.declared.cmp.Ordering.{Ordering}
 use Rattle.std.specs.declared.cmp.Ordering.TheVariants.{Less, Equal, Greater}
-use Rattle.ent_coordination.specs.Pool.{Posted, Unsafe, IsFirstUnsafe, unsafe_cmp}
+use Rattle.ent_semantics.specs.Pool.{Posted, Unsafe, IsFirstUnsafe, unsafe_cmp}
 use Rattle.ent_protocol.specs.Member.{pool}
 
 -- ---- one first fault

@@ -6,7 +6,7 @@ use Rattle.std.specs.List.{filter, list_any}
 use Rattle.ent_value.specs.declared.value.Value.{Value}
 use Rattle.ent_semantics.specs.Entangled.{Valuation}
 use Rattle.ent_semantics.specs.declared.statement.Statement.{Statement}
-use Rattle.ent_coordination.specs.Pool.{Posted}
+use Rattle.ent_semantics.specs.Pool.{Posted}
 use Rattle.ent_protocol.specs.Begin.{lending, posting, replaced}
 use Rattle.ent_protocol.specs.Commit.{committing, is_ready, preparing}
 use Rattle.ent_protocol.specs.Event.{Event, Reply}

@@ -5,7 +5,7 @@ use Rattle.std.specs.List.{AllByRecursion, filter}
 use Rattle.ent_value.specs.declared.value.Value.{Value}
 use Rattle.ent_semantics.specs.Entangled.{Valuation}
 use Rattle.ent_semantics.specs.declared.statement.Statement.{Statement}
-use Rattle.ent_coordination.specs.Pool.{Posted}
+use Rattle.ent_semantics.specs.Pool.{Posted}
 use Rattle.ent_protocol.specs.Begin.{replaced, holding, single_job, lending}
 use Rattle.ent_protocol.specs.Commit.{preparing}
 use Rattle.ent_protocol.specs.Finish.{IsTaken, finished}

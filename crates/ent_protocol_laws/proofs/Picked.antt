@@ -2,8 +2,8 @@
 use Rattle.std.proofs.Common.{◌≡◌, ◌↔◌, ◌<◌, inl, List, [], ◌∷◌, refl, sym, subst, ◌∙◌}
 use Rattle.std.proofs.Common.{Contains}
 use Rattle.ent_protocol_laws.proofs.ByNumber.{posted_tx}
-use Rattle.ent_coordination.specs.Component.{IsComponent}
-use Rattle.ent_coordination.specs.Pool.{Posted, first_tx}
+use Rattle.ent_semantics.specs.Component.{IsComponent}
+use Rattle.ent_semantics.specs.Pool.{Posted, first_tx}
 use Rattle.ent_protocol.specs.Member.{pool}
 use Rattle.ent_protocol.specs.PoolEvents.{IsPresentComponent}
 use Rattle.ent_protocol.specs.PostedBy.{is_present}

@@ -3,7 +3,7 @@
 use Rattle.std.proofs.Common.{◌≡◌, false, List, sym, ap, subst, ◌∙◌, arith}
 use Rattle.ent_value.specs.declared.value.Value.{Value}
 use Rattle.ent_semantics.specs.declared.entangled.Entangled.{Entangled}
-use Rattle.ent_coordination.specs.Pool.{Posted, Unsafe, IsSafe, IsFirstUnsafe, CanMeet}
+use Rattle.ent_semantics.specs.Pool.{Posted, Unsafe, IsSafe, IsFirstUnsafe, CanMeet}
 use Rattle.ent_lists.specs.Elements.{In, Pairs, clash, index_pairs, pairs_behind, contains_in}
 use Rattle.ent_protocol.specs.Begin.{pool_with}
 use Rattle.ent_protocol.specs.Member.{pool, posted_as}

@@ -11,7 +11,7 @@ use Rattle.ent_semantics.specs.Serial.{numbered}
 use Rattle.ent_semantics.specs.declared.entangled.Entangled.{Entangled}
 use Rattle.ent_semantics.specs.declared.operand.Known.{Known}
 use Rattle.ent_semantics.specs.declared.statement.Statement.{Statement}
-use Rattle.ent_coordination.specs.Pool.{CanMeet, IsSafe, Posted}
+use Rattle.ent_semantics.specs.Pool.{CanMeet, IsSafe, Posted}
 use Rattle.ent_protocol.specs.Begin.{holding, pool_with, posting, replaced}
 use Rattle.ent_protocol.specs.Finish.{finished}
 use Rattle.ent_protocol.specs.Job.{Job, Outcome, Shown, Changed, Bound, Choice, Fault}

@@ -5,8 +5,8 @@ use Rattle.std.specs.List.{filter, list_any}
 use Rattle.ent_semantics.specs.declared.book.JointAnswer.{JointAnswer}
 use Rattle.ent_semantics.specs.Entangled.{Valuation}
 use Rattle.ent_semantics.specs.Form.{Tables}
-use Rattle.ent_coordination.specs.Choice.{AreGroundings}
-use Rattle.ent_coordination.specs.Pool.{Posted}
+use Rattle.ent_semantics.specs.Choice.{AreGroundings}
+use Rattle.ent_semantics.specs.Pool.{Posted}
 use Rattle.ent_protocol.specs.Job.{Job}
 use Rattle.ent_protocol.specs.Member.{is_tx}
 use Rattle.ent_protocol.specs.PoolEvents.{IsPresentComponent, joining, in_joined_group, answered_among, answered_by}

@@ -1,7 +1,7 @@
 -- Members are told by their numbers, and stand by number.
 use Rattle.std.specs.Prelude.{◌<◌, map, AllPairs, nat_eq}
 use Rattle.std.specs.List.{IsDistinct}
-use Rattle.ent_coordination.specs.Pool.{Posted}
+use Rattle.ent_semantics.specs.Pool.{Posted}
 use Rattle.ent_protocol.specs.Member.{pool}
 use Rattle.ent_protocol.specs.State.{State, Member, members}
 

@@ -17,7 +17,7 @@ use Rattle.ent_semantics.specs.Kinds.{RowsHaveKinds}
 use Rattle.ent_book.proofs.Ascending.{count_of_ascending}
 use Rattle.ent_form.specs.Catalogue.{column_schema, table_schema}
 use Rattle.ent_form.specs.declared.catalogue.ColumnSchema.{ColumnSchema}
-use Rattle.ent_form_laws.specs.Kinds.{column_kinds}
+use Rattle.ent_form.specs.TableKinds.{column_kinds}
 use Rattle.ent_lists.specs.Elements.{nth_in, of_all}
 use Rattle.ent_semantics.proofs.EachRow.{to_ascending}
 use Rattle.ent_renewal.specs.Renewal.{rows_together}

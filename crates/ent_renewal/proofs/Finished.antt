@@ -5,10 +5,10 @@ use Rattle.ent_tree.specs.declared.script.Script.{Script}
 use Rattle.ent_semantics.specs.Database.{Database}
 use Rattle.ent_semantics.specs.declared.book.Book.{Book}
 use Rattle.ent_form.specs.OpeningFault.{opening_fault}
-use Rattle.ent_form_laws.proofs.Opened.{declared_once}
+use Rattle.ent_form.proofs.Opened.{declared_once}
 use Rattle.ent_protocol.specs.Reached.{IsFinishedBook, IsReached, settled, table_names, named_tables}
 use Rattle.ent_protocol.specs.State.{State}
-use Rattle.ent_serializability.proofs.Books.{named_same}
+use Rattle.ent_protocol_laws.proofs.Books.{named_same}
 use Rattle.ent_headline.specs.Kinds.{HasSettledKinds, HoldsKinds}
 use Rattle.ent_headline.specs.Resolved.{resolved_forms}
 use Rattle.ent_renewal.specs.Renewal.{HoldsTablesOf}

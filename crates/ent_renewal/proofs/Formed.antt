@@ -19,8 +19,8 @@ use Rattle.ent_form.specs.OpeningFault.{opening_fault, opening_row_fault, row_fa
 use Rattle.ent_form.specs.declared.catalogue.ColumnSchema.{ColumnSchema}
 use Rattle.ent_form.specs.declared.catalogue.TableSchema.{TableSchema}
 use Rattle.ent_form.specs.declared.fault.FormFault.TheVariants.{Arity, NoTable, WrongKind}
-use Rattle.ent_form_laws.specs.Kinds.{column_kinds}
-use Rattle.ent_form_laws.proofs.Steps.{both_nothing}
+use Rattle.ent_form.specs.TableKinds.{column_kinds}
+use Rattle.ent_form.proofs.ResolvedSteps.{both_nothing}
 use Rattle.ent_lists.specs.Elements.{In, all_index, any_in, number_itself}
 use Rattle.ent_value.specs.Kinds.{kind_itself, same_kind}
 use Rattle.ent_semantics.proofs.EachRow.{to_ascending}

@@ -4,9 +4,9 @@ use Rattle.ent_tree.specs.declared.declaration.Create.{Create}
 use Rattle.ent_semantics.specs.Form.{Tables}
 use Rattle.ent_form.specs.Catalogue.{schemas_of}
 use Rattle.ent_form.specs.OpeningFault.{declarations_fault}
-use Rattle.ent_form_laws.specs.Kinds.{AreKinded}
-use Rattle.ent_form_laws.specs.Tables.{database_of}
-use Rattle.ent_form_laws.proofs.NamesApart.{kinds_under, names_apart, nothing_under}
+use Rattle.ent_form.specs.TableKinds.{AreKinded}
+use Rattle.ent_form.specs.Tables.{database_of}
+use Rattle.ent_form.proofs.NamesApart.{kinds_under, names_apart, nothing_under}
 use Rattle.ent_lists.specs.Elements.{nth_in}
 use Rattle.ent_renewal.specs.Renewal.{HoldsTablesOf}
 

@@ -8,7 +8,7 @@ use Rattle.ent_semantics.specs.Database.{Database, Name, is_among, opening_datab
 use Rattle.ent_semantics.specs.Kinds.{RowsHaveKinds}
 use Rattle.ent_form.specs.Catalogue.{table_schema}
 use Rattle.ent_form.specs.OpeningFault.{opening_fault}
-use Rattle.ent_form_laws.specs.Kinds.{column_kinds}
+use Rattle.ent_form.specs.TableKinds.{column_kinds}
 use Rattle.ent_protocol.specs.Reached.{named_tables, opened, table_names}
 use Rattle.ent_protocol.specs.State.{State}
 

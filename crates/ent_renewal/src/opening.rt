@@ -5,7 +5,7 @@ ghost use Rattle.ent_semantics.specs.Kinds.{RowsHaveKinds};
 ghost use Rattle.ent_book.specs.Tables.{tables_database};
 ghost use Rattle.ent_form.specs.Catalogue.{table_schema};
 ghost use Rattle.ent_form.specs.OpeningFault.{declarations_fault, opening_fault};
-ghost use Rattle.ent_form_laws.specs.Kinds.{column_kinds};
+ghost use Rattle.ent_form.specs.TableKinds.{column_kinds};
 ghost use Rattle.ent_protocol.specs.Reached.{opened};
 ghost use Rattle.ent_renewal.specs.Renewal.{GoesOn, HoldsTablesOf, IsRenewed, drained, rows_together};
 ghost use Rattle.ent_renewal.specs.Rows.{opening_rows};

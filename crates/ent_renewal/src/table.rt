@@ -3,7 +3,7 @@ ghost use Rattle.std.specs.Prelude.{◌≡◌, ◌≤◌, ◌+◌, ◌++◌, OnO
 ghost use Rattle.ent_lists.specs.Sets as set;
 ghost use Rattle.ent_semantics.specs.Kinds.{RowsHaveKinds};
 ghost use Rattle.ent_form.specs.Catalogue.{table_schema};
-ghost use Rattle.ent_form_laws.specs.Kinds.{column_kinds};
+ghost use Rattle.ent_form.specs.TableKinds.{column_kinds};
 ghost use Rattle.ent_renewal.specs.Renewal.{rows_together};
 ghost use Rattle.ent_renewal.specs.Rows.{table_rows};
 

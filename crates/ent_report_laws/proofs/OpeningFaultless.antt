@@ -3,7 +3,7 @@ use Rattle.std.proofs.Common.{◌≡◌, ℕ, Bool, true, false, cond, ◌==◌,
 use Rattle.std.proofs.Common.{ap, ◌∙◌, inl, inr, Option, Some, None}
 use Rattle.std.specs.List.{AllByRecursion}
 use Rattle.std.proofs.lemmas.List.{length-map}
-use Rattle.ent_form_laws.proofs.Steps.{both_nothing}
+use Rattle.ent_form.proofs.ResolvedSteps.{both_nothing}
 use Rattle.ent_lists.specs.Elements.{In, Pairs, any_some, clash, in_either, in_flat, not_so, of_all, of_map, to_all}
 use Rattle.ent_lists.specs.Sets as set
 use Rattle.ent_value.specs.Value.{kind_of}

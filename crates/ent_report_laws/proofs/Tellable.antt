@@ -19,10 +19,10 @@ use Rattle.ent_semantics.specs.Kinds.{RowsHaveKinds}
 use Rattle.ent_semantics.specs.Names.{name_itself}
 use Rattle.ent_form.specs.OpeningFault.{opening_fault, refused_where, repeated}
 use Rattle.ent_form.specs.declared.fault.FormFault.TheVariants.{Repeated}
-use Rattle.ent_form_laws.specs.Kinds.{AreKinded, column_kinds}
-use Rattle.ent_form_laws.specs.Opened.{opening_tables}
-use Rattle.ent_form_laws.proofs.NamesApart.{schema_kinds}
-use Rattle.ent_form_laws.proofs.Steps.{not_refused}
+use Rattle.ent_form.specs.TableKinds.{AreKinded, column_kinds}
+use Rattle.ent_form.specs.Opened.{opening_tables}
+use Rattle.ent_form.proofs.NamesApart.{schema_kinds}
+use Rattle.ent_form.proofs.ResolvedSteps.{not_refused}
 use Rattle.ent_book.specs.Report.{names_by_bytes}
 use Rattle.ent_history.specs.Told.{declared_under, opening_row, told_opening, told_rows}
 use Rattle.ent_history.specs.Opening.{IsDeclaration}

@@ -17,7 +17,7 @@ ghost use Rattle.ent_semantics.specs.declared.book.Book.{Book};
 ghost use Rattle.ent_tree.specs.declared.limits.TheConstants.{MOST_SCRIPTS};
 
 use crate::declared_tables::resolved_scripts_keep_to_declared_tables;
-use ent_form_laws::first_fault_is_first;
+use ent_form::first_fault_is_first;
 use ent_history::reports_tell_of_books;
 
 /// A text that tells a history is that history's.

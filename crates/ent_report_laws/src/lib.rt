@@ -1,13 +1,10 @@
-//! What the form of a report gives: what its text is, and what is known of the history that it tells.
+//! Laws of the form of a report: what its text is, what is known of the history that it tells, and that the order of an
+//! opening makes no difference.
 //!
-//! Scripts that resolve change declared tables only, and opening rows stand in declared ones. The functions here have
-//! no body: their contracts are laws of the definitions of the form.
-//!
-//! That the order of an opening makes no difference: in which its tables are declared, and in which its rows stand.
-//!
-//! A report of version 2 shows the tables of an opening by name, and the rows of each ascending, each once. The
-//! functions here have no body: their contracts are laws of what such an opening means, and any other that has the same
-//! table and the same rows under each name; and of which openings a report can show.
+//! Scripts that resolve change declared tables only, and opening rows stand in declared ones. A report of version 2
+//! shows the tables of an opening by name, and the rows of each ascending, each once. So laws say what such an opening
+//! means, and any other that has the same table and the same rows under each name; and which openings a report can
+//! show. The functions here have no body: their contracts are laws of the definitions.
 #![tactic(auto)]
 
 mod declared_tables;

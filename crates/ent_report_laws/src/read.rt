@@ -6,7 +6,7 @@ ghost use Rattle.ent_report_laws.specs.Read.{AreUnplaced, IsOpeningRead};
 ghost use Rattle.ent_report_laws.specs.Tellable.{IsOpeningTold};
 ghost use Rattle.ent_tree.specs.declared.declaration.Opening.{Opening};
 
-use ent_form_laws::opening_tables_are_kinded;
+use ent_form::opening_tables_are_kinded;
 
 /// An opening such as an input has, whose tables are without places, can be told as a report shows it, where it has no
 /// fault of form. The places of its rows are of no account, since none of them is shown.

@@ -18,12 +18,12 @@ use Rattle.std.proofs.lemmas.Option.{same_Some}
 use Rattle.ent_tree.specs.declared.limits.TheConstants.{MOST_STATEMENTS}
 use Rattle.ent_semantics.specs.declared.answer.Fact.{Fact}
 use Rattle.ent_book.specs.Report.{facts_text}
-use Rattle.ent_report_lines.specs.Heads.{heads_line}
+use Rattle.ent_history.specs.Heads.{heads_line}
 use Rattle.ent_history.specs.declared.history.Told.{Told}
 use Rattle.ent_history.specs.Draft.{Draft, Due, AnswerRows, answer_due, on_last, rows_due}
 use Rattle.ent_history.specs.Answers.{AnswerStands, answers_so_far, with_answer}
 use Rattle.ent_report_reader.specs.Due.{AnswersAreNext}
-use Rattle.ent_report_lines.specs.Counts.{placed_line, set_line}
+use Rattle.ent_history.specs.Counts.{placed_line, set_line}
 use Rattle.ent_history.specs.Parts.{IsNumber}
 use Rattle.ent_history.specs.Answers.{HasSoMany, IsAnswer, IsOfSort, answer_line_text}
 use Rattle.ent_report_reader.specs.Reading.{IsAnswerLine, IsHeadsLine, IsPlacedLine, IsSetLine, Reads}

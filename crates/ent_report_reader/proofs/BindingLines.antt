@@ -19,12 +19,12 @@ use Rattle.ent_text.specs.Written.{IsOver, IsValue}
 use Rattle.ent_text.proofs.Numbers.{chosen, read_of, is_first, is_rest, number_found, number_again}
 use Rattle.ent_text.proofs.Values.{bind_ok, value_found, value_again}
 use Rattle.ent_text.proofs.Rows.{behind_found, behind_again}
-use Rattle.ent_report_lines.specs.Bindings.{member_line}
-use Rattle.ent_report_lines.proofs.Steps.{bind_with, same_ok, no_bytes}
-use Rattle.ent_report_lines.specs.Listing.{listed_at}
-use Rattle.ent_report_lines.specs.Names.{name_at}
-use Rattle.ent_report_lines.proofs.Listing.{listed_found, listed_again, shorter_than_text}
-use Rattle.ent_report_lines.proofs.Names.{name_found, name_again}
+use Rattle.ent_history.specs.Bindings.{member_line}
+use Rattle.ent_history.proofs.Steps.{bind_with, same_ok, no_bytes}
+use Rattle.ent_history.specs.Listing.{listed_at}
+use Rattle.ent_history.specs.Names.{name_at}
+use Rattle.ent_history.proofs.Listing.{listed_found, listed_again, shorter_than_text}
+use Rattle.ent_history.proofs.Names.{name_found, name_again}
 use Rattle.ent_report_reader.specs.declared.bindings.Bound.{Bound}
 use Rattle.ent_report_reader.specs.Bindings.{all_bound_at, any_member_at, bound_at, bound_of, values_of, variables_of}
 

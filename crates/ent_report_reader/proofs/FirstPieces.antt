@@ -9,13 +9,13 @@ use denote.Ref.{Bor}
 use Rattle.ent_print.specs.Printing.{script_text}
 use Rattle.ent_book.specs.Report.{line}
 use Rattle.ent_book.specs.Report2.{line_count}
-use Rattle.ent_report_lines.specs.Scripts as sections
+use Rattle.ent_history.specs.ScriptLines as sections
 use Rattle.ent_history.specs.Draft.{Draft}
 use Rattle.ent_history.specs.Scripts.{ScriptStands}
 use Rattle.ent_history.specs.Stands.{Stands}
 use Rattle.ent_history.specs.Stands as stands
 use Rattle.ent_history.specs.Fault.{NothingStands}
-use Rattle.ent_report_lines.proofs.BreaksOff.{is_numbered, no_more, same_line}
+use Rattle.ent_history.proofs.BreaksOff.{is_numbered, no_more, same_line}
 use Rattle.ent_report_reader.specs.Taking.{NoLine}
 use Rattle.ent_report_reader.specs.Lines.{IsFirstLine}
 use Rattle.ent_report_reader.specs.Steps.{NoScript, Steps, StepsScript, TakesPiece}

@@ -12,9 +12,9 @@ use Rattle.ent_lists.specs.Elements.{both_and}
 use Rattle.ent_text.specs.Spelling.{is_in_line}
 use Rattle.ent_book.specs.Report.{line}
 use Rattle.ent_book.specs.Report2.{line_count}
-use Rattle.ent_report_lines.specs.Begins.{HasWholeLines}
-use Rattle.ent_report_lines.proofs.InLine.{IsInLine}
-use Rattle.ent_report_lines.proofs.Lines.{count_append, none_in_line}
+use Rattle.ent_history.specs.Begins.{HasWholeLines}
+use Rattle.ent_history.proofs.InLine.{IsInLine}
+use Rattle.ent_history.proofs.Lines.{count_append, none_in_line}
 use Rattle.ent_report_reader.specs.Lines.{AreFrontLines, IsFirstLine}
 
 -- ---- the first line

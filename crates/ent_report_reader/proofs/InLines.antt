@@ -7,8 +7,8 @@ use Rattle.std.specs.Fmt.{decimal, digit_glyph, digits, digits_onto}
 use Rattle.std.proofs.lemmas.Bool.{ne_eqb}
 use Rattle.ent_lists.specs.Elements.{both_and}
 use Rattle.ent_text.specs.Spelling.{is_in_line}
-use Rattle.ent_report_lines.specs.Scripts.{script_text}
-use Rattle.ent_report_lines.proofs.InLine.{IsInLine, in_line_append}
+use Rattle.ent_history.specs.ScriptLines.{script_text}
+use Rattle.ent_history.proofs.InLine.{IsInLine, in_line_append}
 
 other_byte : (b : ℕ) → (b ≡ 10 → ⊥) → is_in_line b ≡ true
 other_byte b other = ap not (ne_eqb b 10 other)

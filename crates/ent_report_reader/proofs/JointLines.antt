@@ -2,7 +2,7 @@
 use Rattle.std.proofs.Common.{◌≡◌, ℕ, ◌+◌, ◌<◌, List, [], ◌∷◌, ◌++◌, length, ap, ◌∙◌, arith}
 use Rattle.ent_book.specs.Report.{line}
 use Rattle.ent_history.specs.declared.history.ToldJoint.{ToldJoint}
-use Rattle.ent_report_lines.specs.Joints.{joint_text}
+use Rattle.ent_history.specs.JointLines.{joint_text}
 use Rattle.ent_history.specs.Draft.{Draft, Due, members_due}
 use Rattle.ent_history.specs.Joints.{JointStands}
 use Rattle.ent_report_reader.specs.Due.{TablesAreNext}

@@ -12,7 +12,7 @@ use Rattle.ent_text.specs.declared.line_fault.LineFault.TheVariants.{Misfit}
 use Rattle.ent_text.specs.Pieces.{Read, row_at}
 use Rattle.ent_text.proofs.Numbers.{chosen}
 use Rattle.ent_text.proofs.Values.{bind_ok}
-use Rattle.ent_report_lines.proofs.Steps.{no_bytes, same_ok}
+use Rattle.ent_history.proofs.Steps.{no_bytes, same_ok}
 use Rattle.ent_history.specs.Parts.{IsRow}
 use Rattle.ent_report_reader.specs.Reading.{Reads, IsRowLine, whole_row_at}
 

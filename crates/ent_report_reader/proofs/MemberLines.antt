@@ -32,7 +32,7 @@ use Rattle.ent_history.specs.Draft.{members_due, on_last}
 use Rattle.ent_history.specs.Joints.{Binds, MemberStands, PlacesRise, binds_of, member_binds, member_told}
 use Rattle.ent_history.specs.Joints.{resolved_at, script_binds, with_member}
 use Rattle.ent_history.specs.Parts.{IsName, IsValue}
-use Rattle.ent_report_lines.specs.Bindings.{member_line}
+use Rattle.ent_history.specs.Bindings.{member_line}
 use Rattle.ent_report_reader.specs.Bindings.{IsAnyMember, IsKnownMember, bound_of, values_of, variables_of}
 use Rattle.ent_report_reader.specs.declared.bindings.Bound.{Bound}
 use Rattle.ent_report_reader.specs.Judging.{Finds, Judges, Unless}

@@ -28,9 +28,9 @@ use Rattle.ent_semantics.specs.declared.book.Fate.{Fate}
 use Rattle.ent_semantics.specs.declared.book.Fate.TheVariants as fates
 use Rattle.ent_book.specs.Report.{line, after_text, fact_text, facts_text, fate_text}
 use Rattle.ent_book.specs.Report2.{bindings_text, column_text, columns_text, kind_text, more_columns_text}
-use Rattle.ent_report_lines.specs.Fates.{transaction_text}
-use Rattle.ent_report_lines.specs.Joints.{joint_text}
-use Rattle.ent_report_lines.specs.Openings.{opening_text}
+use Rattle.ent_history.specs.Fates.{transaction_text}
+use Rattle.ent_history.specs.JointLines.{joint_text}
+use Rattle.ent_history.specs.Openings.{opening_text}
 use Rattle.ent_history.specs.Parts.{IsName, IsRow, IsValue}
 use Rattle.ent_history.specs.Draft.{Draft}
 use Rattle.ent_history.specs.Opening.{HeadingStands, IsDeclaration, OpeningRowStands, OpeningStands}
@@ -41,7 +41,7 @@ use Rattle.ent_history.specs.Tables.{EndStands, TableRowStands, TableStands}
 use Rattle.ent_history.specs.Scripts.{ScriptStands}
 use Rattle.ent_history.specs.Stands.{Stands}
 use Rattle.ent_history.specs.Stands as stands
-use Rattle.ent_report_lines.proofs.InLine.{IsInLine, in_line_append, kind_in_line, word_in_line}
+use Rattle.ent_history.proofs.InLine.{IsInLine, in_line_append, kind_in_line, word_in_line}
 use Rattle.ent_report_reader.specs.Members.{BindsWords, MemberHasWords}
 use Rattle.ent_report_reader.proofs.InLines.{number_in_line}
 

@@ -5,7 +5,7 @@ use Rattle.ent_tree.specs.declared.declaration.Create.{Create}
 use Rattle.ent_tree.specs.declared.declaration.Opening.{Opening}
 use Rattle.ent_tree.specs.declared.limits.TheConstants.{MOST_OPENING_ROWS}
 use Rattle.ent_book.specs.Report.{line}
-use Rattle.ent_report_lines.specs.Openings.{opening_text}
+use Rattle.ent_history.specs.Openings.{opening_text}
 use Rattle.ent_history.specs.Draft.{Draft, Due, OpeningRows, rows_due}
 use Rattle.ent_history.specs.Opening.{OpeningStands, with_table}
 use Rattle.ent_report_reader.specs.Opened.{Opens}

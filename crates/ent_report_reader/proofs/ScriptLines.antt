@@ -7,11 +7,11 @@ use Rattle.ent_print.specs.Printing.{script_text}
 use Rattle.ent_book.specs.Report.{line}
 use Rattle.ent_book.specs.Report2.{line_count}
 use Rattle.ent_text.specs.declared.line_fault.LineFault.{LineFault}
-use Rattle.ent_report_lines.specs.Scripts as sections
+use Rattle.ent_history.specs.ScriptLines as sections
 use Rattle.ent_history.specs.Draft.{Draft}
 use Rattle.ent_history.specs.Scripts.{IsScript, ScriptIsNext, ScriptStands}
-use Rattle.ent_report_lines.specs.Begins.{script_line}
-use Rattle.ent_report_lines.proofs.BreaksOff.{is_numbered, same_line}
+use Rattle.ent_history.specs.Begins.{script_line}
+use Rattle.ent_history.proofs.BreaksOff.{is_numbered, same_line}
 use Rattle.ent_report_reader.specs.Reading.{Reads}
 use Rattle.ent_report_reader.specs.Scripts.{IsNumberedLine, IsScriptLine}
 use Rattle.ent_report_reader.proofs.InLines.{script_line_in_line}

@@ -5,17 +5,17 @@ use Rattle.ent_tree.specs.declared.script.Script.{Script}
 use Rattle.ent_print.specs.Printing.{script_text}
 use Rattle.ent_book.specs.Report.{line}
 use Rattle.ent_book.specs.Report2.{line_count, numbered_script_text}
-use Rattle.ent_report_lines.specs.Scripts as sections
+use Rattle.ent_history.specs.ScriptLines as sections
 use Rattle.ent_history.specs.declared.history.History.{History}
 use Rattle.ent_history.specs.Draft.{Draft}
 use Rattle.ent_history.specs.Scripts.{IsScript, ScriptBreaksOff, ScriptIsNext, ScriptStands}
 use Rattle.ent_history.specs.Stands as stands
-use Rattle.ent_report_lines.specs.Begins.{BeginsScript, HasWholeLines, script_line}
-use Rattle.ent_report_lines.proofs.InLine.{IsInLine}
-use Rattle.ent_report_lines.proofs.Lines.{count_append, end_is_line, begin_text, line_text, script_is}
-use Rattle.ent_report_lines.proofs.Begun.{script_count}
-use Rattle.ent_report_lines.proofs.Cut.{peel}
-use Rattle.ent_report_lines.proofs.BreaksOff.{is_numbered, most, no_more, same_count, same_line}
+use Rattle.ent_history.specs.Begins.{BeginsScript, HasWholeLines, script_line}
+use Rattle.ent_history.proofs.InLine.{IsInLine}
+use Rattle.ent_history.proofs.Lines.{count_append, end_is_line, begin_text, line_text, script_is}
+use Rattle.ent_history.proofs.Begun.{script_count}
+use Rattle.ent_history.proofs.Cut.{peel}
+use Rattle.ent_history.proofs.BreaksOff.{is_numbered, most, no_more, same_count, same_line}
 use Rattle.ent_report_reader.specs.Judging.{Cannot, Judges}
 use Rattle.ent_report_reader.specs.Reading.{Reads}
 use Rattle.ent_report_reader.specs.Scripts.{IsScriptLine}

@@ -7,7 +7,7 @@ use Rattle.ent_value.specs.declared.value.Value.{Value}
 use Rattle.ent_tree.specs.declared.declaration.Create.{Create}
 use Rattle.ent_book.specs.Report.{line}
 use Rattle.ent_history.specs.declared.history.Shown.{Shown}
-use Rattle.ent_report_lines.specs.Counts.{table_line}
+use Rattle.ent_history.specs.Counts.{table_line}
 use Rattle.std.proofs.lemmas.Option.{same_Some}
 use Rattle.ent_history.specs.Draft.{Draft, Due, TableRows, on_last, rows_due}
 use Rattle.ent_history.specs.Tables.{TableRowStands, TableStands, with_table_row}

@@ -15,7 +15,7 @@ use Rattle.ent_history.specs.declared.history.History.{History}
 use Rattle.ent_history.specs.Draft.{Draft, blank, last_of}
 use Rattle.ent_history.specs.declared.history.ToldJoint.{ToldJoint}
 use Rattle.ent_history.specs.Stands.{whole}
-use Rattle.ent_report_lines.proofs.Lines.{count_append}
+use Rattle.ent_history.proofs.Lines.{count_append}
 use Rattle.ent_report_reader.specs.Located.{AreLinesOf, Begins, StandsAt, TellsOf, begun, counts_of, located_behind}
 use Rattle.ent_report_reader.specs.Located.{members_so_far}
 use Rattle.ent_report_reader.specs.Reports.{StandsUpTo}

@@ -6,7 +6,7 @@ use Rattle.ent_tree.specs.declared.limits.TheConstants.{MOST_SCRIPTS}
 use Rattle.ent_semantics.specs.declared.book.Fate.{Fate}
 use Rattle.ent_book.specs.Report.{line}
 use Rattle.ent_history.specs.declared.history.Told.{Told}
-use Rattle.ent_report_lines.specs.Fates.{transaction_text}
+use Rattle.ent_history.specs.Fates.{transaction_text}
 use Rattle.ent_history.specs.Draft.{Draft, Due, AnswerRows, on_last, rows_due}
 use Rattle.ent_history.specs.Answers.{AnswerRowStands, TxStands, with_answer_row}
 use Rattle.ent_report_reader.specs.Due.{AnswerTakes, TxIsNext}

@@ -8,7 +8,7 @@ use Rattle.ent_history.specs.Draft.{Draft, Ended, blank}
 use Rattle.ent_history.specs.Scripts.{ScriptBreaksOff}
 use Rattle.ent_history.specs.Stands.{AllStand, Stands, Tells, whole}
 use Rattle.ent_history.specs.Fault.{HasFormFault, IsNoEnd, NothingStands}
-use Rattle.ent_report_lines.proofs.Lines.{count_append}
+use Rattle.ent_history.proofs.Lines.{count_append}
 use Rattle.ent_report_reader.specs.Reports.{StandsUpTo, StopsAt}
 use Rattle.ent_report_reader.specs.Steps.{TakesPiece}
 

@@ -7,7 +7,7 @@ use Rattle.ent_history.specs.declared.history.History.{History}
 use Rattle.ent_history.specs.Draft.{Draft, Ended}
 use Rattle.ent_history.specs.Stands.{Tells}
 use Rattle.ent_history.specs.Fault.{HasFormFault, IsNoEnd}
-use Rattle.ent_report_lines.proofs.Begun.{nothing_there}
+use Rattle.ent_history.proofs.Begun.{nothing_there}
 use Rattle.ent_report_reader.specs.Located.{AreLinesOf}
 use Rattle.ent_report_reader.specs.Reports.{IsReportRead, IsTextRead, StopsAt}
 use Rattle.ent_report_reader.specs.declared.located.Located.{Located}

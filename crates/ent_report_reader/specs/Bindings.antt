@@ -6,9 +6,9 @@ use Rattle.ent_value.specs.declared.value.Value.{Value}
 use Rattle.ent_semantics.specs.Database.{Name}
 use Rattle.ent_text.specs.declared.line_fault.LineFault.{LineFault}
 use Rattle.ent_text.specs.Pieces.{Read, behind, number_at, value_at, wanted}
-use Rattle.ent_report_lines.specs.Bindings.{member_line}
-use Rattle.ent_report_lines.specs.Listing.{listed_at}
-use Rattle.ent_report_lines.specs.Names.{name_at}
+use Rattle.ent_history.specs.Bindings.{member_line}
+use Rattle.ent_history.specs.Listing.{listed_at}
+use Rattle.ent_history.specs.Names.{name_at}
 use Rattle.ent_history.specs.Parts.{IsName, IsNumber, IsValue}
 use Rattle.ent_report_reader.specs.declared.bindings.Bound.{Bound}
 

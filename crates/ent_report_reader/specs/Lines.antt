@@ -4,7 +4,7 @@ use Rattle.std.specs.List.{list_all}
 use Rattle.ent_text.specs.Spelling.{is_in_line}
 use Rattle.ent_book.specs.Report.{line}
 use Rattle.ent_book.specs.Report2.{line_count}
-use Rattle.ent_report_lines.specs.Begins.{HasWholeLines}
+use Rattle.ent_history.specs.Begins.{HasWholeLines}
 
 -- the text is this line, and what stands behind it
 pub record IsFirstLine (text first behind : List ℕ) : Type 0 where

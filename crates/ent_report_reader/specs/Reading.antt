@@ -16,11 +16,11 @@ use Rattle.ent_book.specs.Report.{line}
 use Rattle.ent_text.specs.declared.line_fault.LineFault.{LineFault}
 use Rattle.ent_text.specs.declared.line_fault.LineFault.TheVariants.{Misfit}
 use Rattle.ent_text.specs.Pieces.{row_at}
-use Rattle.ent_report_lines.specs.Counts.{placed_line, set_line, table_line}
-use Rattle.ent_report_lines.specs.Fates.{transaction_text}
-use Rattle.ent_report_lines.specs.Heads.{heads_line}
-use Rattle.ent_report_lines.specs.Joints.{joint_text}
-use Rattle.ent_report_lines.specs.Openings.{opening_text}
+use Rattle.ent_history.specs.Counts.{placed_line, set_line, table_line}
+use Rattle.ent_history.specs.Fates.{transaction_text}
+use Rattle.ent_history.specs.Heads.{heads_line}
+use Rattle.ent_history.specs.JointLines.{joint_text}
+use Rattle.ent_history.specs.Openings.{opening_text}
 use Rattle.ent_history.specs.Opening.{IsDeclaration}
 use Rattle.ent_history.specs.Joints.{PlacesRise}
 use Rattle.ent_history.specs.Parts.{IsNumber, IsRow, IsValue}

@@ -1,6 +1,6 @@
 -- The line above a script.
 use Rattle.std.specs.Prelude.{◌≡◌, ℕ, ◌+◌, List, length}
-use Rattle.ent_report_lines.specs.Scripts.{script_text}
+use Rattle.ent_history.specs.ScriptLines.{script_text}
 use Rattle.ent_history.specs.Draft.{Draft}
 use Rattle.ent_history.specs.Parts.{IsNumber}
 use Rattle.ent_history.specs.Scripts.{ScriptIsNext}

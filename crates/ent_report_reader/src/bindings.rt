@@ -3,7 +3,7 @@ ghost use Rattle.std.specs.Prelude.{◌≡◌, IfOk};
 ghost use Rattle.ent_value.specs.Refusal.{Gives};
 ghost use Rattle.ent_report_reader.specs.Bindings.{all_bound_at, any_member_at, bound_at, values_of, variables_of};
 
-use ent_report_lines::{first_byte, name};
+use ent_history::{first_byte, name};
 use ent_text::{LineFault, behind, number, value};
 use ent_value::{Name, Refusal, Sequence, Value};
 use std::alloc::{AllocError, Global};

@@ -1,12 +1,10 @@
-//! A report of version 2 that is read line by line: what it tells so far, and which line can stand next.
+//! A report of version 2, read line by line or whole.
 //!
-//! A caller may rely on it that a line is taken just where it can stand below those above it, and that the draft then
-//! tells what it said before and what the line says.
+//! A [`Draft`] holds what the lines so far tell. A line is taken just where it can stand below those above it, and the
+//! draft then tells what it said before and what the line says.
 //!
-//! A report of version 2 that is read whole.
-//!
-//! A caller may rely on it that [`read_report`] gives what a text tells exactly where it is a report, and else the
-//! line at which it isn't one: that of its first bad byte, or the first line that can't stand there, or is missing.
+//! [`read_report`] gives what a text tells exactly if it is a report, and else the line at which it isn't one: that of
+//! its first bad byte, or the first line that can't stand there, or is missing.
 #![tactic(auto)]
 
 mod answers;

@@ -10,7 +10,7 @@ ghost use Rattle.ent_report_reader.specs.Steps.{Steps, StepsScript};
 use crate::Draft;
 use crate::lines::{first_line, front_lines};
 use ent_book::line_count;
-use ent_report_lines::scripts_break_off_in_their_lines;
+use ent_history::scripts_break_off_in_their_lines;
 use ent_value::Refusal;
 use std::alloc::{AllocError, Global};
 

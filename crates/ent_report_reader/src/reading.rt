@@ -11,7 +11,7 @@ ghost use Rattle.ent_report_reader.specs.Bindings.{IsAnyMember, IsKnownMember};
 ghost use Rattle.ent_report_reader.specs.Scripts.{IsNumberedLine};
 
 use crate::bindings::{Bound, any_member};
-use ent_report_lines::{
+use ent_history::{
     counts_are_read_as_written, heads, heads_are_read_as_written, joint,
     joints_are_read_as_written, member, members_are_read_as_written, opening,
     openings_are_read_as_written, placed, script, scripts_are_read_as_written, set, table,

@@ -2,7 +2,7 @@
 ghost use Rattle.std.specs.Prelude.{◌≡◌, ◌↔◌, ◌+◌, ◌++◌, IfOk, IsTrue, length};
 ghost use Rattle.ent_book.specs.Report2.{line_count};
 ghost use Rattle.ent_history.specs.Scripts.{ScriptIsNext, ScriptStands};
-ghost use Rattle.ent_report_lines.specs.Begins.{BeginsScript, script_line};
+ghost use Rattle.ent_history.specs.Begins.{BeginsScript, script_line};
 ghost use Rattle.ent_report_reader.specs.Judging.{Judges};
 ghost use Rattle.ent_report_reader.specs.Scripts.{IsScriptLine};
 ghost use Rattle.ent_report_reader.specs.Reading.{Reads};
@@ -10,7 +10,7 @@ ghost use Rattle.ent_report_reader.specs.Reading.{Reads};
 use crate::draft::Draft;
 use crate::lists::is_next;
 use crate::reading::script_line;
-use ent_report_lines::{begins_script, read_script};
+use ent_history::{begins_script, read_script};
 use ent_text::LineFault;
 use ent_tree::MOST_SCRIPTS;
 use ent_value::Refusal;

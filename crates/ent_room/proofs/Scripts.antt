@@ -4,12 +4,13 @@ use Rattle.std.specs.Result.{result_err}
 use Rattle.ent_value.specs.Refusal.{◌>>=◌}
 use Rattle.ent_form.specs.Catalogue.{schemas_of}
 use Rattle.ent_form.specs.Form.{script_in}
+use Rattle.ent_form.specs.InputFault.{scripts_fault}
 use Rattle.ent_form.specs.OpeningFault.{Check, ◌before◌}
 use Rattle.ent_form.specs.declared.fault.FormFault.{FormFault}
 use Rattle.ent_form.specs.declared.script.Plain.{Plain}
 use Rattle.ent_tree.specs.declared.declaration.Opening.{Opening}
 use Rattle.ent_tree.specs.declared.script.Script.{Script}
-use Rattle.ent_admission.specs.Passed.{resolved_forms, scripts_fault}
+use Rattle.ent_admission.specs.Passed.{resolved_forms}
 use Rattle.ent_admission.specs.Admission.{IsFormed}
 use Rattle.ent_waiting.specs.WaitingList.{WaitingList}
 use Rattle.ent_room.specs.Putting.{with_put}

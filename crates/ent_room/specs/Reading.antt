@@ -1,10 +1,8 @@
 -- Rooms over the texts of inputs, and over rows that are given as values.
 use Rattle.std.specs.Prelude.{◌≡◌, ℕ, List, [], ◌∷◌, ◌++◌, None}
 use Rattle.ent_admission.specs.Admission.{no_groups}
-use Rattle.ent_engine.specs.Reading.{IsInput, IsRefused}
-use Rattle.ent_engine.specs.declared.fault.RunFault.{RunFault}
-use Rattle.ent_engine.specs.declared.fault.RunFault.TheVariants as faults
 use Rattle.ent_admission.specs.Passed.{begun}
+use Rattle.ent_input.specs.Reading.{IsInput, IsNoInput}
 use Rattle.ent_prepare.specs.Given.{AreTooMany as AreTooManyRows, CanStand, IsFirstFault, with_rows}
 use Rattle.ent_prepare.specs.declared.row.GivenRow.{GivenRow}
 use Rattle.ent_tree.specs.declared.declaration.Opening.{Opening}
@@ -74,7 +72,7 @@ HasNoPlaceFor bytes rows refusal =
 -- may wait; or memory ran out
 abbrev pub IsNotOpened : List ℕ → List GivenRow → ℕ → Limits → Refusal NotOpened → Type 0
 IsNotOpened bytes rows next limits refusals.Memory = Unit {0}
-IsNotOpened bytes rows next limits (refusals.Fault (Faulty fault)) = IsRefused bytes fault
+IsNotOpened bytes rows next limits (refusals.Fault (Faulty fault)) = IsNoInput bytes fault
 IsNotOpened bytes rows next limits (refusals.Fault TooManyRows) =
     HasNoPlaceFor bytes rows (refusals.Fault TooManyRows)
 IsNotOpened bytes rows next limits (refusals.Fault (NotARow fault)) =
@@ -82,8 +80,3 @@ IsNotOpened bytes rows next limits (refusals.Fault (NotARow fault)) =
 IsNotOpened bytes rows next limits (refusals.Fault Full) =
     (input : Input) × IsInput bytes input × CanStand input.opening rows
     × AreTooMany input.scripts (empty_list next limits)
-
--- want of memory says nothing of the bytes
-abbrev pub refuses : RunFault → Refusal NotOpened
-refuses faults.Memory = refusals.Memory
-refuses other = refusals.Fault (Faulty other)

@@ -55,6 +55,7 @@ abbrev pub StandsAs : Admission → ℕ → State → Type 0
 StandsAs a ticket (states.Waits batches) = (waiting : Waits a ticket false) × (waiting.waiter.batches ≡ batches)
 StandsAs a ticket (states.Lonely demand) = Rests a ticket × IsLeftAlone a.list ticket demand
 StandsAs a ticket states.NoMeeting = Rests a ticket
+StandsAs a ticket states.Cut = Rests a ticket
 StandsAs a ticket states.InBatch = Waits a ticket true
 StandsAs a ticket (states.Ended ending) =
     IsGone a ticket × ((ended : Ended) × (ended_of ticket a.list.ended ≡ Some ended) × (ended.ending ≡ ending))

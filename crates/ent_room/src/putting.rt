@@ -17,13 +17,14 @@ ghost use Rattle.ent_room.specs.Putting.{HasScript, Puts, Restores, patience_of,
 ghost use Rattle.ent_room.specs.declared.putting.NotPut.TheVariants as not_put;
 ghost use Rattle.ent_room.specs.declared.putting.NotPutBack.TheVariants as not_back;
 
+use crate::profile::is_ordinary;
 use crate::room::Room;
-use crate::tables::is_ordinary;
 use ent_bound::BoundVariable;
 use ent_prepare::PrepareFault;
 use ent_tree::{Runs, Script};
 use ent_value::Refusal;
 use ent_waiting::{Full, NotRestored, NotWithdrawn, Patience, Rank, Ticket};
+use std::alloc::AllocError;
 
 /// For how long a script waits.
 #[derive(Clone, Copy, Debug)]
@@ -77,6 +78,14 @@ fn rank_of(script: &Script) -> Rank
 }
 
 impl Room {
+    /// A script is to wait under a ticket; whether that is noted.
+    fn come(&mut self, ticket: u64, script: &Script) -> Result<bool, AllocError>
+        ensures same { self.new ≡ self.old }
+    {
+        let declared = self.admission.epoch().core().opening().tables.as_slice();
+        self.prospects.come(self.alloc, declared, ticket, script)
+    }
+
     /// Takes a script in that has no fault of form, and gives it the next ticket. At a refusal nothing changes.
     pub(crate) fn take_in(&mut self, script: Script, stay: Stay) -> Result<Ticket, Refusal<Full>>
         requires formed { IsFormed self.old.admission.epoch.core.opening script }
@@ -95,12 +104,14 @@ impl Room {
     {
         let patience = patience_of(stay, &script);
         let rank = rank_of(&script);
-        self.prospects
-            .announce(self.admission.list().next().number())?;
+        let next = self.admission.list().next().number();
+        let is_noted = self.come(next, &script)?;
         match self.admission.put(script, patience, rank) {
             Ok(ticket) => Ok(ticket),
             Err(refusal) => {
-                self.prospects.unannounce();
+                if is_noted {
+                    self.prospects.take_back(next);
+                }
                 Err(refusal)
             }
         }
@@ -193,14 +204,16 @@ impl Room {
         };
         let patience = patience_of(stay, &script);
         let rank = rank_of(&script);
-        self.prospects.announce(ticket.number())?;
+        let is_noted = self.come(ticket.number(), &script)?;
         match self
             .admission
             .restore(ticket, script, patience, batches, rank)
         {
             Ok(()) => Ok(()),
             Err(refusal) => {
-                self.prospects.unannounce();
+                if is_noted {
+                    self.prospects.take_back(ticket.number());
+                }
                 match refusal {
                     Refusal::Memory => Err(Refusal::Memory),
                     Refusal::Fault(fault) => Err(Refusal::Fault(NotPutBack::Refused(fault))),

@@ -2,20 +2,21 @@
 ghost use Rattle.std.specs.Prelude.{◌≡◌, [], IfErr, IfOk, None, OnOk};
 ghost use Rattle.std.specs.Result.{result_err};
 ghost use Rattle.ent_admission.specs.Admission.{no_groups};
-ghost use Rattle.ent_admission.specs.Passed.{begun, input_fault, scripts_fault};
-ghost use Rattle.ent_engine.specs.Reading.{IsInput, IsRefused};
+ghost use Rattle.ent_admission.specs.Passed.{begun};
 ghost use Rattle.ent_form.specs.Catalogue.{schemas_of};
 ghost use Rattle.ent_form.specs.Form.{script_in};
+ghost use Rattle.ent_form.specs.InputFault.{input_fault, scripts_fault};
 ghost use Rattle.ent_form.specs.OpeningFault.{first_of, opening_fault};
+ghost use Rattle.ent_input.specs.Reading.{IsInput, IsRefused};
 ghost use Rattle.ent_prepare.specs.Given.{CanStand, with_rows};
 ghost use Rattle.ent_value.specs.declared.refusal.Refusal.TheVariants.{Fault};
 ghost use Rattle.ent_waiting.specs.declared.waiting_list.Full.{Full as FullSeen};
-ghost use Rattle.ent_room.specs.Reading.{AreTooMany, IsNotOpened, Opens, RefusesRows, all_put, empty_list, refuses};
+ghost use Rattle.ent_room.specs.Reading.{AreTooMany, IsNotOpened, Opens, RefusesRows, all_put, empty_list};
 
 use crate::putting::Stay;
 use crate::room::Room;
-use ent_engine::{MOST_BYTES, RunFault, parse_bytes};
 use ent_form::{Catalogue, FormFault, resolve};
+use ent_input::{InputFault, read_input};
 use ent_prepare::{GivenRow, first_fault_tells_its_row, given_rows_come_last, with_rows};
 use ent_tree::{Input, MOST_OPENING_ROWS, MOST_SCRIPTS, Opening, Script};
 use ent_value::{Limited, Refusal};
@@ -28,7 +29,7 @@ pub enum NotOpened {
     /// It has more scripts than may wait, or than there are tickets.
     Full,
     /// It has this fault, as the text of an input.
-    Faulty(RunFault),
+    Faulty(InputFault),
     /// E407: more rows stand there, with those that are given, than an opening has, which are [`MOST_OPENING_ROWS`].
     TooManyRows,
     /// The first of the given rows that doesn't fit names no table, or has another number of values than its table has
@@ -81,27 +82,14 @@ fn input_fault(alloc: Global, input: &Input) -> Result<Option<FormFault>, AllocE
 }
 
 /// The input that a text is, without a fault; or its first fault.
-fn input_of(alloc: Global, text: &[u8]) -> Result<Input, RunFault>
+fn input_of(alloc: Global, text: &[u8]) -> Result<Input, Refusal<InputFault>>
     ensures input { IfOk result (λ input. IsInput text.now input) }
-    ensures refused { IfErr result (λ fault. IsRefused text.now fault) }
+    ensures refused { IfErr result (λ refusal. IsRefused text.now refusal) }
 {
-    if text.len() > MOST_BYTES {
-        return Err(RunFault::TooLong);
-    }
-    let input = parse_bytes(alloc, text)?;
+    let input = read_input(alloc, text)?;
     match input_fault(alloc, &input)? {
         None => Ok(input),
-        Some(fault) => Err(RunFault::Form(fault)),
-    }
-}
-
-/// Why no room is opened over a text that has a fault, or for which memory ran out.
-fn refusal_of(fault: RunFault) -> Refusal<NotOpened>
-    ensures { result ≡ refuses fault }
-{
-    match fault {
-        RunFault::Memory => Refusal::Memory,
-        other => Refusal::Fault(NotOpened::Faulty(other)),
+        Some(fault) => Err(Refusal::Fault(InputFault::Form(fault))),
     }
 }
 
@@ -178,7 +166,8 @@ impl Room {
     {
         let input = match input_of(alloc, text) {
             Ok(input) => input,
-            Err(fault) => return Err(refusal_of(fault)),
+            Err(Refusal::Memory) => return Err(Refusal::Memory),
+            Err(Refusal::Fault(fault)) => return Err(Refusal::Fault(NotOpened::Faulty(fault))),
         };
         let mut room = Room::over(alloc, input.opening, rows, number, next, next_group, limits)?;
         match room.take_all(input.scripts) {

@@ -72,11 +72,12 @@ impl Room {
             (without_book (fresh number opening next next_group limits.most_waiters limits.most_ended))) }
     {
         let preparing = Preparing::of(alloc, &opening)?;
+        let prospects = Prospects::new(alloc, opening.tables.len())?;
         Ok(Room {
             alloc,
             admission: Admission::open(alloc, opening, number, next, next_group, limits)?,
             preparing,
-            prospects: Prospects::new(alloc),
+            prospects,
             batch: None,
             last: None,
         })
@@ -132,6 +133,10 @@ impl Room {
         let epoch = self.admission.epoch().number();
         let book = self.admission.turn(drained)?;
         self.last = Some(EpochBook { epoch, book });
+        self.prospects.change_tables(
+            self.admission.epoch().core().opening().tables.as_slice(),
+            drained,
+        );
         Ok(())
     }
 }

@@ -18,6 +18,9 @@ pub enum State {
     Lonely { demand: usize },
     /// It waits, and no meeting of it was found among those who wait.
     NoMeeting,
+    /// It waits, and a bound was reached: there may be more meetings of it. It goes on with its next change, or when
+    /// [`Room::further`] is called.
+    Cut,
     /// It is in the batch that is on.
     InBatch,
     /// It waits no more.
@@ -41,10 +44,11 @@ impl Room {
         let mut looks = MOST_LOOKS;
         match unoffered(index, party, &mut looks) {
             Lack::Unoffered(demand) => State::Lonely { demand },
-            _ if self.prospects.tried(ticket.number()).is_empty() => State::NoMeeting,
-            _ => State::Waits {
+            _ if self.prospects.is_cut(ticket.number()) => State::Cut,
+            _ if self.prospects.has_tried(ticket.number()) => State::Waits {
                 batches: waiter.batches,
             },
+            _ => State::NoMeeting,
         }
     }
 

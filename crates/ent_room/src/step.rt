@@ -8,12 +8,15 @@ ghost use Rattle.ent_room.specs.declared.step.Stepped.TheVariants.{Idle};
 use crate::batch::Batch;
 use crate::law::acts_go_on;
 use crate::room::Room;
+use crate::work::{MOST_OF_STEP, RUN, Work};
 use ent_admission::{Again, NotPlanned, NotTurned};
 use ent_feed::NoNumber;
-use ent_meetings::MOST_LOOKS;
 use ent_value::Refusal;
-use ent_waiting::{Rank, Station, Ticket};
+use ent_waiting::{Rank, Station, Ticket, WaitingPlace};
 use std::alloc::AllocError;
+
+/// So many ordinary scripts a step runs: half of its work.
+const MOST_ORDINARY: usize = 64;
 
 /// What a step did.
 #[derive(Clone, Copy, Debug, PartialEq, Eq)]
@@ -56,24 +59,30 @@ impl Room {
     }
 
     /// Makes these the next batch. At a refusal nothing changes.
-    fn plan_once(&mut self, batch: &Batch, again: Again) -> Result<(), Refusal<NotPlanned>>
+    fn plan_once(&mut self, batch: &Batch) -> Result<(), Refusal<NotPlanned>>
         ensures advances { Advances self.old self.new }
         ensures err { OnErr result (self.new ≡ self.old) }
     {
         let set = batch.set(self.alloc)?;
-        self.admission.plan(set, again)?;
+        self.admission.plan(
+            set,
+            Again {
+                rank: batch.rank,
+                root: batch.root,
+            },
+        )?;
         Ok(())
     }
 
     /// Whether these become the next batch. Where the core takes fewer scripts more, the epoch ends first.
-    fn plan(&mut self, batch: &Batch, again: Again) -> Result<bool, Refusal<NotStepped>>
+    fn plan(&mut self, batch: &Batch) -> Result<bool, Refusal<NotStepped>>
         requires at_rest { IsAtRest self.old.admission }
         ensures advances { Advances self.old self.new }
         ensures at_rest { IfOk result (λ planned. planned ≡ false → IsAtRest self.new.admission) }
     {
         acts_go_on();
         'tries: for _ in 0..2 {
-            match self.plan_once(batch, again) {
+            match self.plan_once(batch) {
                 Ok(()) => return Ok(true),
                 Err(Refusal::Memory) => return Err(Refusal::Memory),
                 Err(Refusal::Fault(NotPlanned::MustTurn)) => self.turn_by_itself()?,
@@ -83,85 +92,85 @@ impl Room {
         Ok(false)
     }
 
-    /// Those of a batch that can't be made up rest.
-    fn rest_all(&mut self, batch: &Batch) -> Result<(), AllocError>
+    /// An ordinary script, or a meeting, that is to be run by itself; and against whose patience that counts.
+    pub(crate) fn meeting(&self, tickets: &[u64], root: Option<u64>) -> Result<Batch, AllocError> {
+        let mut places = Vec::with_capacity(self.alloc, tickets.len())?;
+        for ticket in tickets {
+            places.push(match self.admission.list().waiter(Ticket::new(*ticket)) {
+                Some(waiter) => waiter.place,
+                None => WaitingPlace::Resting,
+            })?;
+        }
+        Ok(Batch {
+            tickets: Vec::from_slice(self.alloc, tickets)?,
+            places,
+            root,
+            rank: Rank::Woken,
+            group: self.next_group(),
+        })
+    }
+
+    /// Whether all of a batch still wait.
+    fn all_wait(&self, batch: &Batch) -> bool {
+        batch.tickets.as_slice().iter().all(|ticket| {
+            self.admission.list().waiter(Ticket::new(*ticket)).is_some()
+        })
+    }
+
+    /// Somebody who was in a batch, and still waits, comes back to where it stood.
+    fn put_back(&mut self, ticket: u64, place: WaitingPlace) -> Result<(), AllocError>
         ensures shifts { OnlyShifts self.old self.new }
     {
         acts_go_on();
-        for ticket in batch.tickets.as_slice() {
-            self.rest(Ticket::new(*ticket))?;
+        match place {
+            WaitingPlace::Resting => self.rest(ticket),
+            WaitingPlace::Queued(rank) => self.queue(ticket, rank),
+            WaitingPlace::Chosen | WaitingPlace::Submitted(_) => Ok(()),
         }
-        Ok(())
     }
 
-    /// Who waits and is in no batch leaves its queue.
-    pub(crate) fn rest(&mut self, ticket: Ticket) -> Result<(), AllocError>
+    /// Notes what came of one of a batch: who ended is forgotten, and who still waits comes back to where it stood.
+    fn note_one(&mut self, ticket: u64, place: Option<WaitingPlace>) -> Result<(), AllocError>
         ensures shifts { OnlyShifts self.old self.new }
     {
-        self.admission.rest(ticket)?;
-        Ok(())
-    }
-
-    /// Notes of each of a batch that is over whether its meeting brought nothing.
-    fn note_each(&mut self, batch: &Batch) -> Result<(), AllocError>
-        ensures same { self.new ≡ self.old }
-    {
-        for ticket in batch.tickets.as_slice() {
-            self.note_one(*ticket, batch)?;
-        }
-        Ok(())
-    }
-
-    /// Notes of one of a batch that is over whether its meeting brought nothing.
-    fn note_one(&mut self, ticket: u64, batch: &Batch) -> Result<(), AllocError>
-        ensures same { self.new ≡ self.old }
-    {
+        acts_go_on();
         if self.admission.list().waiter(Ticket::new(ticket)).is_none() {
             self.prospects.forget(ticket);
-        } else if batch.meetings == 1 {
-            self.note_tried(ticket, batch.tickets.as_slice())?;
+            return Ok(());
+        }
+        match place {
+            Some(place) => self.put_back(ticket, place),
+            None => Ok(()),
+        }
+    }
+
+    /// Notes what came of each of a batch.
+    fn note_each(&mut self, batch: &Batch) -> Result<(), AllocError>
+        ensures shifts { OnlyShifts self.old self.new }
+    {
+        acts_go_on();
+        let tickets = batch.tickets.as_slice();
+        for number in 0..tickets.len() {
+            self.note_one(tickets[number], batch.place_of(number))?;
         }
         Ok(())
     }
 
-    /// Notes what came of a batch that is over: which meeting brought nothing, and which tables may have changed.
+    /// Notes what came of a batch that is over: whether it was in vain, and which tables changed.
     fn note(&mut self, batch: &Batch) -> Result<(), AllocError>
         ensures shifts { OnlyShifts self.old self.new }
     {
         acts_go_on();
+        if self.all_wait(batch) {
+            self.prospects.note_tried(self.alloc, batch)?;
+        }
         self.note_each(batch)?;
-        if self.has_committed(batch) {
-            self.wake_all(batch)?;
-        }
-        Ok(())
-    }
-
-    /// How many scripts have committed in the present epoch.
-    fn commits(&self) -> usize {
-        self.admission.epoch().core().journal().len()
-    }
-
-    /// Whether somebody may have committed since a batch began.
-    fn has_committed(&self, batch: &Batch) -> bool {
-        self.admission.epoch().number() != batch.epoch || self.commits() != batch.commits
-    }
-
-    /// Notes that a meeting of a ticket brought nothing.
-    fn note_tried(&mut self, ticket: u64, meeting: &[u64]) -> Result<(), AllocError>
-        ensures same { self.new ≡ self.old }
-    {
-        let tables = self.tables_of(Ticket::new(ticket))?;
-        self.prospects.note(self.alloc, ticket, meeting, tables)
-    }
-
-    /// Wakes each script that has a tried meeting which reads a table that the batch may have changed.
-    fn wake_all(&mut self, batch: &Batch) -> Result<(), AllocError>
-        ensures shifts { OnlyShifts self.old self.new }
-    {
-        acts_go_on();
-        for table in batch.tables.iter() {
-            self.wake_watchers(*table)?;
-        }
+        let told = self.next_group().saturating_sub(batch.group);
+        self.prospects.note_changes(
+            self.admission.epoch().core().opening().tables.as_slice(),
+            self.admission.feed().from(batch.group),
+            told,
+        );
         Ok(())
     }
 
@@ -205,26 +214,21 @@ impl Room {
     }
 
     /// A batch that was made up is on.
-    fn begin(&mut self, mut batch: Batch)
+    fn begin(&mut self, batch: Batch)
         ensures same { self.new ≡ self.old }
     {
-        batch.epoch = self.admission.epoch().number();
-        batch.commits = self.commits();
         self.batch = Some(batch);
     }
 
-    /// Makes the run of a batch, where anybody is in it.
-    fn make(&mut self, batch: Batch, again: Again) -> Result<bool, Refusal<NotStepped>>
+    /// Makes the run of a batch; whether it was made.
+    pub(crate) fn make(&mut self, batch: Batch) -> Result<bool, Refusal<NotStepped>>
         requires at_rest { IsAtRest self.old.admission }
         ensures advances { Advances self.old self.new }
         ensures at_rest { OnOk result (IsAtRest self.new.admission) }
     {
         acts_go_on();
-        if batch.tickets.is_empty() {
-            return Ok(false);
-        }
-        if !self.plan(&batch, again)? {
-            self.rest_all(&batch)?;
+        if !self.plan(&batch)? {
+            self.prospects.note_tried(self.alloc, &batch)?;
             return Ok(false);
         }
         self.begin(batch);
@@ -232,32 +236,85 @@ impl Room {
         Ok(true)
     }
 
-    /// Makes a run of the ordinary scripts that have waited longest.
+    /// Makes a run of an ordinary script, the one that has waited longest; whether there was one.
     fn make_ordinary(&mut self) -> Result<bool, Refusal<NotStepped>>
         requires at_rest { IsAtRest self.old.admission }
         ensures advances { Advances self.old self.new }
         ensures at_rest { OnOk result (IsAtRest self.new.admission) }
     {
         acts_go_on();
-        let ordinary = self.choose_ordinary()?;
-        let ran = self.make(ordinary, again_in_line())?;
-        Ok(ran)
+        let station = Station::Queue(Rank::Ordinary);
+        let Some(ticket) = self.admission.list().first_from(station, Ticket::new(0)) else {
+            return Ok(false);
+        };
+        let mut batch = self.meeting(&[ticket.number()], None)?;
+        batch.rank = Rank::Ordinary;
+        self.make(batch)
     }
 
-    /// Wakes those whom newcomers may complete, and makes a run of meetings.
-    fn make_meetings(&mut self) -> Result<Stepped, Refusal<NotStepped>>
+    /// Makes runs of ordinary scripts, for half of a step's work; whether there was one.
+    fn make_all_ordinary(&mut self, work: &mut Work) -> Result<bool, Refusal<NotStepped>>
         requires at_rest { IsAtRest self.old.admission }
         ensures advances { Advances self.old self.new }
         ensures at_rest { OnOk result (IsAtRest self.new.admission) }
     {
         acts_go_on();
-        let mut telling = MOST_LOOKS;
-        self.spread(&mut telling)?;
-        let mut choosing = MOST_LOOKS;
-        let meetings = self.choose_meetings(&mut choosing)?;
-        let again = again_after(meetings.meetings);
-        let ran = self.make(meetings, again)?;
-        Ok(told_of(ran, telling > 0 && choosing > 0))
+        let mut ran = false;
+        'runs: for _ in 0..MOST_ORDINARY {
+            if !self.make_ordinary()? {
+                return Ok(ran);
+            }
+            work.charge(RUN);
+            ran = true;
+        }
+        Ok(ran)
+    }
+
+    /// Whose turn it is.
+    fn whose_turn(&mut self) -> Option<u64>
+        ensures same { self.new ≡ self.old }
+    {
+        self.prospects.order.first(self.admission.list())
+    }
+
+    /// The next root has its turn, once tried meetings were told that tables changed; whether a run was made, or nothing
+    /// if there is nothing left to do.
+    fn next_turn(&mut self, work: &mut Work) -> Result<Option<bool>, Refusal<NotStepped>>
+        requires at_rest { IsAtRest self.old.admission }
+        ensures advances { Advances self.old self.new }
+        ensures at_rest { OnOk result (IsAtRest self.new.admission) }
+    {
+        acts_go_on();
+        self.tell_changes(work)?;
+        let Some(root) = self.whose_turn() else {
+            return Ok(if self.prospects.clocks.is_on() {
+                Some(false)
+            } else {
+                None
+            });
+        };
+        let ran = self.take_turn(root, work)?;
+        Ok(Some(ran))
+    }
+
+    /// Roots have their turns, for the rest of a step's work; whether a run was made.
+    fn take_turns(&mut self, work: &mut Work) -> Result<bool, Refusal<NotStepped>>
+        requires at_rest { IsAtRest self.old.admission }
+        ensures advances { Advances self.old self.new }
+        ensures at_rest { OnOk result (IsAtRest self.new.admission) }
+    {
+        acts_go_on();
+        let mut ran = false;
+        'turns: for _ in 0..MOST_OF_STEP {
+            if work.is_over() {
+                return Ok(ran);
+            }
+            let Some(made) = self.next_turn(work)? else {
+                return Ok(ran);
+            };
+            ran = ran | made;
+        }
+        Ok(ran)
     }
 
     /// Whether nobody stands in the queue of this rank.
@@ -279,33 +336,35 @@ impl Room {
         self.is_empty(Rank::Ordinary) && self.is_empty(Rank::Newcomer) && self.is_empty(Rank::Woken)
     }
 
-    /// What a step did: as long as somebody stands in a queue there is more to look at.
-    fn told(&self, stepped: Stepped) -> Stepped
+    /// What a step did: as long as somebody stands in a queue, or is to be told of a change, there is more to look at.
+    fn told(&self, ran: bool) -> Stepped
         ensures { result ≡ Idle → AreResting self.now.admission.list }
     {
-        if stepped == Stepped::Idle && !self.is_quiet() {
-            Stepped::Searched
+        if ran {
+            Stepped::Ran
+        } else if self.is_quiet() && !self.prospects.clocks.is_on() {
+            Stepped::Idle
         } else {
-            stepped
+            Stepped::Searched
         }
     }
 
-    /// Makes at most two runs: first of the ordinary scripts that wait, then of meetings. Each script is submitted for
-    /// one run, and each run is made to its end; who has no fate of its own then waits again, or gives up. After each
-    /// run the feed tells what came of it. Where memory runs out, or no number is left, what was done stands, and the
-    /// next step goes on there. After an idle step all who wait rest.
+    /// Makes runs, each of an ordinary script alone or of a meeting alone, as many as its work allows: first of ordinary
+    /// scripts, in the order of their tickets, and then of meetings. Each script is submitted for one run, and each run
+    /// is made to its end; who has no fate of its own then waits again, or gives up. After each run the feed tells what
+    /// came of it. Where memory runs out, or no number is left, what was done stands, and the next step goes on there.
+    /// After an idle step all who wait rest.
     pub fn step(&mut self) -> Result<Stepped, Refusal<NotStepped>>
         ensures advances { Advances self.old self.new }
         ensures at_rest { OnOk result (IsAtRest self.new.admission) }
         ensures idle { IfOk result (λ stepped. stepped ≡ Idle → AreResting self.new.admission.list) }
     {
         acts_go_on();
-        if self.finish()? {
-            return Ok(Stepped::Ran);
-        }
-        let first = self.make_ordinary()?;
-        let second = self.make_meetings()?;
-        Ok(self.told(both(first, second)))
+        let finished = self.finish()?;
+        let mut work = Work::new(MOST_OF_STEP);
+        let ordinary = self.make_all_ordinary(&mut work)?;
+        let meetings = self.take_turns(&mut work)?;
+        Ok(self.told(finished || ordinary || meetings))
     }
 }
 
@@ -314,40 +373,5 @@ fn not_told(refusal: Refusal<NoNumber>) -> Refusal<NotStepped> {
     match refusal {
         Refusal::Memory => Refusal::Memory,
         Refusal::Fault(NoNumber) => Refusal::Fault(NotStepped::NoNumber),
-    }
-}
-
-/// What a look for meetings did: it ran, or there was nobody left to look at, or there was.
-fn told_of(ran: bool, all_seen: bool) -> Stepped {
-    if ran {
-        Stepped::Ran
-    } else if all_seen {
-        Stepped::Idle
-    } else {
-        Stepped::Searched
-    }
-}
-
-/// What a step did, whose first run was made or wasn't.
-fn both(first: bool, second: Stepped) -> Stepped {
-    if first { Stepped::Ran } else { second }
-}
-
-/// An ordinary script that was in a deadlock waits again in its queue.
-fn again_in_line() -> Again {
-    Again {
-        rank: Rank::Ordinary,
-        counts: true,
-        alone: false,
-    }
-}
-
-/// A meeting that brought nothing beside others is tried once by itself; that it was beside others doesn't count.
-fn again_after(meetings: usize) -> Again {
-    let alone = meetings > 1;
-    Again {
-        rank: Rank::Woken,
-        counts: !alone,
-        alone,
     }
 }

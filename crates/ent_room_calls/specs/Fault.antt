@@ -4,11 +4,11 @@ use Rattle.ent_bound.specs.declared.fault.BindingFault.{BindingFault}
 use Rattle.ent_bound.specs.declared.fault.BindingFault.TheVariants.{Value as ValueOf, Twice, SetByScript, Unused}
 use Rattle.ent_bound.specs.declared.fault.ValueFault.{ValueFault}
 use Rattle.ent_bound.specs.declared.fault.ValueFault.TheVariants.{LeastNumber, TooLong, NotUtf8, ControlCharacter}
-use Rattle.ent_room.specs.Passed.{code_of as run_code_of, place_of as run_place_of, status as run_status}
+use Rattle.ent_input.specs.Fault.{code_of as input_code_of, place_of as input_place_of}
 use Rattle.ent_form.specs.Fault.{code_of as form_code_of, place_of as form_place_of}
 use Rattle.ent_prepare.specs.Fault.{code_of as prepare_code_of, place_of as prepare_place_of}
 use Rattle.ent_prepare.specs.declared.fault.PrepareFault.{PrepareFault}
-use Rattle.ent_prepare.specs.declared.fault.PrepareFault.TheVariants.{Reading, Binding, Form}
+use Rattle.ent_prepare.specs.declared.fault.PrepareFault.TheVariants.{Text, Binding}
 use Rattle.ent_room.specs.declared.putting.NotPut.{NotPut}
 use Rattle.ent_room.specs.declared.putting.NotPut.TheVariants as put
 use Rattle.ent_room.specs.declared.putting.NotPutBack.{NotPutBack}
@@ -72,9 +72,8 @@ binding_number (SetByScript number) = 8
 binding_number (Unused number) = 9
 
 abbrev pub prepare_number : PrepareFault → ℕ
-prepare_number (Reading fault) = 1
+prepare_number (Text fault) = 1
 prepare_number (Binding fault) = binding_number fault
-prepare_number (Form fault) = 1
 
 -- as C names them; 0: memory ran out
 abbrev pub number_of : RoomFault → ℕ
@@ -99,7 +98,7 @@ or_0 (Some n) = n
 
 abbrev pub code_of : RoomFault → ℕ
 code_of Memory = 900
-code_of (Input fault) = run_code_of fault
+code_of (Input fault) = input_code_of fault
 code_of (Faulty fault) = or_0 (prepare_code_of fault)
 code_of Absent = 401
 code_of TooManyRows = 407
@@ -113,7 +112,7 @@ code_of (NotARow fault) = form_code_of fault
 code_of TooManyValues = 0
 
 abbrev pub place_of : RoomFault → Option ℕ
-place_of (Input fault) = run_place_of fault
+place_of (Input fault) = input_place_of fault
 place_of (Faulty fault) = prepare_place_of fault
 place_of other = None
 
@@ -133,5 +132,4 @@ item_of other = None
 -- 3: memory ran out; else 1
 abbrev pub status : RoomFault → ℕ
 status Memory = 3
-status (Input fault) = run_status fault
 status other = 1

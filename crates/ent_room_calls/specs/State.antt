@@ -21,6 +21,7 @@ abbrev pub state_text : State → List ℕ
 state_text (states.Waits batches) = codes "waits, after " ++ (decimal batches ++ codes " batches that count")
 state_text (states.Lonely demand) = codes "lonely: nobody who waits may offer its demand " ++ decimal demand
 state_text states.NoMeeting = codes "waits, and no meeting of it was found"
+state_text states.Cut = codes "waits, cut: a bound was reached, and there may be more meetings of it"
 state_text states.InBatch = codes "in the batch that is on"
 state_text (states.Ended ending) = ending_text ending
 state_text states.Unknown = codes "unknown"

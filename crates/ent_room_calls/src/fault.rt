@@ -7,8 +7,9 @@ ghost use Rattle.ent_room_calls.specs.declared.fault.RoomFault.TheVariants.{Memo
 
 use ent_bound::{BindingFault, ValueFault};
 use ent_form::FormFault;
+use ent_input::InputFault;
 use ent_prepare::PrepareFault;
-use ent_room::{NotOpened, NotPut, NotPutBack, NotStepped, RunFault, status_of};
+use ent_room::{NotOpened, NotPut, NotPutBack, NotStepped};
 use ent_value::Refusal;
 use ent_waiting::{NotRestored, NotWithdrawn};
 use std::alloc::{AllocError, AllocFailed};
@@ -21,8 +22,8 @@ pub enum RoomFault {
     #[error("E900: out of memory")]
     Memory,
     /// The text of an input has a fault.
-    #[error("{0:?}")]
-    Input(RunFault),
+    #[error("{0}")]
+    Input(InputFault),
     /// The text of a script has a fault, or a variable can't be bound in it.
     #[error("{0}")]
     Faulty(PrepareFault),
@@ -168,7 +169,7 @@ fn prepare_number(fault: PrepareFault) -> u32
     ensures { result ≡ prepare_number fault }
 {
     match fault {
-        PrepareFault::Reading(_) | PrepareFault::Form(_) => 1,
+        PrepareFault::Text(_) => 1,
         PrepareFault::Binding(fault) => binding_number(fault),
     }
 }
@@ -259,7 +260,6 @@ impl RoomFault {
     {
         match self {
             RoomFault::Memory => 3,
-            RoomFault::Input(fault) => status_of(&fault),
             _ => 1,
         }
     }

@@ -45,6 +45,10 @@ impl fmt::Display for StateWords {
                 write!(f, "lonely: nobody who waits may offer its demand {demand}")
             }
             State::NoMeeting => write!(f, "waits, and no meeting of it was found"),
+            State::Cut => write!(
+                f,
+                "waits, cut: a bound was reached, and there may be more meetings of it"
+            ),
             State::InBatch => write!(f, "in the batch that is on"),
             State::Ended(ending) => {
                 let words = EndingWords(ending);

@@ -2,13 +2,14 @@
 ghost use Rattle.std.specs.Prelude.{◌≡◌, ◌⊎◌, IfErr, IfOk, None, Some, true};
 ghost use Rattle.ent_book.specs.Tables.{book_seen};
 ghost use Rattle.ent_driver.specs.Told.{lines_under};
-ghost use Rattle.ent_room.specs.Passed.{text_of};
+ghost use Rattle.ent_book.specs.Version.{text_of};
 ghost use Rattle.ent_room_calls.specs.Text.{HasNoTable};
 ghost use Rattle.ent_room_calls.specs.declared.fault.RoomFault.TheVariants.{Memory};
 
 use crate::fault::RoomFault;
+use ent_book::ReportVersion;
 use ent_driver::{lines_under, report_text};
-use ent_room::{FinishedBook, ReportVersion, Room};
+use ent_room::{FinishedBook, Room};
 use ent_value::{Name, is_word};
 use std::alloc::Global;
 

@@ -5,85 +5,31 @@ ghost use Rattle.ent_meetings.specs.Party.{party_of};
 ghost use Rattle.ent_room.specs.State.{StandsAs};
 ghost use Rattle.ent_room.specs.declared.state.State.{State as StateSeen};
 ghost use Rattle.ent_room_calls.specs.State.{state_text};
-ghost use Rattle.ent_room_calls.specs.Why.{demand_text, more_terms_text, pattern_text, relation_text, term_text};
-ghost use Rattle.ent_room_calls.specs.Why.{terms_text, waiting_text, why_text};
+ghost use Rattle.ent_room_calls.specs.Why.{demand_behind, waiting_text, why_text};
 ghost use Rattle.ent_room_calls.specs.declared.fault.RoomFault.TheVariants.{Memory};
 ghost use Rattle.ent_waiting.specs.WaitingList.{waiter_of};
 
 use crate::fault::RoomFault;
 use crate::state::state_text;
 use ent_meetings::{Party, Pattern};
+use ent_reasons::append_demand;
 use ent_room::{Room, State};
 use ent_tree::Script;
-use ent_value::{Name, Value, print_value};
 use ent_waiting::{Ticket, Waiter};
 use std::alloc::{AllocError, Global};
 
-/// A value where it is known.
-fn append_term(alloc: Global, out: &mut Vec<u8>, term: &Option<Value>) -> Result<(), AllocError>
-    ensures { OnOk result (out.new.items ≡ out.old.items ++ term_text term.now) }
-{
-    match term {
-        Some(value) => print_value(alloc, out, value),
-        None => out.extend_from_slice(b"_"),
-    }
-}
-
-/// Terms after the first, each behind a comma and a space.
-fn append_more_terms(
-    alloc: Global,
-    out: &mut Vec<u8>,
-    more: &[Option<Value>],
-) -> Result<(), AllocError>
-    ensures { OnOk result (out.new.items ≡ out.old.items ++ more_terms_text more.now) }
-{
-    for term in more {
-        out.extend_from_slice(b", ")?;
-        append_term(alloc, out, term)?;
-    }
-    Ok(())
-}
-
-fn append_terms(alloc: Global, out: &mut Vec<u8>, terms: &[Option<Value>]) -> Result<(), AllocError>
-    ensures { OnOk result (out.new.items ≡ out.old.items ++ terms_text terms.now) }
-{
-    if let [first, more @ ..] = terms {
-        append_term(alloc, out, first)?;
-        append_more_terms(alloc, out, more)?;
-    }
-    Ok(())
-}
-
-/// The answer relation behind the terms.
-fn append_relation(out: &mut Vec<u8>, relation: &Name) -> Result<(), AllocError>
-    ensures { OnOk result (out.new.items ≡ out.old.items ++ relation_text relation.now) }
-{
-    out.extend_from_slice(b") IN ANSWER ")?;
-    out.extend_from_slice(relation.as_bytes())?;
-    Ok(())
-}
-
-/// A demand, as a script writes it.
-fn append_pattern(alloc: Global, out: &mut Vec<u8>, pattern: &Pattern) -> Result<(), AllocError>
-    ensures { OnOk result (out.new.items ≡ out.old.items ++ pattern_text pattern.now) }
-{
-    out.extend_from_slice(b"(")?;
-    append_terms(alloc, out, pattern.terms.as_slice())?;
-    append_relation(out, &pattern.relation)
-}
-
 /// A demand behind its number, where there is one.
-fn append_demand(
+fn append_demand_behind(
     alloc: Global,
     out: &mut Vec<u8>,
     demand: Option<&Pattern>,
 ) -> Result<(), AllocError>
-    ensures { OnOk result (out.new.items ≡ out.old.items ++ demand_text (option_copied demand.entry)) }
+    ensures { OnOk result (out.new.items ≡ out.old.items ++ demand_behind (option_copied demand.entry)) }
 {
     match demand {
         Some(pattern) => {
             out.extend_from_slice(b", ")?;
-            append_pattern(alloc, out, pattern)
+            append_demand(alloc, out, &pattern.relation, pattern.terms.as_slice())
         }
         None => Ok(()),
     }
@@ -97,11 +43,11 @@ fn append_demand_of(
     demand: usize,
 ) -> Result<(), AllocError>
     ensures { OnOk result (out.new.items
-        ≡ out.old.items ++ demand_text (slice_get (party_of script.now).demands demand)) }
+        ≡ out.old.items ++ demand_behind (slice_get (party_of script.now).demands demand)) }
 {
     let party = Party::of(alloc, script)?;
     let demanded = party.demands.as_slice().get(demand);
-    append_demand(alloc, out, demanded)?;
+    append_demand_behind(alloc, out, demanded)?;
     Ok(())
 }
 

@@ -94,6 +94,15 @@ impl<'a> Machine<'a> {
         }
     }
 
+    /// Counts a call that writes, which fails where it is the one that is to fail.
+    fn count_write(&self) -> io::Result<()> {
+        self.written.set(self.written.get().saturating_add(1));
+        if self.written.get() == self.writes.fails_at {
+            return Err(io::Error::from(ErrorKind::BrokenPipe));
+        }
+        Ok(())
+    }
+
     /// What was written to standard output, and to standard error.
     pub(crate) fn into_written(self) -> (Vec<u8>, Vec<u8>) {
         (self.output.into_inner(), self.errors.into_inner())
@@ -171,23 +180,23 @@ impl<'a> Input for Machine<'a> {
 
 impl Print for Machine<'_> {
     fn print<D: Display + Drop>(&self, value: D) -> io::Result<()> {
+        self.count_write()?;
         put_text(self.alloc, &self.output, value)
     }
 
     fn println<D: Display + Drop>(&self, value: D) -> io::Result<()> {
+        self.count_write()?;
         put_text(self.alloc, &self.output, value)?;
         put(&self.output, b"\n")
     }
 
     fn write_all(&self, bytes: &[u8]) -> io::Result<()> {
+        self.count_write()?;
         put(&self.output, bytes)
     }
 
     fn write_some(&self, bytes: &[u8]) -> io::Result<usize> {
-        self.written.set(self.written.get().saturating_add(1));
-        if self.written.get() == self.writes.fails_at {
-            return Err(io::Error::from(ErrorKind::BrokenPipe));
-        }
+        self.count_write()?;
         let count = bytes.len().min(self.writes.most);
         put(&self.output, bytes.split_at(count).0)?;
         Ok(count)

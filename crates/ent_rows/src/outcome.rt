@@ -58,17 +58,20 @@ impl Outcome {
         Ok(())
     }
 
-    /// Checks the exit status, and the line on standard error: none where the line is empty, and some text where it
-    /// is `*`.
+    /// Checks the exit status, and the line on standard error: none where the line is empty, some text where it is `*`,
+    /// and two lines where ` / ` stands in it.
     pub(crate) fn check_end(&self, alloc: Global, status: &str, line: &str) -> Result<()> {
         self.check_status(alloc, status)?;
         if line == "*" {
             ensure!(!self.errors.is_empty(), "nothing is said");
             return Ok(());
         }
-        let mut wanted = Vec::from_slice(alloc, line.as_bytes())?;
+        let mut wanted = Vec::new(alloc);
         if !line.is_empty() {
-            wanted.push(b'\n')?;
+            for part in line.split(" / ") {
+                wanted.extend_from_slice(part.as_bytes())?;
+                wanted.push(b'\n')?;
+            }
         }
         ensure!(self.errors == wanted, "another line on standard error");
         Ok(())

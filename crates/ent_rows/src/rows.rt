@@ -121,5 +121,12 @@ fn check_longest<T: Threads + Wait + Sync>(alloc: Global, threads: &T) -> Result
     spaces.push(b' ')?;
     let longer = run_over(alloc, threads, "run", spaces.as_slice())?;
     ensure!(longer.output().is_empty(), "a longer input is answered");
-    longer.check_end(alloc, "1", "E105")
+    longer.check_end(alloc, "1", "E105")?;
+    let explained = run_over(alloc, threads, "run --explain", spaces.as_slice())?;
+    ensure!(explained.output().is_empty(), "a longer input is answered");
+    explained.check_end(
+        alloc,
+        "1",
+        "E105 / standard input has more than 16,777,216 bytes, the most of an input",
+    )
 }

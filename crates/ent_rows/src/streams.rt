@@ -1,8 +1,8 @@
 //! Streams that move few bytes, or fail at a stated call.
 //!
 //! `STREAMS.tsv` names a row's input, a command line, the most bytes that a read moves and which read fails (0 for
-//! none), the same of writes, and how the command must end: the exit status, the line on standard error, and how many
-//! bytes of the row's output were written.
+//! none), the same of writes, and how the command must end: the exit status, the line on standard error (two with ` / `
+//! between), and how many bytes of the row's output were written.
 use crate::machine::Behaviour;
 use crate::outcome::Outcome;
 use anyhow::{Context, Result, bail, ensure};

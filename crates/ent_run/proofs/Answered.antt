@@ -6,7 +6,7 @@ use Rattle.std.specs.List.{IsDistinct, AllByRecursion, list_any}
 use Rattle.std.proofs.lemmas.List.{set-get_or, set-set}
 use Rattle.std.proofs.lemmas.Bool.{eq-eqb}
 use Rattle.ent_semantics.specs.Entangled.{Valuation}
-use Rattle.ent_coordination.specs.Pool.{Posted}
+use Rattle.ent_semantics.specs.Pool.{Posted}
 use Rattle.ent_protocol.specs.Member.{is_tx}
 use Rattle.ent_protocol.specs.PoolEvents.{answered_among, answered_by, in_joined_group}
 use Rattle.ent_protocol.specs.State.{State, Member, first_of}

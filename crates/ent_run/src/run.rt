@@ -4,7 +4,7 @@ ghost use Rattle.std.specs.Prelude.{false, List, IfOk, OnOk, OnErr, None, Some, 
 ghost use Rattle.std.specs.Prelude.{◌↔◌, Contains, slice_index_or};
 ghost use Rattle.std.specs.List.{IsDistinct, list_any};
 ghost use Rattle.std.specs.Vec.{vec_capacity};
-ghost use Rattle.ent_coordination.specs.Pool.{Posted};
+ghost use Rattle.ent_semantics.specs.Pool.{Posted};
 ghost use Rattle.ent_protocol.specs.Begin.{holding};
 ghost use Rattle.ent_protocol.specs.Commit.{committing_members, entry_of, is_ready};
 ghost use Rattle.ent_protocol.specs.Finish.{stepped};

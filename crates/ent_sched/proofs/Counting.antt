@@ -2,7 +2,7 @@
 use Rattle.std.proofs.Common.{◌≡◌, ◌≤◌, ◌+◌, ◌-◌, ◌*◌, ℕ, length, ap, arith, mul-le-mul_right}
 use Rattle.ent_protocol.specs.Run.{Forms}
 use Rattle.ent_protocol.specs.State.{State, members}
-use Rattle.ent_termination.specs.Within.{IsBelow, IsWithin}
+use Rattle.ent_protocol_laws.specs.Within.{IsBelow, IsWithin}
 use Rattle.ent_sched.specs.Onward.{TicksOn, events_of_round}
 use Rattle.ent_sched.specs.Bounds.{events_of_rounds, events_of_run, most_progress, run_start}
 use Rattle.ent_sched.specs.Tally.{Tally}

@@ -6,10 +6,10 @@ use Rattle.ent_protocol.specs.Play.{is_idle}
 use Rattle.ent_protocol.specs.PoolEvents.{Picks}
 use Rattle.ent_protocol.specs.Run.{BreaksIfAny}
 use Rattle.ent_protocol.specs.State.{State}
-use Rattle.ent_termination.specs.Progress.{is_progress}
-use Rattle.ent_termination.specs.Idle.{IsTurnTaken}
+use Rattle.ent_protocol_laws.specs.Progress.{is_progress}
+use Rattle.ent_protocol_laws.specs.Idle.{IsTurnTaken}
 use Rattle.ent_protocol_laws.specs.Replies.{lent_by}
-use Rattle.ent_termination.specs.Lending.{IsJointTaken, IsSingleTaken}
+use Rattle.ent_protocol_laws.specs.Lending.{IsJointTaken, IsSingleTaken}
 use Rattle.ent_sched.specs.Progress.{UsesUp}
 
 -- fewer than before are left, and then fewer still

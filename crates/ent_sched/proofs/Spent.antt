@@ -14,7 +14,7 @@ use Rattle.ent_protocol.specs.Step.{Step}
 use Rattle.ent_protocol_laws.specs.Attempts.{AsksForRun}
 use Rattle.ent_protocol_laws.specs.Standing.{GoesOn}
 use Rattle.ent_protocol_laws.specs.Replies.{adds_script}
-use Rattle.ent_termination.specs.Tries.{tries_left}
+use Rattle.ent_protocol_laws.specs.Tries.{tries_left}
 use Rattle.ent_sched.specs.Tries.{UsesTries}
 use Rattle.ent_sched.proofs.Staying.{clash, goes_within, stays_on}
 

@@ -1,7 +1,7 @@
 -- What watchers are told, one after the other.
 use Rattle.std.proofs.Common.{◌≡◌, ◌<◌, ◌^◌, List, [], ◌∷◌, ◌++◌, length, length-append, refl, ap, subst, sym, ◌∙◌}
 use Rattle.ent_value.specs.Ticks.{ticked}
-use Rattle.ent_serializability.specs.Commits.{NoneStarts, StartsAtMostFirst}
+use Rattle.ent_protocol_laws.specs.Commits.{NoneStarts, StartsAtMostFirst}
 use Rattle.ent_form.specs.declared.fault.FormFault.{FormFault}
 use Rattle.ent_protocol.specs.Event.{Event, Reply, StartRun}
 use Rattle.ent_protocol.specs.Play.{Plays}

@@ -2,7 +2,7 @@
 use Rattle.std.specs.Prelude.{ℕ, ◌+◌, ◌*◌, length, if◌then◌else◌}
 use Rattle.ent_protocol.specs.Run.{starting}
 use Rattle.ent_protocol.specs.State.{State, members}
-use Rattle.ent_termination.specs.Within.{statements_in_run}
+use Rattle.ent_protocol_laws.specs.Within.{statements_in_run}
 use Rattle.ent_sched.specs.Onward.{events_of_round}
 
 -- a run is at its start, or is on; where none is on, the start of one

@@ -5,7 +5,7 @@ use Rattle.ent_protocol.specs.Job.{Job}
 use Rattle.ent_protocol.specs.Run.{Forms}
 use Rattle.ent_protocol.specs.State.{State}
 use Rattle.ent_protocol.specs.Step.{Step}
-use Rattle.ent_termination.specs.Within.{IsBelow, IsWithin}
+use Rattle.ent_protocol_laws.specs.Within.{IsBelow, IsWithin}
 
 -- one at least of the steps of progress that were left is used up
 abbrev pub UsesUp : State → State → Type 0

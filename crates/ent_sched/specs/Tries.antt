@@ -1,7 +1,7 @@
 -- What events leave of the tries.
 use Rattle.std.specs.Prelude.{◌≡◌, ◌<◌, ◌≤◌, true, false}
 use Rattle.ent_protocol.specs.State.{State}
-use Rattle.ent_termination.specs.Tries.{tries_left}
+use Rattle.ent_protocol_laws.specs.Tries.{tries_left}
 
 -- no try is added, and where a run that was on is over, one is used up
 pub record UsesTries (s new : State) : Type 0 where

@@ -1,7 +1,7 @@
 -- What a watcher of a core is told.
 use Rattle.std.specs.Prelude.{◌≡◌, List, [], ◌∷◌, length, map}
 use Rattle.ent_value.specs.Ticks.{ticked}
-use Rattle.ent_serializability.specs.Commits.{NoneStarts, StartsAtMostFirst}
+use Rattle.ent_protocol_laws.specs.Commits.{NoneStarts, StartsAtMostFirst}
 use Rattle.ent_form.specs.declared.fault.FormFault.{FormFault}
 use Rattle.ent_protocol.specs.Event.{Event, Reply}
 use Rattle.ent_protocol.specs.Event as events

@@ -1,7 +1,7 @@
 //! All runs of a core.
 ghost use Rattle.std.specs.Prelude.{◌≡◌, ℕ, IfErr, IfOk};
 ghost use Rattle.ent_book.specs.Tables.{book_seen};
-ghost use Rattle.ent_termination.specs.Fates.{HaveFates};
+ghost use Rattle.ent_protocol_laws.specs.Fates.{HaveFates};
 ghost use Rattle.ent_protocol.specs.Reached.{IsFinishedBook, book_of, scripts_of};
 ghost use Rattle.ent_core.specs.Passed.{resolved_forms};
 ghost use Rattle.ent_sched.specs.Onward.{LeadsOn};
@@ -18,8 +18,8 @@ use crate::watcher::{Silent, Watcher};
 use ent_book::NamedTable;
 use ent_core::Core;
 use ent_form::FormFault;
+use ent_protocol_laws::{events_keep_the_input, events_lead_on, finished_scripts_have_fates};
 use ent_semantics::Book;
-use ent_termination::{events_keep_the_input, events_lead_on, finished_scripts_have_fates};
 use ent_value::{Refusal, Sequence};
 use std::alloc::{AllocFailed, Global};
 

@@ -1,6 +1,6 @@
 //! A deadlock is broken.
 ghost use Rattle.std.specs.Prelude.{◌≡◌, [], false, true};
-ghost use Rattle.ent_termination.specs.Idle.{IsAnswered};
+ghost use Rattle.ent_protocol_laws.specs.Idle.{IsAnswered};
 ghost use Rattle.ent_protocol.specs.Event.{BreakCycle, NoCycle};
 ghost use Rattle.ent_core.specs.Passed.{resolved_forms};
 ghost use Rattle.ent_sched.specs.Onward.{TicksOn};
@@ -12,7 +12,7 @@ use crate::law::events_add_up;
 use crate::progress::told_of_progress;
 use crate::watcher::Watcher;
 use ent_form::FormFault;
-use ent_termination::{jobs_are_lent_by_replies, progress_uses_up};
+use ent_protocol_laws::{jobs_are_lent_by_replies, progress_uses_up};
 
 /// A deadlock is broken, where there is one. Whether there was one.
 pub(crate) fn break_deadlock<W: Watcher>(counted: &mut Counted, watcher: &mut W) -> bool

@@ -1,6 +1,6 @@
 //! A component of what is posted is answered.
 ghost use Rattle.std.specs.Prelude.{◌≡◌, [], false, true, IfOk, OnOk};
-ghost use Rattle.ent_termination.specs.Idle.{IsAnswered};
+ghost use Rattle.ent_protocol_laws.specs.Idle.{IsAnswered};
 ghost use Rattle.ent_protocol.specs.Event.{Nothing, Pick};
 ghost use Rattle.ent_core.specs.Passed.{resolved_forms};
 ghost use Rattle.ent_sched.specs.Onward.{TicksOn};
@@ -14,7 +14,7 @@ use ent_core::Reply;
 use ent_eval::{Done, evaluate};
 use ent_form::FormFault;
 use ent_job::Job;
-use ent_termination::{
+use ent_protocol_laws::{
     jobs_are_lent_by_replies, progress_uses_up, results_are_taken_at_once, steps_stay_within,
 };
 use std::alloc::{AllocError, Global};

@@ -11,8 +11,9 @@ ghost use Rattle.ent_sched.specs.Tally.{MakesEvent, Tally};
 ghost use Rattle.ent_sched.specs.Tries.{UsesTries};
 ghost use Rattle.ent_protocol_laws.specs.Attempts.{AsksForRun};
 
-use ent_protocol_laws::steps_go_on;
-use ent_termination::{ended_runs_use_up_tries, events_keep_the_input, events_lead_on};
+use ent_protocol_laws::{
+    ended_runs_use_up_tries, events_keep_the_input, events_lead_on, steps_go_on,
+};
 
 /// How events and their ticks add up: no event leaves all as it was, an event that adds no script counts one, sequences
 /// add, and a bound may be raised.

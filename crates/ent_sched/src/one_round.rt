@@ -1,7 +1,7 @@
 //! One round of a run.
 ghost use Rattle.std.specs.Prelude.{◌≡◌, ℕ, [], false, true, IfOk, OnOk};
-ghost use Rattle.ent_termination.specs.Within.{IsBelow, IsWithin};
-ghost use Rattle.ent_termination.specs.Idle.{IsIdleRound};
+ghost use Rattle.ent_protocol_laws.specs.Within.{IsBelow, IsWithin};
+ghost use Rattle.ent_protocol_laws.specs.Idle.{IsIdleRound};
 ghost use Rattle.ent_core.specs.Passed.{resolved_forms};
 ghost use Rattle.ent_sched.specs.Onward.{TicksOn, events_of_round};
 ghost use Rattle.ent_sched.specs.Watching.{IsWatchedInRun};
@@ -13,7 +13,7 @@ use crate::law::events_add_up;
 use crate::turn::take_turns;
 use crate::watcher::{Silent, Watcher};
 use ent_form::FormFault;
-use ent_termination::members_come_by_number;
+use ent_protocol_laws::members_come_by_number;
 use std::alloc::{AllocError, Global};
 
 /// One round: each member that is ready at its turn, by number, begins its next statement, and a job that is lent is

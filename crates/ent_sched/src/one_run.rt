@@ -1,7 +1,7 @@
 //! One run.
 ghost use Rattle.std.specs.Prelude.{◌≡◌, ◌<◌, [], false, true, IfOk, OnErr, OnOk};
-ghost use Rattle.ent_termination.specs.Idle.{IsIdleRound};
-ghost use Rattle.ent_termination.specs.Tries.{tries_left};
+ghost use Rattle.ent_protocol_laws.specs.Idle.{IsIdleRound};
+ghost use Rattle.ent_protocol_laws.specs.Tries.{tries_left};
 ghost use Rattle.ent_protocol.specs.Reached.{CanClose};
 ghost use Rattle.ent_core.specs.Passed.{resolved_forms};
 ghost use Rattle.ent_sched.specs.Onward.{TicksOn};
@@ -13,7 +13,7 @@ use crate::law::{events_add_up, events_use_up_tries};
 use crate::rounds::rounds;
 use crate::watcher::{Silent, Watcher};
 use ent_form::FormFault;
-use ent_termination::{idle_rounds_are_quiet, jobs_are_lent_by_replies};
+use ent_protocol_laws::{idle_rounds_are_quiet, jobs_are_lent_by_replies};
 use std::alloc::{AllocError, Global};
 
 /// Starts a run, unless one is on, or nothing is dormant. Whether one is on then.

@@ -1,6 +1,6 @@
 //! Which replies tell of progress.
 ghost use Rattle.std.specs.Prelude.{◌≡◌};
-ghost use Rattle.ent_termination.specs.Progress.{is_progress};
+ghost use Rattle.ent_protocol_laws.specs.Progress.{is_progress};
 ghost use Rattle.ent_core.specs.Reply.{reply_seen};
 
 use ent_core::Reply;

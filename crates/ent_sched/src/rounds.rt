@@ -1,6 +1,6 @@
 //! The rounds of a run.
 ghost use Rattle.std.specs.Prelude.{◌≡◌, [], OnOk};
-ghost use Rattle.ent_termination.specs.Idle.{IsIdleRound};
+ghost use Rattle.ent_protocol_laws.specs.Idle.{IsIdleRound};
 ghost use Rattle.ent_core.specs.Passed.{resolved_forms};
 ghost use Rattle.ent_sched.specs.Onward.{TicksOn};
 ghost use Rattle.ent_sched.specs.Bounds.{events_of_rounds};
@@ -11,7 +11,7 @@ use crate::law::events_add_up;
 use crate::one_round::round_watched;
 use crate::watcher::Watcher;
 use ent_form::FormFault;
-use ent_termination::runs_are_within;
+use ent_protocol_laws::runs_are_within;
 use std::alloc::{AllocError, Global};
 use std::marker::Brand;
 use std::sync::ledger::{Blank, Ledger};

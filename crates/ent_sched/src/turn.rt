@@ -1,7 +1,7 @@
 //! Turns of members.
 ghost use Rattle.std.specs.Prelude.{◌≡◌, ◌*◌, ℕ, [], false, true, IfOk, OnOk, Some, length};
 ghost use Rattle.std.specs.List.{AllByRecursion};
-ghost use Rattle.ent_termination.specs.Idle.{IsHeldUp};
+ghost use Rattle.ent_protocol_laws.specs.Idle.{IsHeldUp};
 ghost use Rattle.ent_protocol.specs.Event.{Begin};
 ghost use Rattle.ent_protocol.specs.Lookup.{Ready, Turn, running_members, standing};
 ghost use Rattle.ent_core.specs.Begin.{IsFreeMember};
@@ -20,7 +20,7 @@ use ent_form::FormFault;
 use ent_group::Tx;
 use ent_job::Job;
 use ent_protocol::refusals_change_nothing;
-use ent_termination::{
+use ent_protocol_laws::{
     jobs_are_lent_by_replies, progress_uses_up, ready_members_are_answered,
     results_are_taken_at_once, steps_stay_within,
 };

@@ -7,3 +7,6 @@ pub mod ItemKinds
 pub mod Over
 pub mod Environments
 pub mod Replied
+pub mod Linked
+pub mod Least
+pub mod Grounded

@@ -16,3 +16,6 @@ pub mod Kinds
 pub mod Form
 pub mod Closing
 pub mod FormKinds
+pub mod Pool
+pub mod Component
+pub mod Choice

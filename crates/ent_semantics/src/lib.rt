@@ -12,9 +12,13 @@
 //! variables. One definition gives both their meaning, from what a `K` is worth. [`ent_tree::Duplicate`] copies them,
 //! and [`ent_tree::Same`] compares them.
 //!
+//! A pool of posted closed statements is safe or not, has a remainder, and falls into components; a component has a
+//! coordinating choice over given tables or none, and if it has some, a least one. Values and sets say all of this;
+//! nothing says how it is found.
+//!
 //! Three small functions work by these definitions, for the crates above: [`element`], [`is_column_among`] and
-//! [`Failure::name`]. The functions of `law` and `closing_law` have no body: their contracts are laws of the
-//! definitions.
+//! [`Failure::name`]. The functions of `law`, `closing_law` and `pool_law` have no body: their contracts are laws of
+//! the definitions.
 #![tactic(auto)]
 
 mod answer;
@@ -27,6 +31,7 @@ mod entangled;
 mod equality;
 mod law;
 mod operand;
+mod pool_law;
 mod statement;
 
 pub use answer::{Answer, Fact, Failure};
@@ -37,4 +42,5 @@ pub use column::is_column_among;
 pub use entangled::{Atom, Binding, Entangled, Membership, Term};
 pub use law::{results_are_of_item_kinds, runs_go_on, statements_keep_to_their_uses};
 pub use operand::{Known, Operand};
+pub use pool_law::{components_are_classes, least_choice_is_one, remainder_is_the_greatest};
 pub use statement::{Select, Statement};

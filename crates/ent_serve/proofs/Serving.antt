@@ -1,28 +1,28 @@
 -- What a whole run gives, of sessions that hold the tickets that they were given.
 use Rattle.std.proofs.Common.{◌≡◌, inl, inr, ℕ, zero, suc, ◌+◌, ◌<◌, List, [], ◌∷◌, ◌++◌, length, map, replicate}
 use Rattle.std.proofs.Common.{get_or, slice_get, refl, ap, sym, subst, ◌∙◌, arith, Option, Some, None, Result, Ok, Err}
-use Rattle.std.proofs.Common.{◌==◌, IfOk, IfSome, append_assoc, find}
+use Rattle.std.proofs.Common.{IfOk, append_assoc}
 use Rattle.std.specs.Prelude.{Contains, IsPermutation}
 use Rattle.std.specs.List.{flat_map}
 use Rattle.std.proofs.lemmas.List.{length-map}
 use Rattle.std.proofs.lemmas.List.Sorted.{Contains-permutation, IsPermutation-sym}
 use Rattle.ent_tree.specs.declared.declaration.Opening.{Opening}
+use Rattle.ent_tree.specs.declared.script.Input.{Input}
 use Rattle.ent_tree.specs.declared.script.Script.{Script}
 use Rattle.ent_semantics.specs.Database.{Database}
 use Rattle.ent_semantics.specs.declared.book.Book.{Book}
 use Rattle.ent_semantics.specs.declared.book.Fate.{Fate}
 use Rattle.ent_protocol.specs.Reached.{IsGatheredAt}
 use Rattle.ent_protocol.specs.State.{State, Submitted}
-use Rattle.ent_desk.specs.Passed.{resolved_forms}
+use Rattle.ent_desk.specs.Passed.{IsBookOf, resolved_forms}
 use Rattle.ent_desk.specs.declared.ticket.First.{First}
 use Rattle.ent_desk.specs.declared.ticket.Receipt.{Receipt}
 use Rattle.ent_desk.specs.declared.ticket.Ticket.{Ticket}
-use Rattle.ent_desk.specs.Closed.{IsClosedBook, IsServed, all_tickets}
+use Rattle.ent_desk.specs.Closed.{IsClosedBook, all_tickets}
 use Rattle.ent_desk.specs.Opened.{first_over, first_session, other_session, tickets_from}
 use Rattle.ent_desk.specs.Seen.{GetsReceipts, SessionState, ticket}
-use Rattle.ent_desk.specs.Told.{fate_of}
 use Rattle.ent_desk.proofs.Exactness.{In, contains_in, in_contains}
-use Rattle.ent_serve.specs.Fates.{AgreesWith}
+use Rattle.ent_serve.specs.Fates.{TellsFate}
 use Rattle.ent_serve.specs.Seats.{KeepsSeats, SameSeats}
 
 append_nil : {X : Type 0} (xs : List X) → xs ++ [] ≡ xs
@@ -55,16 +55,10 @@ gets_on one two three h k =
 pub gets_same : (one : SessionState) → GetsReceipts one one
 gets_same one = record { tickets = refl; first = refl; receipts = ([], sym (append_nil one.receipts)) }
 
--- a fate that is told agrees with the receipt that tells of it
+-- what is told of a fate is told of it
 pub agrees : (receipts : List Receipt) (tx : ℕ) (told : Option Fate) (fate : Fate) → told ≡ Some fate
-    → IfSome (find (λ receipt. receipt.tx == tx) receipts) (λ receipt. told ≡ Some (fate_of receipt))
-    → AgreesWith receipts tx fate
-agrees receipts tx told fate is h = by (find (λ receipt. receipt.tx == tx) receipts) h
-  where
-    by : (o : Option Receipt) → IfSome o (λ receipt. told ≡ Some (fate_of receipt))
-        → IfSome o (λ receipt. fate ≡ fate_of receipt)
-    by None h = tt
-    by (Some receipt) h = let both : Some fate ≡ Some (fate_of receipt) = sym is ∙ h in cc
+    → TellsFate receipts tx told → TellsFate receipts tx (Some fate)
+agrees receipts tx told fate is h = subst (λ (o : Option Fate). TellsFate receipts tx o) is h
 
 pub same_none : (s : List SessionState) → SameSeats s s
 same_none s = record { tickets = refl; first = refl }
@@ -173,10 +167,11 @@ only_first first opening scripts k (inl e) = cc
 only_first first opening scripts k (inr h) = absurd (no_first first k h)
 
 -- a closed book of sessions that hold what they held at the start
-served : (opening : Opening) (scripts : List Script) (k : ℕ) (book : Book Database) (seen : List SessionState)
-    → IsClosedBook book seen → SameSeats (first_session opening scripts ∷ replicate k other_session) seen
-    → IsServed opening scripts book
-served opening scripts k book seen closed same =
+served : (input : Input) (k : ℕ) (book : Book Database) (seen : List SessionState) → IsClosedBook book seen
+    → SameSeats (first_session input.opening input.scripts ∷ replicate k other_session) seen → IsBookOf input book
+served input k book seen closed same =
+    let opening = input.opening in
+    let scripts = input.scripts in
     let start = first_session opening scripts ∷ replicate k other_session in
     let tickets : all_tickets seen ≡ tickets_from 1 scripts =
     flat_joined (λ (s : SessionState). s.tickets) seen ∙ ap joined same.tickets
@@ -208,12 +203,12 @@ served opening scripts k book seen closed same =
       legal = closed.legal;
     }
 
-pub served_by : {E X : Type 0} (view : X → Book Database) (opening : Opening) (scripts : List Script) (k : ℕ)
-    (held worked : List SessionState) (r : Result X E)
-    → held ≡ first_session opening scripts ∷ replicate k other_session → SameSeats held worked
+pub served_by : {E X : Type 0} (view : X → Book Database) (input : Input) (k : ℕ) (held worked : List SessionState)
+    (r : Result X E) → held ≡ first_session input.opening input.scripts ∷ replicate k other_session
+    → SameSeats held worked
     → IfOk r (λ book. (closed : List SessionState) × SameSeats worked closed × IsClosedBook (view book) closed)
-    → IfOk r (λ book. IsServed opening scripts (view book))
-served_by view opening scripts k held worked (Ok book) is same h =
-    served opening scripts k (view book) h.0 h.2
+    → IfOk r (λ book. IsBookOf input (view book))
+served_by view input k held worked (Ok book) is same h =
+    served input k (view book) h.0 h.2
     (subst (λ (l : List SessionState). SameSeats l h.0) is (same_on held worked h.0 same h.1))
-served_by view opening scripts k held worked (Err fault) is same h = tt
+served_by view input k held worked (Err fault) is same h = tt

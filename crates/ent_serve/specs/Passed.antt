@@ -1,2 +1,2 @@
 -- what is passed on, of the crates below, to those that stand on this one
-pub use Rattle.ent_desk.specs.Closed.{IsServed}
+pub use Rattle.ent_desk.specs.Passed.{IsBookOf}

@@ -23,7 +23,7 @@ mod workers;
 
 pub use ent_desk::{
     BlankLog, Blanks, Both, CloseFault, Core, First, Naming, NotSubmitted, PlayFault, Receipt,
-    RenewFault, Seats, Session, SubmitFault, Ticket, core_over,
+    RenewFault, Seats, Session, SubmitFault, Ticket,
 };
 pub use fault::ServeFault;
 pub use gate::{Gate, Open};

@@ -1,19 +1,19 @@
 //! The manager.
 ghost use Rattle.std.specs.Prelude.{◌≡◌, ◌≢◌, ◌-◌, ◌<◌, ◌≤◌, ◌==◌, ◌∷◌};
-ghost use Rattle.std.specs.Prelude.{◌↔◌, None, Some, IfErr, IfOk, IfSome, OnErr, OnOk};
-ghost use Rattle.std.specs.Prelude.{find, length, replicate, vec_len};
+ghost use Rattle.std.specs.Prelude.{◌↔◌, None, Some, IfErr, IfOk, OnErr, OnOk};
+ghost use Rattle.std.specs.Prelude.{length, replicate, vec_len};
 ghost use Rattle.std.specs.Fn.{FnOnceReturnsAt, FnOnceTakesAt};
 ghost use Rattle.ent_book.specs.Tables.{book_seen};
-ghost use Rattle.ent_desk.specs.Passed.{input_fault};
 ghost use Rattle.ent_desk.specs.Closed.{IsClosedBook, IsWholeBook};
 ghost use Rattle.ent_desk.specs.Opened.{first_session, other_session};
 ghost use Rattle.ent_desk.specs.Receipts.{IsInJournal};
 ghost use Rattle.ent_desk.specs.Seen.{GetsReceipts, with_ticket};
-ghost use Rattle.ent_desk.specs.Told.{fate_of};
 ghost use Rattle.ent_desk.specs.declared.closing.CloseFault.TheVariants.{NotDone, SessionsOut};
+ghost use Rattle.ent_form.specs.InputFault.{input_fault};
 ghost use Rattle.ent_form.specs.declared.fault.FormFault.{FormFault};
 ghost use Rattle.ent_protocol.specs.State.{State};
-ghost use Rattle.ent_serve.specs.Look.{IsBehindLock};
+ghost use Rattle.ent_serve.specs.Fates.{IsBehindLockFor, TellsFate};
+ghost use Rattle.ent_serve.specs.Look.{IsBehindLock, IsLeftBehindLock};
 ghost use Rattle.ent_serve.specs.declared.manager.TheConstants.{MOST_SESSIONS};
 ghost use Rattle.ent_value.specs.declared.refusal.Refusal.TheVariants.{Fault, Memory};
 
@@ -261,15 +261,24 @@ impl<L: Naming, G: Gate> Manager<L, G> {
     }
 
     /// What became of a transaction: Committed, as the session's receipt of it says, where it holds one; else the fate
-    /// that it has by now, None where it has none yet.
+    /// that the core behind the lock has for it, None where it has none yet.
     pub fn fate<R: Wait>(&self, rt: &R, session: &Session<L>, tx: Tx) -> Option<Fate>
-        ensures { IfSome (find (λ receipt. receipt.tx == tx) session.now.receipts) (λ receipt.
-            result ≡ Some (fate_of receipt)) }
+        ensures { TellsFate session.now.receipts tx result }
     {
         match session.fate(tx) {
             Some(fate) => Some(fate),
-            None => self.desk.lock(rt).fate(tx),
+            None => self.fate_behind_lock(rt, tx),
         }
+    }
+
+    /// The fate that the core behind the lock has for a transaction.
+    fn fate_behind_lock<R: Wait>(&self, rt: &R, tx: Tx) -> Option<Fate>
+        ensures { IsBehindLockFor tx result }
+    {
+        let desk = self.desk.lock(rt);
+        let _core = desk.core();
+        let fate = desk.fate(tx);
+        fate
     }
 
     /// What the journal has for a transaction, for whoever asks: its commit number, its runs, and copies of its
@@ -309,6 +318,7 @@ impl<L: Naming, G: Gate> Manager<L, G> {
         ensures manager { IfErr result (λ refused. refused.manager.sessions ≡ self.sessions) }
         ensures sessions_out { IfErr result (λ refused.
             (refused.refusal ≡ Fault SessionsOut) ↔ (vec_len sessions ≢ self.sessions)) }
+        ensures not_done { IfErr result (λ refused. refused.refusal ≡ Fault NotDone → IsLeftBehindLock) }
     {
         if sessions.len() != self.sessions {
             return Err(UnclosedManager {
@@ -324,7 +334,9 @@ impl<L: Naming, G: Gate> Manager<L, G> {
             gate,
             sessions: count,
         } = self;
-        match desk.into_inner().close(sessions.as_mut_slice()) {
+        let desk = desk.into_inner();
+        let _core = desk.core();
+        match desk.close(sessions.as_mut_slice()) {
             Ok(book) => Ok((book, sessions)),
             Err(refused) => Err(UnclosedManager {
                 manager: Manager {
@@ -346,6 +358,7 @@ impl<L: Naming, G: Gate> Manager<L, G> {
         ensures book { IfOk result (λ book. IsWholeBook (book_seen book)) }
         ensures manager { IfErr result (λ refused. refused.manager.sessions ≡ self.sessions) }
         ensures refusal { IfErr result (λ refused. refused.refusal ≢ Memory → refused.refusal ≡ Fault NotDone) }
+        ensures not_done { IfErr result (λ refused. refused.refusal ≡ Fault NotDone → IsLeftBehindLock) }
     {
         let Manager {
             alloc,
@@ -354,7 +367,9 @@ impl<L: Naming, G: Gate> Manager<L, G> {
             gate,
             sessions,
         } = self;
-        match desk.into_inner().into_book() {
+        let desk = desk.into_inner();
+        let _core = desk.core();
+        match desk.into_book() {
             Ok(book) => Ok(book),
             Err(refused) => Err(NoBook {
                 manager: Manager {

@@ -3,8 +3,9 @@ ghost use Rattle.std.specs.Prelude.{◌≡◌, ◌≢◌, ◌↔◌, IfErr, IfOk
 ghost use Rattle.ent_book.specs.Tables.{book_seen};
 ghost use Rattle.ent_desk.specs.Closed.{IsClosedBook};
 ghost use Rattle.ent_desk.specs.Renewed.{GoOnFrom};
-ghost use Rattle.ent_desk.specs.declared.closing.CloseFault.TheVariants.{SessionsOut};
-ghost use Rattle.ent_desk.specs.declared.renewal.RenewFault.TheVariants.{Close};
+ghost use Rattle.ent_desk.specs.declared.closing.CloseFault.TheVariants.{NotDone, SessionsOut};
+ghost use Rattle.ent_desk.specs.declared.renewal.RenewFault.TheVariants.{Close, TooManyRows};
+ghost use Rattle.ent_serve.specs.Look.{IsFullBehindLock, IsLeftBehindLock};
 ghost use Rattle.ent_value.specs.declared.refusal.Refusal.TheVariants.{Fault};
 
 use crate::gate::Gate;
@@ -48,6 +49,8 @@ impl<L: Naming, G: Gate> Manager<L, G> {
         ensures manager { IfErr result (λ refused. refused.manager.sessions ≡ self.sessions) }
         ensures sessions_out { IfErr result (λ refused.
             (refused.refusal ≡ Fault (Close SessionsOut)) ↔ (vec_len sessions ≢ self.sessions)) }
+        ensures not_done { IfErr result (λ refused. refused.refusal ≡ Fault (Close NotDone) → IsLeftBehindLock) }
+        ensures too_many { IfErr result (λ refused. refused.refusal ≡ Fault TooManyRows → IsFullBehindLock) }
     {
         if sessions.len() != self.sessions {
             return Err(NotRenewed {
@@ -63,7 +66,9 @@ impl<L: Naming, G: Gate> Manager<L, G> {
             gate,
             sessions: count,
         } = self;
-        match desk.into_inner().renew(alloc, sessions.as_mut_slice()) {
+        let desk = desk.into_inner();
+        let _core = desk.core();
+        match desk.renew(alloc, sessions.as_mut_slice()) {
             Ok(renewed) => Ok(Renewed {
                 manager: Manager {
                     alloc,

@@ -1,7 +1,7 @@
 //! A client waits for a fate.
-ghost use Rattle.std.specs.Prelude.{IfOk, IfSome};
+ghost use Rattle.std.specs.Prelude.{IfOk, IfSome, Some};
 ghost use Rattle.ent_desk.specs.Seen.{GetsReceipts};
-ghost use Rattle.ent_serve.specs.Fates.{AgreesWith};
+ghost use Rattle.ent_serve.specs.Fates.{TellsFate};
 
 use crate::gate::Gate;
 use crate::manager::{Headway, Manager};
@@ -28,7 +28,7 @@ impl<L: Naming, G: Gate> Manager<L, G> {
         tx: Tx,
     ) -> Result<Result<Fate, Headway>, AllocError>
         ensures session { GetsReceipts session.old session.new }
-        ensures fate { IfOk result (λ told. IfOk told (AgreesWith session.new.receipts tx)) }
+        ensures fate { IfOk result (λ told. IfOk told (λ fate. TellsFate session.new.receipts tx (Some fate))) }
     {
         let headway = self.work_in_run(rt, session)?;
         match self.fate(rt, session, tx) {
@@ -44,7 +44,7 @@ impl<L: Naming, G: Gate> Manager<L, G> {
     #[tactic(auto, using(crate::proofs::Serving::gets_on, crate::proofs::Serving::gets_same))]
     pub fn wait_for<R: Wait>(&self, rt: &R, session: &mut Session<L>, tx: Tx) -> Fate
         ensures session { GetsReceipts session.old session.new }
-        ensures fate { AgreesWith session.new.receipts tx result }
+        ensures fate { TellsFate session.new.receipts tx (Some result) }
     {
         for _ in rt.forever() {
             let seen = self.bell.count(rt);
@@ -59,7 +59,8 @@ impl<L: Naming, G: Gate> Manager<L, G> {
     }
 
     /// As [`Manager::wait_for`], for so long at most: None where the time is over first, or where the clock can't be
-    /// read. A call that is made is made to its end, also beyond the time.
+    /// read. It looks at the clock in each turn, also while memory is out; then a job may be left in the session, and
+    /// the session's next call goes on with it. A call that is made is made to its end, also beyond the time.
     #[tactic(auto, using(crate::proofs::Serving::gets_on, crate::proofs::Serving::gets_same))]
     pub fn wait_for_at_most<R: Wait + Clock>(
         &self,
@@ -69,7 +70,7 @@ impl<L: Naming, G: Gate> Manager<L, G> {
         most: Duration,
     ) -> Option<Fate>
         ensures session { GetsReceipts session.old session.new }
-        ensures fate { IfSome result (AgreesWith session.new.receipts tx) }
+        ensures fate { IfSome result (λ fate. TellsFate session.new.receipts tx (Some fate)) }
     {
         let start = Instant::now(rt).ok();
         for _ in rt.forever() {
@@ -82,7 +83,10 @@ impl<L: Naming, G: Gate> Manager<L, G> {
                         self.bell.wait_as_client_at_most(rt, seen, left);
                     }
                 }
-                Err(AllocError) => thread::yield_now(),
+                Err(AllocError) => {
+                    let _left = left_of(rt, start, most)?;
+                    thread::yield_now();
+                }
             }
         }
         unreachable!()

@@ -2,9 +2,10 @@
 ghost use Rattle.std.specs.Prelude.{◌≡◌, ◌-◌, ◌<◌, ◌≤◌, List, ℕ, None};
 ghost use Rattle.std.specs.Prelude.{Some, IfErr, IfOk, OnOk, map, slice_index_or, vec_len};
 ghost use Rattle.ent_book.specs.Tables.{book_seen};
-ghost use Rattle.ent_desk.specs.Passed.{input_fault};
-ghost use Rattle.ent_desk.specs.Closed.{IsClosedBook, IsServed};
+ghost use Rattle.ent_desk.specs.Closed.{IsClosedBook};
+ghost use Rattle.ent_desk.specs.Passed.{IsBookOf};
 ghost use Rattle.ent_desk.specs.Seen.{SessionState};
+ghost use Rattle.ent_form.specs.InputFault.{input_fault};
 ghost use Rattle.ent_form.specs.declared.fault.FormFault.{FormFault};
 ghost use Rattle.ent_serve.specs.Seats.{KeepsSeats, SameSeats};
 ghost use Rattle.ent_serve.specs.declared.fault.ServeFault.TheVariants.{Form};
@@ -177,7 +178,7 @@ pub fn serve<L: Naming + Send + Sync, G: Gate + Sync, R: Threads + Wait + Sync>(
     requires blank { (blank.scripts.parts ≡ workers) × (blank.entries.parts ≡ workers) }
     requires scripts { (L.Scripts.seats ≡ workers) × (L.Scripts.parts ≡ workers) }
     requires entries { (L.Entries.seats ≡ workers) × (L.Entries.parts ≡ workers) }
-    ensures served { IfOk result (λ book. IsServed input.opening input.scripts (book_seen book)) }
+    ensures served { IfOk result (λ book. IsBookOf input (book_seen book)) }
     ensures formed { OnOk result (input_fault input.opening input.scripts ≡ None) }
     ensures fault { IfErr result (λ refusal. (fault : FormFault)
         → refusal ≡ Fault (Form fault)
@@ -216,7 +217,7 @@ fn serve_by<
     requires blank { (blank.scripts.parts ≡ workers) × (blank.entries.parts ≡ workers) }
     requires scripts { (S.seats ≡ workers) × (S.parts ≡ workers) }
     requires entries { (E.seats ≡ workers) × (E.parts ≡ workers) }
-    ensures served { IfOk result (λ book. IsServed input.opening input.scripts (book_seen book)) }
+    ensures served { IfOk result (λ book. IsBookOf input (book_seen book)) }
     ensures formed { OnOk result (input_fault input.opening input.scripts ≡ None) }
     ensures fault { IfErr result (λ refusal. (fault : FormFault)
         → refusal ≡ Fault (Form fault)
@@ -235,7 +236,7 @@ pub fn serve_input<G: Gate + Sync, R: Threads + Wait + Sync>(
 ) -> Result<Book<Sequence<NamedTable>>, Refusal<ServeFault>>
     requires nonempty { 0 < workers }
     requires bound { workers ≤ MOST_SESSIONS }
-    ensures served { IfOk result (λ book. IsServed input.opening input.scripts (book_seen book)) }
+    ensures served { IfOk result (λ book. IsBookOf input (book_seen book)) }
     ensures formed { OnOk result (input_fault input.opening input.scripts ≡ None) }
     ensures fault { IfErr result (λ refusal. (fault : FormFault)
         → refusal ≡ Fault (Form fault)

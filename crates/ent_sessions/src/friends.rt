@@ -4,18 +4,16 @@ ghost use Rattle.std.specs.Prelude.{◌≡◌};
 
 use anyhow::{Context, Result, ensure};
 use ent_semantics::Fate;
-use ent_serve::{BlankLog, Blanks, Both, Core, Headway, Manager, Naming, Open, Seats, Session};
+use ent_serve::{Core, Headway, Manager, Naming, Open, Session};
 use ent_sql::parse_input;
 use ent_tree::Script;
 use std::alloc::Global;
-use std::marker::Brand;
 use std::sync::Wait;
-use std::sync::ledger::Blank;
 use std::thread;
 use std::thread::Threads;
 use std::time::{Clock, Duration, Instant};
 
-const OPENING: &str = "CREATE TABLE Flights (fno INT, dest TEXT);
+pub(crate) const OPENING: &str = "CREATE TABLE Flights (fno INT, dest TEXT);
 CREATE TABLE Bookings (who TEXT, fno INT);
 INSERT INTO Flights VALUES (122, 'LA');
 ";
@@ -60,7 +58,7 @@ const LONG: u64 = 20;
 
 /// Whose scripts come.
 #[derive(Clone, Copy, Debug, PartialEq, Eq)]
-enum Cast {
+pub(crate) enum Cast {
     Friends,
     Lonely,
 }
@@ -222,24 +220,16 @@ fn are_told_together(fates: &[Option<Fate>]) -> Result<()> {
     Ok(())
 }
 
-/// The fates that the clients are told; none of whoever paces the runs, who comes last.
-fn told_of<L: Naming + Send + Sync, R: Threads + Wait + Clock + Sync>(
+/// The fates that the clients are told; none of the session that paces the runs, which comes last.
+fn told<L: Naming + Send + Sync, R: Threads + Wait + Clock + Sync>(
     rt: &R,
     alloc: Global,
-    blank: Blanks,
+    manager: Manager<L, Open>,
+    sessions: Vec<Session<L>>,
     cast: Cast,
 ) -> Result<Vec<Option<Fate>>>
-    requires names { (blank.scripts.name ≡ L.Scripts.name) × (blank.entries.name ≡ L.Entries.name)
-        × (blank.jobs ≡ L.Scripts.book) }
-    requires blank { (blank.scripts.parts ≡ 4) × (blank.entries.parts ≡ 4) }
-    requires scripts { (L.Scripts.seats ≡ 4) × (L.Scripts.parts ≡ 4) }
-    requires entries { (L.Entries.seats ≡ 4) × (L.Entries.parts ≡ 4) }
+    requires { (L.Scripts.seats ≡ L.Scripts.parts) × (L.Entries.seats ≡ L.Entries.parts) }
 {
-    let input = parse_input(alloc, OPENING)
-        .ok()
-        .context("the opening can't be read")?;
-    let opened = Manager::<L, Open>::open(alloc, blank, input, Open, 4).ok();
-    let (manager, sessions) = opened.context("the manager can't be opened")?;
     let parts = seated(alloc, sessions, cast)?;
     let shared = &manager;
     let act = |part: Part<L>| -> ToldClient<L> {
@@ -266,50 +256,27 @@ fn told_of<L: Naming + Send + Sync, R: Threads + Wait + Clock + Sync>(
     Ok(fates)
 }
 
-fn told_by<S: Seats + Send + Sync, E: Seats + Send + Sync, R: Threads + Wait + Clock + Sync>(
+/// Has these clients come, and looks at what they are told.
+pub(crate) fn check<L: Naming + Send + Sync, R: Threads + Wait + Clock + Sync>(
     rt: &R,
     alloc: Global,
-    blank: Blanks,
+    manager: Manager<L, Open>,
+    sessions: Vec<Session<L>>,
     cast: Cast,
-) -> Result<Vec<Option<Fate>>>
-    requires names { (blank.scripts.name ≡ S.name) × (blank.entries.name ≡ E.name) × (blank.jobs ≡ S.book) }
-    requires blank { (blank.scripts.parts ≡ 4) × (blank.entries.parts ≡ 4) }
-    requires scripts { (S.seats ≡ 4) × (S.parts ≡ 4) }
-    requires entries { (E.seats ≡ 4) × (E.parts ≡ 4) }
+) -> Result<()>
+    requires { (L.Scripts.seats ≡ L.Scripts.parts) × (L.Entries.seats ≡ L.Entries.parts) }
 {
-    told_of::<Both<S, E>, R>(rt, alloc, blank, cast)
-}
-
-/// What each client is told, over a manager of their own.
-fn told<R: Threads + Wait + Clock + Sync>(
-    rt: &R,
-    alloc: Global,
-    cast: Cast,
-) -> Result<Vec<Option<Fate>>> {
-    told_by::<Brand, Brand, R>(
-        rt,
-        alloc,
-        Blanks {
-            scripts: Blank::new(4),
-            entries: Blank::new(4),
-            jobs: BlankLog::new(),
-        },
-        cast,
-    )
-}
-
-pub(crate) fn check<R: Threads + Wait + Clock + Sync>(rt: &R, alloc: Global) -> Result<()> {
-    let fates = told(rt, alloc, Cast::Friends)?;
-    are_told(fates.as_slice())
-}
-
-pub(crate) fn check_lonely<R: Threads + Wait + Clock + Sync>(rt: &R, alloc: Global) -> Result<()> {
     let start = Instant::now(rt)?;
-    let fates = told(rt, alloc, Cast::Lonely)?;
+    let fates = told(rt, alloc, manager, sessions, cast)?;
     let took = start.elapsed(rt)?;
-    ensure!(
-        took < Duration::from_secs(LONG),
-        "one isn't woken at the end of the run"
-    );
-    are_told_together(fates.as_slice())
+    match cast {
+        Cast::Friends => are_told(fates.as_slice()),
+        Cast::Lonely => {
+            ensure!(
+                took < Duration::from_secs(LONG),
+                "one isn't woken at the end of the run"
+            );
+            are_told_together(fates.as_slice())
+        }
+    }
 }

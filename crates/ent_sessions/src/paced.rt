@@ -1,19 +1,13 @@
 //! One thread starts and ends its runs itself, asks what the journal has, and gives the sessions up.
-ghost use Rattle.std.specs.Prelude.{◌≡◌};
-
 use anyhow::{Context, Result, bail, ensure};
 use ent_semantics::Fate;
-use ent_serve::{
-    BlankLog, Blanks, Both, CloseFault, Headway, Manager, Naming, NoBook, Open, Seats, Session,
-};
+use ent_serve::{CloseFault, Headway, Manager, Naming, NoBook, Open, Session};
 use ent_sql::parse_input;
 use ent_value::Refusal;
 use std::alloc::Global;
-use std::marker::Brand;
 use std::sync::Wait;
-use std::sync::ledger::Blank;
 
-const OPENING: &str = "CREATE TABLE T (a INT);";
+pub(crate) const OPENING: &str = "CREATE TABLE T (a INT);";
 
 const SCRIPT: &str = "BEGIN TRANSACTION; INSERT INTO T VALUES (7); SELECT * FROM T; COMMIT;";
 
@@ -112,18 +106,13 @@ fn left_over<L: Naming>(refused: NoBook<L, Open>) -> Result<Manager<L, Open>> {
     Ok(manager)
 }
 
-fn check_of<L: Naming, R: Wait>(rt: &R, alloc: Global, blank: Blanks) -> Result<()>
-    requires names { (blank.scripts.name ≡ L.Scripts.name) × (blank.entries.name ≡ L.Entries.name)
-        × (blank.jobs ≡ L.Scripts.book) }
-    requires blank { (blank.scripts.parts ≡ 2) × (blank.entries.parts ≡ 2) }
-    requires scripts { (L.Scripts.seats ≡ 2) × (L.Scripts.parts ≡ 2) }
-    requires entries { (L.Entries.seats ≡ 2) × (L.Entries.parts ≡ 2) }
-{
-    let input = parse_input(alloc, OPENING)
-        .ok()
-        .context("the opening can't be read")?;
-    let opened = Manager::<L, Open>::open(alloc, blank, input, Open, 2).ok();
-    let (manager, mut sessions) = opened.context("the manager can't be opened")?;
+/// Makes a run for the first session's script, and has the second one's done once the first session is gone.
+pub(crate) fn check<L: Naming, R: Wait>(
+    rt: &R,
+    alloc: Global,
+    manager: Manager<L, Open>,
+    mut sessions: Vec<Session<L>>,
+) -> Result<()> {
     let mut second = sessions.pop().context("there is no second session")?;
     let first = sessions.first_mut().context("there is no first session")?;
     let headway = manager.work_in_run(rt, first)?;
@@ -153,29 +142,4 @@ fn check_of<L: Naming, R: Wait>(rt: &R, alloc: Global, blank: Blanks) -> Result<
         "another book"
     );
     Ok(())
-}
-
-fn check_by<S: Seats + Send + Sync, E: Seats + Send + Sync, R: Wait>(
-    rt: &R,
-    alloc: Global,
-    blank: Blanks,
-) -> Result<()>
-    requires names { (blank.scripts.name ≡ S.name) × (blank.entries.name ≡ E.name) × (blank.jobs ≡ S.book) }
-    requires blank { (blank.scripts.parts ≡ 2) × (blank.entries.parts ≡ 2) }
-    requires scripts { (S.seats ≡ 2) × (S.parts ≡ 2) }
-    requires entries { (E.seats ≡ 2) × (E.parts ≡ 2) }
-{
-    check_of::<Both<S, E>, R>(rt, alloc, blank)
-}
-
-pub(crate) fn check<R: Wait>(rt: &R, alloc: Global) -> Result<()> {
-    check_by::<Brand, Brand, R>(
-        rt,
-        alloc,
-        Blanks {
-            scripts: Blank::new(2),
-            entries: Blank::new(2),
-            jobs: BlankLog::new(),
-        },
-    )
 }

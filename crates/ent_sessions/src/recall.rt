@@ -1,15 +1,14 @@
 //! A job that is held at the gate is called back, and another session does it.
-ghost use Rattle.std.specs.Prelude.{◌≡◌};
+ghost use Rattle.std.specs.Prelude.{◌≡◌, ◌<◌, ◌≤◌};
+ghost use Rattle.ent_serve.specs.declared.manager.TheConstants.{MOST_SESSIONS};
 
 use crate::gates::{Flags, HoldFirst};
+use crate::ledgers::opened;
 use anyhow::{Context, Result, ensure};
 use ent_semantics::Fate;
-use ent_serve::{BlankLog, Blanks, Both, Headway, Manager, Naming, Seats, Session};
-use ent_sql::parse_input;
+use ent_serve::{Blanks, Headway, Manager, Naming, Session};
 use std::alloc::{AllocError, Global};
-use std::marker::Brand;
 use std::sync::Wait;
-use std::sync::ledger::Blank;
 use std::thread;
 use std::thread::Threads;
 
@@ -41,30 +40,25 @@ fn work_on<'a, L: Naming, R: Wait>(
     session
 }
 
-fn check_of<L: Naming + Send + Sync, R: Threads + Wait + Sync>(
+/// Both work, and the job that is held is done by the other one.
+pub(crate) fn check<L: Naming + Send + Sync, R: Threads + Wait + Sync>(
     rt: &R,
     alloc: Global,
     blank: Blanks,
+    sessions: usize,
 ) -> Result<()>
+    requires nonempty { 0 < sessions }
+    requires bound { sessions ≤ MOST_SESSIONS }
     requires names { (blank.scripts.name ≡ L.Scripts.name) × (blank.entries.name ≡ L.Entries.name)
         × (blank.jobs ≡ L.Scripts.book) }
-    requires blank { (blank.scripts.parts ≡ 2) × (blank.entries.parts ≡ 2) }
-    requires scripts { (L.Scripts.seats ≡ 2) × (L.Scripts.parts ≡ 2) }
-    requires entries { (L.Entries.seats ≡ 2) × (L.Entries.parts ≡ 2) }
+    requires blank { (blank.scripts.parts ≡ sessions) × (blank.entries.parts ≡ sessions) }
+    requires scripts { (L.Scripts.seats ≡ sessions) × (L.Scripts.parts ≡ sessions) }
+    requires entries { (L.Entries.seats ≡ sessions) × (L.Entries.parts ≡ sessions) }
 {
     let flags = Flags::new();
     let lent = &flags;
-    let input = parse_input(alloc, INPUT)
-        .ok()
-        .context("the input can't be read")?;
-    let opened = Manager::<L, HoldFirst>::open(
-        alloc,
-        blank,
-        input,
-        HoldFirst { flags: lent },
-        2,
-    ).ok();
-    let (manager, sessions) = opened.context("the manager can't be opened")?;
+    let gate = HoldFirst { flags: lent };
+    let (manager, sessions) = opened::<L, HoldFirst>(alloc, blank, INPUT, gate, sessions)?;
     let shared = &manager;
     let work = |session: Session<L>| -> Session<L> { work_on(rt, shared, lent, session) };
     let sessions = thread::map_vec(rt, sessions, &work)?;
@@ -80,29 +74,4 @@ fn check_of<L: Naming + Send + Sync, R: Threads + Wait + Sync>(
         "another fate"
     );
     Ok(())
-}
-
-fn check_by<S: Seats + Send + Sync, E: Seats + Send + Sync, R: Threads + Wait + Sync>(
-    rt: &R,
-    alloc: Global,
-    blank: Blanks,
-) -> Result<()>
-    requires names { (blank.scripts.name ≡ S.name) × (blank.entries.name ≡ E.name) × (blank.jobs ≡ S.book) }
-    requires blank { (blank.scripts.parts ≡ 2) × (blank.entries.parts ≡ 2) }
-    requires scripts { (S.seats ≡ 2) × (S.parts ≡ 2) }
-    requires entries { (E.seats ≡ 2) × (E.parts ≡ 2) }
-{
-    check_of::<Both<S, E>, R>(rt, alloc, blank)
-}
-
-pub(crate) fn check<R: Threads + Wait + Sync>(rt: &R, alloc: Global) -> Result<()> {
-    check_by::<Brand, Brand, R>(
-        rt,
-        alloc,
-        Blanks {
-            scripts: Blank::new(2),
-            entries: Blank::new(2),
-            jobs: BlankLog::new(),
-        },
-    )
 }

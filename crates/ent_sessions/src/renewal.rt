@@ -4,18 +4,15 @@ ghost use Rattle.std.specs.Prelude.{◌≡◌};
 use anyhow::{Context, Result, bail, ensure};
 use ent_semantics::Fate;
 use ent_serve::{
-    BlankLog, Blanks, Both, CloseFault, Headway, Manager, Naming, NotRenewed, Open, RenewFault,
-    Renewed, Seats, Session,
+    CloseFault, Headway, Manager, Naming, NotRenewed, Open, RenewFault, Renewed, Session,
 };
 use ent_sql::parse_input;
 use ent_tree::Script;
 use ent_value::Refusal;
 use std::alloc::Global;
-use std::marker::Brand;
 use std::sync::Wait;
-use std::sync::ledger::Blank;
 
-const OPENING: &str = "CREATE TABLE Flights (fno INT, dest TEXT);
+pub(crate) const OPENING: &str = "CREATE TABLE Flights (fno INT, dest TEXT);
 CREATE TABLE Bookings (who TEXT, fno INT);
 ";
 
@@ -155,18 +152,15 @@ fn second_epoch<L: Naming, R: Wait>(
     Ok(())
 }
 
-fn check_of<L: Naming, R: Wait>(rt: &R, alloc: Global, blank: Blanks) -> Result<()>
-    requires names { (blank.scripts.name ≡ L.Scripts.name) × (blank.entries.name ≡ L.Entries.name)
-        × (blank.jobs ≡ L.Scripts.book) }
-    requires blank { (blank.scripts.parts ≡ 2) × (blank.entries.parts ≡ 2) }
-    requires scripts { (L.Scripts.seats ≡ 2) × (L.Scripts.parts ≡ 2) }
-    requires entries { (L.Entries.seats ≡ 2) × (L.Entries.parts ≡ 2) }
+/// Two epochs of one manager.
+pub(crate) fn check<L: Naming, R: Wait>(
+    rt: &R,
+    alloc: Global,
+    manager: Manager<L, Open>,
+    sessions: Vec<Session<L>>,
+) -> Result<()>
+    requires { (L.Scripts.seats ≡ L.Scripts.parts) × (L.Entries.seats ≡ L.Entries.parts) }
 {
-    let input = parse_input(alloc, OPENING)
-        .ok()
-        .context("the opening can't be read")?;
-    let opened = Manager::<L, Open>::open(alloc, blank, input, Open, 2).ok();
-    let (manager, sessions) = opened.context("the manager can't be opened")?;
     let Renewed {
         manager,
         mut sessions,
@@ -180,29 +174,4 @@ fn check_of<L: Naming, R: Wait>(rt: &R, alloc: Global, blank: Blanks) -> Result<
     ensure!(book.opening.rows.len() == 1, "another opening");
     ensure!(book.journal.len() == 2, "another journal");
     Ok(())
-}
-
-fn check_by<S: Seats + Send + Sync, E: Seats + Send + Sync, R: Wait>(
-    rt: &R,
-    alloc: Global,
-    blank: Blanks,
-) -> Result<()>
-    requires names { (blank.scripts.name ≡ S.name) × (blank.entries.name ≡ E.name) × (blank.jobs ≡ S.book) }
-    requires blank { (blank.scripts.parts ≡ 2) × (blank.entries.parts ≡ 2) }
-    requires scripts { (S.seats ≡ 2) × (S.parts ≡ 2) }
-    requires entries { (E.seats ≡ 2) × (E.parts ≡ 2) }
-{
-    check_of::<Both<S, E>, R>(rt, alloc, blank)
-}
-
-pub(crate) fn check<R: Wait>(rt: &R, alloc: Global) -> Result<()> {
-    check_by::<Brand, Brand, R>(
-        rt,
-        alloc,
-        Blanks {
-            scripts: Blank::new(2),
-            entries: Blank::new(2),
-            jobs: BlankLog::new(),
-        },
-    )
 }

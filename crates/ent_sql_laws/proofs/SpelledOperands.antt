@@ -25,6 +25,7 @@ use Rattle.ent_text.specs.Phrase.{Phrase, ◌⨾◌, nothing}
 use Rattle.ent_text.specs.Grammar.{Grammar, give, token, chain}
 use Rattle.ent_text.specs.GrammarSpelling.{chained}
 use Rattle.ent_sql.specs.Operands as grammar
+use Rattle.ent_print.specs.Spelling.{comparison_symbol}
 use Rattle.ent_sql_laws.specs.Phrases.{Standing}
 use Rattle.ent_sql_laws.specs.Phrases as phrases
 use Rattle.ent_sql_laws.specs.Operands as said
@@ -202,8 +203,8 @@ compares_from comparisons.LessOrEqual tokens h = inr (inr (inr (inl (itself h)))
 compares_from comparisons.Greater tokens h = inr (inr (inr (inr (inl (itself h)))))
 compares_from comparisons.GreaterOrEqual tokens h = inr (inr (inr (inr (inr (itself h)))))
 
-compares : (c : Comparison) → Spelled (chain (token (sign (said.sign_of c))) (λ place. give c)) (Compares c)
-compares c = end_spelled c (sign_spelled (said.sign_of c))
+compares : (c : Comparison) → Spelled (chain (token (sign (comparison_symbol c))) (λ place. give c)) (Compares c)
+compares c = end_spelled c (sign_spelled (comparison_symbol c))
 
 pub comparison_spelled : Spelled grammar.comparison said.comparison
 unfolding grammar.comparison

@@ -20,6 +20,7 @@ use Rattle.ent_tree.specs.declared.operand.Test.{Test}
 use Rattle.ent_tree.specs.declared.entangled.Term.{Term}
 use Rattle.ent_tree.specs.declared.entangled.Term.TheVariants as terms
 use Rattle.ent_text.specs.Phrase.{Phrase, ◌⨾◌}
+use Rattle.ent_print.specs.Spelling.{comparison_symbol}
 use Rattle.ent_sql_laws.specs.Phrases.{Standing, single, sign}
 
 -- a name stands where its token does
@@ -71,17 +72,9 @@ abbrev pub term : Term → Phrase
 term (terms.Value v) = value v
 term (terms.Variable n) = identifier n
 
-abbrev pub sign_of : Comparison → Symbol
-sign_of comparisons.Equal = signs.Equal
-sign_of comparisons.NotEqual = signs.NotEqual
-sign_of comparisons.Less = signs.Less
-sign_of comparisons.LessOrEqual = signs.LessOrEqual
-sign_of comparisons.Greater = signs.Greater
-sign_of comparisons.GreaterOrEqual = signs.GreaterOrEqual
-
 -- "=" or "<>" or "<" or "<=" or ">" or ">="
 abbrev pub comparison : Comparison → Phrase
-comparison c = sign (sign_of c)
+comparison c = sign (comparison_symbol c)
 
 -- thing comparison thing
 abbrev pub compared : {A : Type 0} → (A → Phrase) → Test A → Phrase

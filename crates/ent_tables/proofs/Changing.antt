@@ -9,7 +9,7 @@ use Rattle.ent_value.specs.declared.value.Value.{Value}
 use Rattle.ent_rel.specs.Relation.{Relation}
 use Rattle.ent_undo.specs.Change.{Change as Noted}
 use Rattle.ent_semantics.specs.Form.{Tables}
-use Rattle.ent_select.specs.Tables.{kinds_in, no_table, rows_in}
+use Rattle.ent_ordinary.specs.Tables.{kinds_in, no_table, rows_in}
 use Rattle.ent_protocol.specs.Job.{applied}
 use Rattle.ent_tables.specs.Stored.{AreOfTables, Stored, changed, changes_seen, stored_of, taken_back}
 use Rattle.ent_tables.proofs.Notes.{all_pop, seen_newest}

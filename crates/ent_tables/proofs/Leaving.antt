@@ -5,7 +5,7 @@ use Rattle.std.specs.List.{filter, list_any}
 use Rattle.ent_rel.specs.Relation.{Relation}
 use Rattle.ent_undo.specs.Change.{Change as Noted, is_of, is_of_others, of_others, put_back as put_back_noted}
 use Rattle.ent_undo.specs.Change.{rolled_back as rolled_back_noted}
-use Rattle.ent_select.specs.Tables.{kinds_in, rows_in}
+use Rattle.ent_ordinary.specs.Tables.{kinds_in, rows_in}
 use Rattle.ent_protocol.specs.Rollback.{is_among, put_back}
 use Rattle.ent_protocol.specs.State.{Member}
 use Rattle.ent_tables.specs.Stored.{AreOfTables, Stored, is_by, rolled_back, rolled_back_with, settled, settled_with}

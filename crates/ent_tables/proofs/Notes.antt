@@ -8,7 +8,7 @@ use Rattle.ent_value.specs.declared.value.Kind.{Kind}
 use Rattle.ent_rel.specs.Relation.{Relation}
 use Rattle.ent_undo.specs.Change.{Change as Noted, put_back as put_back_noted}
 use Rattle.ent_semantics.specs.Form.{Tables}
-use Rattle.ent_select.specs.Tables.{kinds_in, rows_in}
+use Rattle.ent_ordinary.specs.Tables.{kinds_in, rows_in}
 use Rattle.ent_protocol.specs.Rollback.{put_back}
 use Rattle.ent_protocol.specs.State.{Change}
 use Rattle.ent_tables.specs.Stored.{AreOfTables, change_seen, changes_seen}

@@ -6,8 +6,8 @@ use Rattle.ent_tree.specs.declared.declaration.Opening.{Opening}
 use Rattle.ent_semantics.specs.Database.{opening_database}
 use Rattle.ent_form.specs.declared.catalogue.ColumnSchema.{ColumnSchema}
 use Rattle.ent_form.specs.Catalogue.{column_schema, schemas_of}
-use Rattle.ent_form_laws.specs.Kinds.{column_kinds}
-use Rattle.ent_form_laws.specs.Opened.{opening_tables}
+use Rattle.ent_form.specs.TableKinds.{column_kinds}
+use Rattle.ent_form.specs.Opened.{opening_tables}
 use Rattle.ent_protocol.specs.Reached.{table_names}
 use Rattle.ent_tables.specs.Stored.{kinds_declared}
 

@@ -5,7 +5,7 @@ use Rattle.std.specs.Prelude.{slice_get, slice_index_or}
 use Rattle.ent_lists.specs.Sets as set
 use Rattle.ent_tree.specs.declared.declaration.Create.{Create}
 use Rattle.ent_rel.specs.Relation.{Relation}
-use Rattle.ent_select.specs.Tables.{kinds_in, no_table, rows_in}
+use Rattle.ent_ordinary.specs.Tables.{kinds_in, no_table, rows_in}
 use Rattle.ent_protocol.specs.Member.{declared_kinds, seen_now}
 use Rattle.ent_protocol.specs.State.{Use}
 use Rattle.ent_tables.specs.AtNumber.{seen_at, seen_in}

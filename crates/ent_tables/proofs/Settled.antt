@@ -15,7 +15,7 @@ use Rattle.ent_rel.specs.Relation.{Relation}
 use Rattle.ent_undo.specs.Change.{Change as Noted, put_back as put_back_noted}
 use Rattle.ent_undo.proofs.Lists.{slice_get-set}
 use Rattle.ent_semantics.specs.Form.{Tables}
-use Rattle.ent_select.specs.Tables.{kinds_in}
+use Rattle.ent_ordinary.specs.Tables.{kinds_in}
 use Rattle.ent_protocol.specs.Rollback.{put_back}
 use Rattle.ent_tables.specs.Stored.{AreOfTables, Stored, stored_of}
 use Rattle.ent_tables.proofs.Notes.{kinds_put_back, rows_put_back}

@@ -3,7 +3,7 @@ use Rattle.std.specs.Prelude.{ℕ, List, map, slice_index_or}
 use Rattle.ent_rel.specs.Relation.{Relation}
 use Rattle.ent_protocol.specs.Job.{Numbered}
 use Rattle.ent_protocol.specs.State.{Use}
-use Rattle.ent_select.specs.Tables.{no_table}
+use Rattle.ent_ordinary.specs.Tables.{no_table}
 
 abbrev pub seen_of : ℕ → Relation → Numbered
 seen_of number table = record { table = number; kinds = table.kinds; rows = table.rows }

@@ -10,7 +10,7 @@ use Rattle.ent_rel.specs.Relation.{Relation}
 use Rattle.ent_undo.specs.Change.{Change as Noted}
 use Rattle.ent_semantics.specs.Database.{Rows}
 use Rattle.ent_semantics.specs.Form.{Tables}
-use Rattle.ent_select.specs.Tables.{kinds_in, rows_in}
+use Rattle.ent_ordinary.specs.Tables.{kinds_in, rows_in}
 use Rattle.ent_protocol.specs.Finish.{noted, with_change}
 use Rattle.ent_protocol.specs.Rollback.{is_among, put_back}
 use Rattle.ent_protocol.specs.State.{Member, Change}

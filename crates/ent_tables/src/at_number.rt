@@ -5,8 +5,8 @@ ghost use Rattle.std.specs.List.{AllByRecursion};
 ghost use Rattle.ent_tables.specs.AtNumber.{seen_at, seen_in};
 
 use ent_members::Use;
+use ent_ordinary::table_at;
 use ent_rel::{NumberedTable, Table};
-use ent_select::table_at;
 use ent_value::Sequence;
 use std::alloc::{AllocError, Global};
 use std::sync::Arc;

@@ -6,8 +6,8 @@ ghost use Rattle.std.specs.Option.{option_map};
 ghost use Rattle.ent_tree.specs.declared.declaration.Create.{Create};
 ghost use Rattle.ent_form.specs.Catalogue.{schemas_of};
 ghost use Rattle.ent_form.specs.OpeningFault.{opening_fault};
-ghost use Rattle.ent_select.specs.Tables.{kinds_in, rows_in};
-ghost use Rattle.ent_effect.specs.Change.{IsApplicable};
+ghost use Rattle.ent_ordinary.specs.Tables.{kinds_in, rows_in};
+ghost use Rattle.ent_ordinary.specs.Change.{IsApplicable};
 ghost use Rattle.ent_protocol.specs.Member.{seen_now};
 ghost use Rattle.ent_protocol.specs.Reached.{opened};
 ghost use Rattle.ent_protocol.specs.Rollback.{put_back};
@@ -16,13 +16,12 @@ ghost use Rattle.ent_tables.specs.Stored.{changed, kinds_declared, kinds_of, rel
 ghost use Rattle.ent_tables.specs.Stored.{rolled_back_with, rows_of, settled, settled_with, taken_back};
 
 use crate::at_number::tables_seen;
-use ent_effect::table_changed;
 use ent_form::Catalogue;
 use ent_group::{Members, Tx};
 use ent_loading::load_tables;
 use ent_members::Use;
+use ent_ordinary::{table_at, table_changed};
 use ent_rel::{Delta, NumberedTable, Table};
-use ent_select::table_at;
 use ent_tree::Opening;
 use ent_undo::{UndoLog, rollback_goes_newest_first};
 use ent_value::Sequence;
@@ -44,7 +43,7 @@ impl Model for StoredTables {
     ghost use Rattle.std.specs.Arc.{arc_value};
     ghost use Rattle.std.specs.Coded.{codes};
     ghost use Rattle.ent_rel.specs.Relation.{coded_rows};
-    ghost use Rattle.ent_select.specs.Tables.{kinds_in};
+    ghost use Rattle.ent_ordinary.specs.Tables.{kinds_in};
     ghost use Rattle.ent_tables.specs.Stored.{AreOfTables, Stored, stored_of};
 
     ghost Value = { Stored };

@@ -1,20 +1,15 @@
-//! The tokens of a text of entangled SQL.
+//! Reading text: the tokens of entangled SQL, grammars as data, and the parts of a report's lines.
 //!
-//! A text has one list of tokens or one first fault, with their places in bytes. A caller may rely on it that
-//! [`tokens`] gives exactly these: the longest tokens from the left, in order, each spelled by the bytes between its
-//! places.
-//!
-//! Grammars as data, and what holds of each of them.
+//! A text has one list of tokens or one first fault, with their offsets in bytes. [`tokens`] gives exactly these: the
+//! longest tokens from the left, in order, each spelled by the bytes of its span.
 //!
 //! A grammar is a value of `Grammar A`: what it reads gives a value of `A`. `reads_all` says what all of some tokens
-//! say, or their first fault; `spells` which tokens a value has. The laws tie the two for every grammar that one token
-//! decides, which `IsPredictive` says by computing. Readers in code take the functions of this crate for single tokens,
-//! and say in their contracts which grammar they read.
+//! say, or their first fault; `spells` says which tokens a value has. The laws tie the two for every grammar that one
+//! token decides, which `IsPredictive` says by computing. Readers in code take the functions of this crate for single
+//! tokens, and say in their contracts which grammar they read.
 //!
-//! The parts of a report's lines, read from the left: numbers, values, rows.
-//!
-//! Each call gives a thing and the bytes behind it, or says that nothing of its sort stands in front. A caller may rely
-//! on it that what is read is written just so, and that what is written so is read.
+//! The readers of numbers, values and rows read from the left: each call gives a part and the bytes behind it, or says
+//! that no such part stands in front. What is read is written exactly so, and what is written so is read.
 #![tactic(auto)]
 
 mod bytes;

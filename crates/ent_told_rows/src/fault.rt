@@ -1,9 +1,9 @@
 //! The fault of an input, and what is said of it.
 use crate::script::{script_fault_told, script_in};
-use anyhow::{Result, anyhow, bail};
-use ent_fault_text::{InputFault, explain_fault, valid_text};
+use anyhow::{Context, Result, anyhow};
+use ent_fault_text::{Explanation, explain_fault, valid_text};
 use ent_form::{Catalogue, FormFault, resolve};
-use ent_sql::parse_input;
+use ent_input::{InputFault, read_input};
 use ent_tree::Input;
 use ent_value::Refusal;
 use std::alloc::Global;
@@ -14,21 +14,17 @@ pub(crate) fn fault_told(alloc: Global, row: &[u8]) -> Result<String> {
         Some(parts) => script_fault_told(alloc, parts),
         None => {
             let fault = fault_of(alloc, row)?;
-            told(alloc, row, fault)
+            let explanation = explain_fault(alloc, valid_text(row), fault)?;
+            told(alloc, fault, explanation)
         }
     }
 }
 
 /// The first fault of an input, which has one.
 fn fault_of(alloc: Global, bytes: &[u8]) -> Result<InputFault> {
-    let text = valid_text(bytes);
-    if text.len() < bytes.len() {
-        return Ok(InputFault::NotUtf8);
-    }
-    match parse_input(alloc, text) {
+    match read_input(alloc, bytes) {
         Ok(input) => form_fault_of(alloc, &input),
-        Err(Refusal::Fault(fault)) => Ok(InputFault::Sql(fault)),
-        Err(Refusal::Memory) => bail!("out of memory"),
+        Err(refusal) => unread(refusal),
     }
 }
 
@@ -46,6 +42,14 @@ fn form_fault_of(alloc: Global, input: &Input) -> Result<InputFault> {
     Err(anyhow!("the input has no fault"))
 }
 
+/// The fault for which a text isn't read.
+pub(crate) fn unread(refusal: Refusal<InputFault>) -> Result<InputFault> {
+    match refusal {
+        Refusal::Fault(fault) => Ok(fault),
+        Refusal::Memory => Err(anyhow!("out of memory")),
+    }
+}
+
 pub(crate) fn refused(refusal: Refusal<FormFault>) -> Result<InputFault> {
     match refusal {
         Refusal::Fault(fault) => Ok(InputFault::Form(fault)),
@@ -53,20 +57,14 @@ pub(crate) fn refused(refusal: Refusal<FormFault>) -> Result<InputFault> {
     }
 }
 
-/// The number of a fault.
-pub(crate) fn number_of(fault: InputFault) -> u16 {
-    match fault {
-        InputFault::NotUtf8 => 100,
-        InputFault::Sql(fault) => fault.code(),
-        InputFault::Form(fault) => fault.code(),
-    }
-}
-
 /// What the program says of a fault, and the explanation below it.
-fn told(alloc: Global, bytes: &[u8], fault: InputFault) -> Result<String> {
-    let text = valid_text(bytes);
-    let number = number_of(fault);
-    let offset = fault.offset(text);
-    let explanation = explain_fault(alloc, text, fault)?;
+pub(crate) fn told(
+    alloc: Global,
+    fault: InputFault,
+    explanation: Option<Explanation<'_>>,
+) -> Result<String> {
+    let number = fault.code();
+    let offset = fault.place().context("the fault has no place")?;
+    let explanation = explanation.context("the fault isn't explained")?;
     Ok(format!(in alloc; "E{number} at {offset}\n{explanation}\n")?)
 }

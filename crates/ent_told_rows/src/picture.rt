@@ -1,6 +1,6 @@
 //! Stored traces, drawn, and texts that are no traces, refused by their line.
 use anyhow::{Context, Result, bail, ensure};
-use ent_svg::draw;
+use ent_picture::draw;
 use ent_value::Refusal;
 use std::alloc::Global;
 use std::{env, fs, io};
@@ -35,7 +35,7 @@ fn drawn(alloc: Global, trace: &str, picked: &str) -> Result<Vec<u8>> {
     let picked = numbers(alloc, picked)?;
     match draw(alloc, trace, picked.as_slice()) {
         Ok(svg) => Ok(svg),
-        Err(Refusal::Fault(strange)) => Ok(format!(in alloc; "{strange}")?.into_bytes()),
+        Err(Refusal::Fault(fault)) => Ok(format!(in alloc; "{fault}")?.into_bytes()),
         Err(Refusal::Memory) => bail!("out of memory"),
     }
 }

@@ -1,11 +1,10 @@
 //! The fault of one script over declarations, and what is said of it.
-use crate::fault::{number_of, refused};
+use crate::fault::{refused, told, unread};
 use anyhow::{Result, anyhow, bail};
-use ent_fault_text::{InputFault, explain_script_fault, valid_text};
+use ent_fault_text::{explain_script_fault, valid_text};
 use ent_form::{Catalogue, resolve};
-use ent_sql::{parse_input, parse_script};
+use ent_input::{InputFault, read_input, read_script};
 use ent_tree::{Opening, Script};
-use ent_value::Refusal;
 use std::alloc::Global;
 
 /// The line between the declarations and the script.
@@ -30,28 +29,21 @@ pub(crate) fn script_in<'a>(row: &'a [u8]) -> Option<ScriptParts<'a>> {
 
 /// What is said of the fault of a script, which has one: its number and place, and the explanation below them.
 pub(crate) fn script_fault_told(alloc: Global, parts: ScriptParts<'_>) -> Result<String> {
-    let input = match parse_input(alloc, parts.declarations) {
+    let input = match read_input(alloc, parts.declarations.as_bytes()) {
         Ok(input) => input,
         Err(_) => bail!("the declarations can't be read"),
     };
     let text = valid_text(parts.script);
     let fault = fault_of_script(alloc, &input.opening, parts.script)?;
-    let number = number_of(fault);
-    let offset = fault.offset(text);
     let explanation = explain_script_fault(alloc, &input.opening, text, fault)?;
-    Ok(format!(in alloc; "E{number} at {offset}\n{explanation}\n")?)
+    told(alloc, fault, explanation)
 }
 
 /// The first fault of a script, which has one.
 fn fault_of_script(alloc: Global, opening: &Opening, bytes: &[u8]) -> Result<InputFault> {
-    let text = valid_text(bytes);
-    if text.len() < bytes.len() {
-        return Ok(InputFault::NotUtf8);
-    }
-    match parse_script(alloc, text) {
+    match read_script(alloc, bytes) {
         Ok(script) => form_fault_of_script(alloc, opening, &script),
-        Err(Refusal::Fault(fault)) => Ok(InputFault::Sql(fault)),
-        Err(Refusal::Memory) => bail!("out of memory"),
+        Err(refusal) => unread(refusal),
     }
 }
 

@@ -1,12 +1,11 @@
-//! The text of events and replies, a line each.
+//! Watchers of a schedule, and the text of the events and replies that they are told.
 //!
-//! A caller may rely on it that nothing here fails: a text for which memory ran out is marked as cut off.
+//! A [`Trace`] writes each event with its reply as a line. Nothing here fails: a text for which memory ran out is
+//! marked as cut off.
 //!
-//! Watchers of a schedule: one that notes what each transaction was told last and what stopped it, one that says
-//! something before anything runs, and two that are told the same.
-//!
-//! A caller may rely on it that the notes of a [`NoteTaker`] are those of all events and replies that it was told, in
-//! order, unless they say that they aren't whole.
+//! A [`NoteTaker`] notes what each transaction was told last, and what stopped it. A caller may rely on it that its
+//! notes are those of all events and replies that it was told, in order, unless they say that they aren't whole. A
+//! [`Foreword`] says something before anything runs, and [`Both`] tells two watchers the same.
 #![tactic(auto)]
 
 mod answer;

@@ -2,11 +2,11 @@
 use ent_group::{Members, Tx};
 use ent_match::Demand;
 use ent_members::Conflict;
-use ent_reasons::{Block, Need, Observation, Observations};
+use ent_reasons::{Block, Need, Observation, Observations, append_demand};
 use ent_sched::{BeginRefusal, Core, Obstacle};
-use ent_semantics::{Atom, Term};
+use ent_semantics::Atom;
 use ent_tree::{Duplicate, Opening};
-use ent_value::{Value, print_value};
+use ent_value::Value;
 use std::alloc::{AllocError, Global};
 
 /// Notes what is seen of the members of a run. Where memory runs out for one, nothing is.
@@ -87,26 +87,10 @@ fn need_of(alloc: Global, core: &Core, tx: Tx, demand: Demand) -> Result<Need, A
 
 /// A demand for which nobody offers a match.
 fn unmet(alloc: Global, index: usize, post: &Atom<Value>) -> Result<Need, AllocError> {
-    let demand = demand_text(alloc, post)?;
+    let mut demand = Vec::new(alloc);
+    append_demand(alloc, &mut demand, &post.relation, post.terms.as_slice())?;
     let number = index.saturating_add(1);
     Ok(Need::Unmet { number, demand })
-}
-
-/// A demand as it is written, with values where they are known, and `_` where not.
-fn demand_text(alloc: Global, post: &Atom<Value>) -> Result<Vec<u8>, AllocError> {
-    let mut text = Vec::new(alloc);
-    let mut between = "(";
-    for term in post.terms.as_slice() {
-        text.extend_from_slice(between.as_bytes())?;
-        match term {
-            Term::Known(value) => print_value(alloc, &mut text, value)?,
-            Term::Variable(_) => text.push(b'_')?,
-        }
-        between = ", ";
-    }
-    text.extend_from_slice(b") IN ANSWER ")?;
-    text.extend_from_slice(post.relation.as_bytes())?;
-    Ok(text)
 }
 
 /// The tables that others hold in conflict with a member.

@@ -13,7 +13,7 @@ use Rattle.ent_semantics.specs.Term.{no_value}
 use Rattle.ent_semantics.specs.Form.{term_worth}
 use Rattle.ent_semantics.specs.declared.entangled.Atom.{Atom}
 use Rattle.ent_semantics.specs.declared.entangled.Term.{Term}
-use Rattle.ent_coordination.specs.Pool.{AreOfKinds, Unify, fact_under}
+use Rattle.ent_semantics.specs.Pool.{AreOfKinds, Unify, fact_under}
 use Rattle.ent_unify.specs.Side.{Assignment, worth, side_kind}
 use Rattle.ent_unify.specs.Equation.{HaveSolution, AreRefuted, IsDecided}
 use Rattle.ent_unify.specs.Tuple.{variable_side, term_side, column_sides}

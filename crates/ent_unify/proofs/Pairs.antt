@@ -11,7 +11,7 @@ use Rattle.ent_value.specs.declared.value.Value.{Value}
 use Rattle.ent_semantics.specs.Entangled.{Valuation}
 use Rattle.ent_semantics.specs.declared.entangled.Term.{Term}
 use Rattle.ent_semantics.specs.declared.entangled.Term.TheVariants as terms
-use Rattle.ent_coordination.specs.Pool.{AreOfKinds}
+use Rattle.ent_semantics.specs.Pool.{AreOfKinds}
 use Rattle.ent_unify.specs.declared.tuple.Tuple.{Tuple}
 use Rattle.ent_unify.specs.declared.unifier.ClassBinding.{ClassBinding}
 use Rattle.ent_unify.specs.declared.unifier.MemberAtom.{MemberAtom}

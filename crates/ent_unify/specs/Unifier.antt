@@ -9,7 +9,7 @@ use Rattle.ent_value.specs.declared.value.Value.{Value}
 use Rattle.ent_semantics.specs.Entangled.{Valuation}
 use Rattle.ent_semantics.specs.Term.{no_value}
 use Rattle.ent_semantics.specs.declared.entangled.Atom.{Atom}
-use Rattle.ent_coordination.specs.Pool.{AreOfKinds, fact_under}
+use Rattle.ent_semantics.specs.Pool.{AreOfKinds, fact_under}
 use Rattle.ent_unify.specs.declared.unifier.ClassBinding.{ClassBinding}
 use Rattle.ent_unify.specs.declared.unifier.MemberAtom.{MemberAtom}
 use Rattle.ent_unify.specs.declared.variable.Representative.{Representative}

@@ -1,6 +1,6 @@
 //! Whether two atoms unify.
 ghost use Rattle.std.specs.Prelude.{◌≡◌, ◌↔◌, IsTrue, false};
-ghost use Rattle.ent_coordination.specs.Pool.{Unify};
+ghost use Rattle.ent_semantics.specs.Pool.{Unify};
 ghost use Rattle.ent_unify.specs.Unifier.{AreApart};
 
 use crate::tuple::Tuple;

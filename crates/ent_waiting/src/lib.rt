@@ -1,15 +1,14 @@
-//! The waiting list of a room: which scripts wait, under which tickets, and how those ended that wait no more.
+//! The waiting list of a room, and the laws of stores: databases that keep what its scripts committed.
 //!
 //! A [`WaitingList`] gives each script that is put a [`Ticket`], and no ticket twice. A script waits until it ends:
 //! committed, rolled back or failed as a core says, given up since its patience is used up, or withdrawn. A caller may
-//! rely on it that a ticket ends at most once, that who ended never waits again, and that a refused call changes
-//! nothing. Nothing here knows a core: the caller says which transaction a script became, and what came of it.
+//! rely on it that a ticket ends at most once, that a script that ended never waits again, and that a refused call
+//! changes nothing. Nothing here knows a core: the caller says which transaction a script became, and what came of it.
 //!
-//! Laws of stores: databases that keep what committed, and outlive the processes that write to them.
-//!
-//! The functions here have no body: their contracts are laws of the definitions in `specs`. A store is claimed by
-//! processes, of which each has a room in memory, and writes to the store what committed there. Writes are lost, come
-//! late or twice; processes crash and begin anew at any time. docs/STORES.md says what is modelled, and what isn't.
+//! A store outlives the processes that write to it. Processes claim it; each has a room in memory, and writes to the
+//! store what committed there. Writes are lost, come late or twice; processes crash and begin anew at any time. The
+//! laws have no body: their contracts speak of the definitions in `specs`. docs/STORES.md says what is modelled, and
+//! what isn't.
 #![tactic(auto)]
 
 mod ended;

@@ -5,7 +5,7 @@ use Rattle.std.specs.List.{filter}
 use Rattle.std.specs.Option.{is_some}
 use Rattle.ent_value.specs.declared.value.Value.{Value}
 use Rattle.ent_semantics.specs.declared.entangled.Entangled.{Entangled}
-use Rattle.ent_coordination.specs.Pool.{IsSafe}
+use Rattle.ent_semantics.specs.Pool.{IsSafe}
 use Rattle.ent_protocol.specs.Begin.{pool_with}
 use Rattle.ent_protocol.specs.Member.{Next, Ordinary, Asks, Commits, RollsBack, next_of}
 use Rattle.ent_protocol.specs.Quiet.{CanPost, MovesBy}

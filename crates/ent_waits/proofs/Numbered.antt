@@ -5,7 +5,7 @@ use Rattle.std.specs.Prelude.{AllPairs, Contains}
 use Rattle.std.proofs.lemmas.Bool.{cases_lt}
 use Rattle.std.proofs.lemmas.List.{get_or_default}
 use Rattle.ent_lists.proofs.Contained.{contains_none, contains_cases, contains_first, contains_later}
-use Rattle.ent_coordination.specs.Pool.{Posted}
+use Rattle.ent_semantics.specs.Pool.{Posted}
 use Rattle.ent_match.specs.Fault.{IsByNumber}
 
 module _ {X : Type 0} (number : X → ℕ) where

@@ -6,7 +6,7 @@ use Rattle.std.proofs.lemmas.Bool.{cases_lt}
 use Rattle.std.proofs.lemmas.List.{get_or_default}
 use Rattle.ent_lists.proofs.Contained.{contains_none}
 use Rattle.ent_lock.specs.Use.{IsLeast}
-use Rattle.ent_coordination.specs.Pool.{Posted, first_tx}
+use Rattle.ent_semantics.specs.Pool.{Posted, first_tx}
 use Rattle.ent_match.specs.Components.{AreFirstPlaces, FirstIs, component_at}
 use Rattle.ent_match.specs.Fault.{IsByNumber}
 use Rattle.ent_match.proofs.Beginning.{some_within}

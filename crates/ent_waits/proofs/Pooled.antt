@@ -12,7 +12,7 @@ use Rattle.ent_semantics.specs.Serial.{numbered}
 use Rattle.ent_semantics.specs.declared.entangled.Entangled.{Entangled}
 use Rattle.ent_semantics.specs.declared.operand.Known.{Known}
 use Rattle.ent_semantics.specs.declared.statement.Statement.{Statement}
-use Rattle.ent_coordination.specs.Pool.{Posted}
+use Rattle.ent_semantics.specs.Pool.{Posted}
 use Rattle.ent_lists.specs.Elements.{In, Pairs, clash, of_all, of_map, to_map}
 use Rattle.ent_lists.specs.Elements.{contains_in, filter_empty, filter_joined, filter_same, filter_whole, in_contains}
 use Rattle.ent_lists.specs.Elements.{index_pairs, same_number, number_itself, pairs_mapped}

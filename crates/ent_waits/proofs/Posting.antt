@@ -7,7 +7,7 @@ use Rattle.std.specs.Option.{is_some}
 use Rattle.std.proofs.lemmas.List.Elements.{Contains-push_cases}
 use Rattle.ent_value.specs.declared.value.Value.{Value}
 use Rattle.ent_semantics.specs.declared.entangled.Entangled.{Entangled}
-use Rattle.ent_coordination.specs.Pool.{Posted, CanMeet, IsFirstUnsafe, IsSafe, IsUnsafeAt, Unsafe}
+use Rattle.ent_semantics.specs.Pool.{Posted, CanMeet, IsFirstUnsafe, IsSafe, IsUnsafeAt, Unsafe}
 use Rattle.ent_lists.specs.Elements.{contains_in, in_contains}
 use Rattle.ent_match.specs.Fault.{IsByNumber}
 use Rattle.ent_match.specs.Posting.{HasNone}

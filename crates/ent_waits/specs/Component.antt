@@ -1,6 +1,6 @@
 -- The components that may be picked, in the words of the states in which their statements are posted.
 use Rattle.std.specs.Prelude.{◌≡◌, ◌≤◌, List, Option, Some, None}
-use Rattle.ent_coordination.specs.Pool.{Posted, first_tx}
+use Rattle.ent_semantics.specs.Pool.{Posted, first_tx}
 use Rattle.ent_protocol.specs.Job.{Job}
 use Rattle.ent_protocol.specs.Member.{pool}
 use Rattle.ent_protocol.specs.PoolEvents.{CanBePicked}

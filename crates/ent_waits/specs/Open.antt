@@ -1,6 +1,6 @@
 -- The first component that is neither tried nor out, by the places at which components begin.
 use Rattle.std.specs.Prelude.{◌≡◌, ◌≤◌, ℕ, List, Contains, Option}
-use Rattle.ent_coordination.specs.Pool.{Posted}
+use Rattle.ent_semantics.specs.Pool.{Posted}
 use Rattle.ent_match.specs.Components.{FirstIs, component_at}
 use Rattle.ent_protocol.specs.Job.{Job, Joint}
 

@@ -1,7 +1,7 @@
 -- Statements of the pool, by their transactions.
 use Rattle.std.specs.Prelude.{◌≡◌, ℕ, ◌==◌, Bool, not, List}
 use Rattle.std.specs.List.{list_any}
-use Rattle.ent_coordination.specs.Pool.{Posted}
+use Rattle.ent_semantics.specs.Pool.{Posted}
 use Rattle.ent_protocol.specs.Member.{pool}
 use Rattle.ent_protocol.specs.State.{State, Submitted, Member}
 

@@ -1,6 +1,6 @@
 -- Why a run can't end yet, in the words of the protocol.
 use Rattle.std.specs.Prelude.{List, Option, None, Some}
-use Rattle.ent_coordination.specs.Pool.{Posted}
+use Rattle.ent_semantics.specs.Pool.{Posted}
 use Rattle.ent_run.specs.Run.{Run}
 use Rattle.ent_protocol.specs.Event.{Reason}
 use Rattle.ent_protocol.specs.Event as reasons

@@ -1,6 +1,6 @@
 //! Whether one more statement may be posted.
 ghost use Rattle.std.specs.Prelude.{◌≡◌, [], ◌∷◌, ◌++◌, IfOk, MatchOption};
-ghost use Rattle.ent_coordination.specs.Pool.{IsFirstUnsafe, IsSafe};
+ghost use Rattle.ent_semantics.specs.Pool.{IsFirstUnsafe, IsSafe};
 ghost use Rattle.ent_match.specs.Posting.{HasNone};
 ghost use Rattle.ent_match.specs.declared.fault.PostFault.TheVariants as faults;
 

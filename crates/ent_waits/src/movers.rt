@@ -3,7 +3,7 @@ ghost use Rattle.std.specs.Prelude.{◌≡◌, ◌↔◌, IfOk, IsTrue, false};
 ghost use Rattle.ent_value.specs.declared.value.Value.{Value};
 ghost use Rattle.ent_lock.specs.Use.{IsLeastIfAny};
 ghost use Rattle.ent_semantics.specs.declared.entangled.Entangled.{Entangled};
-ghost use Rattle.ent_coordination.specs.Pool.{IsSafe};
+ghost use Rattle.ent_semantics.specs.Pool.{IsSafe};
 ghost use Rattle.ent_waits.specs.Pooled.{IsPoolOf};
 ghost use Rattle.ent_protocol.specs.Begin.{pool_with};
 ghost use Rattle.ent_protocol.specs.Member.{Asks, next_of, pool as pool_of};

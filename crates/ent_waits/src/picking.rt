@@ -7,10 +7,10 @@ ghost use Rattle.ent_protocol.specs.State.{State};
 ghost use Rattle.ent_waits.specs.Component.{IsPick};
 
 use crate::open::first_open;
-use ent_coordination::components_are_classes;
 use ent_group::Tx;
 use ent_job::Job;
 use ent_match::{Pool, Posted, component_at};
+use ent_semantics::components_are_classes;
 use ent_value::Sequence;
 use std::alloc::{AllocError, Global};
 

@@ -7,7 +7,7 @@ ghost use Rattle.ent_semantics.specs.Entangled.{Valuation};
 ghost use Rattle.ent_semantics.specs.declared.entangled.Entangled.{Entangled};
 ghost use Rattle.ent_semantics.specs.declared.operand.Known.{Known};
 ghost use Rattle.ent_semantics.specs.declared.statement.Statement.{Statement};
-ghost use Rattle.ent_coordination.specs.Pool.{Posted};
+ghost use Rattle.ent_semantics.specs.Pool.{Posted};
 ghost use Rattle.ent_match.specs.Fault.{IsByNumber};
 ghost use Rattle.ent_match.specs.Posting.{Adds};
 ghost use Rattle.ent_protocol.specs.Begin.{posting, with_member};

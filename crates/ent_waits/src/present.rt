@@ -5,8 +5,8 @@ ghost use Rattle.ent_protocol.specs.Member.{pool as pool_of};
 ghost use Rattle.ent_protocol.specs.PoolEvents.{IsPresentComponent};
 ghost use Rattle.ent_protocol.specs.State.{State};
 
-use ent_coordination::components_are_classes;
 use ent_match::{Pool, Posted, begins_at, is_component_at, place_of};
+use ent_semantics::components_are_classes;
 use std::alloc::{AllocError, Global};
 
 /// Whether a component begins at a place, and is of exactly some statements.

@@ -1,4 +1,5 @@
 //! Scripts that may meet, and stand too far apart to share a run.
+use crate::needs::needs_too_many;
 use crate::postcondition::Postcondition;
 use ent_group::MOST_MEMBERS;
 use ent_meetings::{Party, Pattern, is_met};
@@ -14,63 +15,104 @@ pub(crate) struct Apart<'a> {
     pub(crate) count: usize,
 }
 
-/// A script with an entangled statement, so that it waits for others.
+/// The first demand of this sort of a script that needs more others than a run has room for, so that no other order
+/// helps; and the script's number.
+#[derive(Clone, Copy)]
+pub(crate) struct Hopeless<'a> {
+    pub(crate) demand: Postcondition<'a>,
+    pub(crate) script: usize,
+}
+
+/// A script with an entangled statement, so that it waits for others, and its index.
 #[derive(Clone, Copy)]
 struct Waiter<'a> {
     script: &'a Script,
     party: &'a Party,
+    index: usize,
 }
 
-impl<'a> Apart<'a> {
-    /// Those of scripts that offer and demand so; None if there are none.
+/// What is told of demands that only scripts of other blocks may meet.
+#[derive(Clone, Copy)]
+pub(crate) struct Distant<'a> {
+    /// Those that another order of the scripts may help.
+    pub(crate) apart: Option<Apart<'a>>,
+    pub(crate) hopeless: Option<Hopeless<'a>>,
+}
+
+impl<'a> Distant<'a> {
+    /// Those of scripts that offer and demand so.
     pub(crate) fn of(
         alloc: Global,
         scripts: &'a [Script],
         parties: &'a [Party],
-    ) -> Result<Option<Self>, AllocError> {
+    ) -> Result<Self, AllocError> {
+        let mut distant = Distant {
+            apart: None,
+            hopeless: None,
+        };
         let mut waiters = Vec::new(alloc);
-        for (script, party) in scripts.iter().zip(parties.iter()) {
+        for (index, (script, party)) in scripts.iter().zip(parties.iter()).enumerate() {
             if !party.offers.is_empty() {
-                waiters.push(Waiter { script, party })?;
+                waiters.push(Waiter {
+                    script,
+                    party,
+                    index,
+                })?;
             }
         }
-        let mut apart = None;
         if waiters.len() > MOST_MEMBERS {
             for block in waiters.chunks(MOST_MEMBERS) {
                 for waiter in block {
-                    apart = counted(alloc, apart, parties, block, *waiter)?;
+                    distant.count(alloc, parties, block, *waiter)?;
                 }
             }
         }
-        Ok(apart)
+        Ok(distant)
     }
-}
 
-/// With the demands of a script of this block.
-fn counted<'a>(
-    alloc: Global,
-    before: Option<Apart<'a>>,
-    parties: &[Party],
-    block: &[Waiter<'_>],
-    waiter: Waiter<'a>,
-) -> Result<Option<Apart<'a>>, AllocError> {
-    let mut apart = before;
-    let written = Postcondition::all_of(alloc, waiter.script)?;
-    for (postcondition, demand) in written.iter().zip(waiter.party.demands.iter()) {
-        if !is_met_in(block, demand) && is_met(parties, demand) {
-            apart = Some(match apart {
-                Some(Apart { first, count }) => Apart {
-                    first,
-                    count: count.saturating_add(1),
-                },
-                None => Apart {
-                    first: *postcondition,
-                    count: 1,
-                },
+    /// Counts the demands of a script of this block.
+    fn count(
+        &mut self,
+        alloc: Global,
+        parties: &[Party],
+        block: &[Waiter<'_>],
+        waiter: Waiter<'a>,
+    ) -> Result<(), AllocError> {
+        let written = Postcondition::all_of(alloc, waiter.script)?;
+        for (postcondition, demand) in written.iter().zip(waiter.party.demands.iter()) {
+            if !is_met_in(block, demand) && is_met(parties, demand) {
+                self.add(alloc, parties, *postcondition, waiter.index)?;
+            }
+        }
+        Ok(())
+    }
+
+    /// Adds a demand. Up to the first one that another order may help, it looks whether any order can.
+    fn add(
+        &mut self,
+        alloc: Global,
+        parties: &[Party],
+        demand: Postcondition<'a>,
+        index: usize,
+    ) -> Result<(), AllocError> {
+        if let Some(Apart { first, count }) = self.apart {
+            self.apart = Some(Apart {
+                first,
+                count: count.saturating_add(1),
+            });
+        } else if !needs_too_many(alloc, parties, index)? {
+            self.apart = Some(Apart {
+                first: demand,
+                count: 1,
+            });
+        } else if self.hopeless.is_none() {
+            self.hopeless = Some(Hopeless {
+                demand,
+                script: index.saturating_add(1),
             });
         }
+        Ok(())
     }
-    Ok(apart)
 }
 
 /// Whether a script of the block may offer what is demanded.

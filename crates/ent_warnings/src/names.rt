@@ -1,6 +1,6 @@
 //! Answer relations and texts that may be meant.
 use ent_fault_text::nearest;
-use ent_meetings::Party;
+use ent_meetings::{Party, Pattern, may_be_one};
 use ent_tree::{
     Condition, Entangled, Identifier, Literal, Script, Statement, Term, Tuple, ValueSpecification,
 };
@@ -69,6 +69,34 @@ pub(crate) fn near_relation<'a>(
         names.push(text_of(&other.name))?;
     }
     nearest(alloc, text_of(name), names.as_slice())
+}
+
+/// The name of a relation that is near the demanded one, and of which a row is offered that fits but for the relation.
+pub(crate) fn meant_relation<'a>(
+    alloc: Global,
+    parties: &'a [Party],
+    demand: &Pattern,
+) -> Result<Option<&'a str>, AllocError> {
+    let mut names: Vec<&'a str> = Vec::new(alloc);
+    for party in parties {
+        for offer in party.offers.as_slice() {
+            let name = text_of(&offer.relation);
+            if fits_but_for_relation(demand, offer) && !names.contains(&name) {
+                names.push(name)?;
+            }
+        }
+    }
+    nearest(alloc, text_of(&demand.relation), names.as_slice())
+}
+
+/// Whether an offer may be the demanded row, of whichever relation.
+fn fits_but_for_relation(demand: &Pattern, offer: &Pattern) -> bool {
+    let (demanded, offered) = (demand.terms.as_slice(), offer.terms.as_slice());
+    demanded.len() == offered.len()
+        && demanded
+            .iter()
+            .zip(offered.iter())
+            .all(|(demanded, offered)| may_be_one(demanded, offered))
 }
 
 /// A text of a demand, and one that is near and offered in its place.

@@ -1,12 +1,14 @@
-//! Demands that nothing in an input is offered for, or only far away, answer relations that nobody demands, and writers
-//! that a waiting statement keeps out.
-use crate::apart::Apart;
+//! Demands that nothing in an input is offered for, or only far away, or only by their own statement, answer relations
+//! that nobody demands, and writers that a waiting statement keeps out.
+use crate::apart::{Apart, Distant, Hopeless};
 use crate::kept_out::KeptOut;
-use crate::names::{Meant, Relations, meant_text, near_relation, text_of};
+use crate::names::{Meant, Relations, meant_relation, meant_text, near_relation, text_of};
 use crate::offer::{is_demanded, is_named, parties_of};
+use crate::own::met_by_own;
 use crate::postcondition::Postcondition;
 use ent_excerpt::{Excerpt, Line, Place};
 use ent_fault_text::Explanation;
+use ent_group::MOST_MEMBERS;
 use ent_meetings::{Party, Pattern, is_met};
 use ent_sql::parse_input;
 use ent_tree::{Create, Identifier, Input, Script};
@@ -57,16 +59,16 @@ impl<'a> Warnings<'a> {
                 self.warn_undemanded(alloc, relation, relations.demanded.as_slice())?;
             }
         }
-        for (script, party) in scripts.iter().zip(parties.iter()) {
+        for (index, (script, party)) in scripts.iter().zip(parties.iter()).enumerate() {
             self.warn_demands(alloc, parties, script, party)?;
+            for demand in met_by_own(alloc, script, parties, index)?.iter() {
+                self.warn_own(alloc, demand)?;
+            }
         }
         for create in input.opening.tables.as_slice() {
             self.warn_writer(alloc, scripts, create)?;
         }
-        match Apart::of(alloc, scripts, parties)? {
-            Some(apart) => self.warn_apart(alloc, apart),
-            None => Ok(()),
-        }
+        self.warn_distant(alloc, Distant::of(alloc, scripts, parties)?)
     }
 
     /// Nobody offers rows of a relation that is demanded.
@@ -131,9 +133,24 @@ impl<'a> Warnings<'a> {
             }
             None => {
                 let sentence = format!(in alloc; "no statement offers this row of {name}")?;
-                self.push(alloc, tuple.place, 1, sentence, None)
+                let near = meant_relation(alloc, parties, demand)?;
+                let (place, marked) = match near {
+                    Some(_) => (postcondition.relation.place, name.len()),
+                    None => (tuple.place, 1),
+                };
+                self.push(alloc, place, marked, sentence, near)
             }
         }
+    }
+
+    /// A demand that only the row of its own statement may meet.
+    fn warn_own(&mut self, alloc: Global, demand: &Postcondition<'_>) -> Result<(), AllocError> {
+        let name = text_of(&demand.relation.name);
+        let sentence = format!(in alloc;
+            "only this statement itself may offer this row of {name}"
+        )?;
+        let hint = format!(in alloc; "if its own row fits, it needs no partner")?;
+        self.push_hinted(demand.tuple.place, 1, sentence, Some(hint))
     }
 
     /// The first script that a waiting statement keeps from writing a table.
@@ -154,6 +171,27 @@ impl<'a> Warnings<'a> {
             "let the writer come first, or let this script ask for few runs, as WITHIN 1 RUNS"
         )?;
         self.push_hinted(table.place, name.len(), sentence, Some(hint))
+    }
+
+    /// Demands that only scripts of other blocks may meet.
+    fn warn_distant(&mut self, alloc: Global, distant: Distant<'_>) -> Result<(), AllocError> {
+        if let Some(hopeless) = distant.hopeless {
+            self.warn_hopeless(alloc, hopeless)?;
+        }
+        match distant.apart {
+            Some(apart) => self.warn_apart(alloc, apart),
+            None => Ok(()),
+        }
+    }
+
+    /// A script that needs more others than a run has room for.
+    fn warn_hopeless(&mut self, alloc: Global, hopeless: Hopeless<'_>) -> Result<(), AllocError> {
+        let Hopeless { demand, script } = hopeless;
+        let (most, others) = (MOST_MEMBERS, MOST_MEMBERS - 1);
+        let sentence = format!(in alloc;
+            "script {script} can't commit: it needs more than {others} others, and a run has {most} scripts at most"
+        )?;
+        self.push_hinted(demand.tuple.place, 1, sentence, None)
     }
 
     /// Demands that only scripts may meet that stand too far away.

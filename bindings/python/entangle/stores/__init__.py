@@ -19,26 +19,39 @@ needs psycopg 3.
 Every error of this module is a StoreError, and so an entangle.Error.
 """
 
-from ._durable import DurableRoom, OpenRoom, Opens, Request
-from ._errors import NotLoadable, NotRestored, StoreDiffers, StoredFault, StoreError, StoreFailed, StoreTaken
-from ._kept import Loaded, Outcome, Waiter, outcomes_of
+from ._durable import DurableRoom
+from ._errors import KeyUsedOtherwise, NotLoadable, NotRestored, RefusedByStore, StoreDiffers, StoredFault, StoreError
+from ._errors import StoreFailed, StoreTaken
+from ._kept import Loaded, Outcome, UsedKey, Waiter, asked_digest, outcomes_of
+from ._memory import OpenRoom, Opens
 from ._postgres import PostgresStore
-from ._protocol import Store
+from ._protocol import Ready, Store, nobody_ends
+from ._requests import Request
 from ._sqlite import SqliteStore
 from ._tables import Kind, Table
+from ._turns import PostgresTurn, SqliteTurn, Turn
+from ._watched import NearlyFull, RowCounts, StepStats
 
 __all__ = [
     "DurableRoom",
+    "KeyUsedOtherwise",
     "Kind",
     "Loaded",
+    "NearlyFull",
     "NotLoadable",
     "NotRestored",
     "OpenRoom",
     "Opens",
     "Outcome",
     "PostgresStore",
+    "PostgresTurn",
+    "Ready",
+    "RefusedByStore",
     "Request",
+    "RowCounts",
     "SqliteStore",
+    "SqliteTurn",
+    "StepStats",
     "Store",
     "StoreDiffers",
     "StoreError",
@@ -46,7 +59,11 @@ __all__ = [
     "StoreTaken",
     "StoredFault",
     "Table",
+    "Turn",
+    "UsedKey",
     "Waiter",
+    "asked_digest",
+    "nobody_ends",
     "outcomes_of",
 ]
 

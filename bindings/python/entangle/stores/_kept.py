@@ -2,8 +2,10 @@
 
 from __future__ import annotations
 
+import hashlib
 import json
 from dataclasses import dataclass
+from datetime import datetime, timedelta, timezone
 from typing import Any, Mapping, Optional, Sequence, Union
 
 from .._groups import Group
@@ -15,7 +17,8 @@ from .._values import Answer, CountAnswer, Row, RowsAnswer, SetAnswer, Value, an
 @dataclass(frozen=True)
 class Waiter:
     """A script that waits: its ticket and what was put, and in how many batches it was that count against its patience.
-    `key` is the caller's own name of the request, if it has one."""
+    `key` is the caller's own name of the request, if it has one; `until` a point in time up to which it waits, which
+    has a time zone."""
 
     ticket: Ticket
     script: str
@@ -23,6 +26,16 @@ class Waiter:
     patience: Union[int, Patience]
     batches: int = 0
     key: Optional[str] = None
+    until: Optional[datetime] = None
+
+
+@dataclass(frozen=True)
+class UsedKey:
+    """A key that was used: the ticket of its request, and the digest of what was asked (asked_digest). That is None if
+    the ticket was forgotten by a store that had no digests yet."""
+
+    ticket: Ticket
+    asked: Optional[bytes]
 
 
 @dataclass(frozen=True)
@@ -81,13 +94,41 @@ def patience_of(number: int) -> Union[int, Patience]:
     return Patience(number) if number < 1 else number
 
 
+# Made once, since thousands of texts are read and written.
+_written = json.JSONEncoder(ensure_ascii=False).encode
+_read = json.JSONDecoder().decode
+
+
 def values_text(values: Mapping[str, Value]) -> str:
-    return json.dumps(dict(values), ensure_ascii=False)
+    return _written(dict(values))
 
 
 def values_of(text: str) -> dict[str, Value]:
-    values: dict[str, Value] = json.loads(text)
+    values: dict[str, Value] = _read(text)
     return values
+
+
+def asked_digest(script: str, values: Mapping[str, Value]) -> bytes:
+    """The digest of what is asked: equal for equal texts with equal values, in any order."""
+    return hashlib.sha256(json.dumps([script, sorted(values.items())]).encode()).digest()
+
+
+def key_digest(key: str) -> bytes:
+    """The digest of a key, which stands for a request whose ticket was forgotten."""
+    return hashlib.sha256(key.encode()).digest()
+
+
+_EPOCH = datetime(1970, 1, 1, tzinfo=timezone.utc)
+
+
+def microseconds_of(time: datetime) -> int:
+    """A point in time as stores have it: microseconds since 1970 in UTC."""
+    return (time - _EPOCH) // timedelta(microseconds=1)
+
+
+def time_of(microseconds: int) -> datetime:
+    """A point in time that stands in a store."""
+    return _EPOCH + timedelta(microseconds=microseconds)
 
 
 def _answer_json(answer: Answer) -> dict[str, Any]:
@@ -102,8 +143,8 @@ def _answer_json(answer: Answer) -> dict[str, Any]:
 
 def answers_text(answers: Sequence[Answer]) -> str:
     """Answers in JSON: [{"answer": {"Trip": ["Mickey", 122]}}, {"count": 1}]."""
-    return json.dumps([_answer_json(answer) for answer in answers], ensure_ascii=False)
+    return _written([_answer_json(answer) for answer in answers])
 
 
 def answers_of(text: str) -> tuple[Answer, ...]:
-    return tuple(map(answer_of_json, json.loads(text)))
+    return tuple(map(answer_of_json, _read(text)))

@@ -3,23 +3,39 @@
 from __future__ import annotations
 
 import importlib
+import math
+import os
+import weakref
 from contextlib import suppress
-from typing import Any, Callable, Optional, Sequence
+from dataclasses import replace
+from itertools import groupby
+from typing import Any, Callable, Collection, Optional, Sequence
 
+from ._connections import Hosts, Watch, each_host
 from ._errors import StoreError, StoreFailed
+from ._forms import quoted
 from ._kept import Loaded
-from ._sql import Change, Column, Result, SqlStore, quoted
+from ._protocol import Ready
+from ._rows import Column, Key
+from ._sql import Change, Held, Result, SqlStore, Uneven
+from ._statements import Columns, Statement, Type, among_many, array_text, deletion_of_many, insertion_of_many
+from ._statements import update_of_many
 from ._tables import Table
 
 # Serialization failures and deadlocks: others disturbed a transaction, which may be made again.
 _DISTURBED = ("40001", "40P01")
 _MOST_TRIES = 10
-# So many statements are sent before their results are read.
+# What constraints, checks of views and triggers answer to a row that they refuse: data exceptions, integrity
+# constraints, WITH CHECK OPTION, and errors that functions raise.
+_REFUSALS = ("22", "23", "44", "P0")
+# So many changes are sent before their results are read.
 _AT_ONCE = 1_000
 # PostgreSQL takes no key of many more bytes.
 _LONGEST_KEY = 2_600
 # The advisory lock of those who make tables of stores.
 _LOCK = 0x656E74616E676C65
+# So many seconds a process may take to make a room of what the store has.
+_MOST_LOADING = 600
 
 _COLUMNS = """
 SELECT a.attname,
@@ -33,123 +49,287 @@ SELECT a.attname,
  WHERE a.attrelid = to_regclass(%s) AND r.relkind = 'r' AND a.attnum > 0 AND NOT a.attisdropped
 """
 
+_KEYS = """
+SELECT coalesce(c.conname, i.indexrelid::regclass::text), i.indisprimary,
+       ARRAY (SELECT coalesce(a.attname, '')::text
+                FROM unnest((i.indkey::int2[])[0 : i.indnkeyatts - 1]) WITH ORDINALITY AS k (number, at)
+                LEFT JOIN pg_attribute a ON a.attrelid = i.indrelid AND a.attnum = k.number ORDER BY k.at)
+  FROM pg_index i LEFT JOIN pg_constraint c ON c.conindid = i.indexrelid AND c.contype IN ('p', 'u')
+ WHERE i.indrelid = to_regclass(%s) AND i.indisunique ORDER BY 1
+"""
+
+_CHECK_OF_GROUPS = """
+SELECT c.conname FROM pg_constraint c JOIN pg_attribute a ON a.attrelid = c.conrelid AND a.attnum = ANY (c.conkey)
+ WHERE c.conrelid = to_regclass(%s) AND c.contype = 'c' AND a.attname = 'ended_in'
+"""
+
+
+_SETTINGS = """
+SELECT current_setting('server_encoding'), current_setting('fsync'), current_setting('full_page_writes'),
+       current_setting('synchronous_commit'), set_config('lock_timeout', %s, false),
+       set_config('idle_in_transaction_session_timeout', %s, false)
+"""
+# The first version of libpq that sends many statements before it reads their results.
+_OLDEST_LIBPQ = 140_000
+# A setting of the server that may be off where the file system does its work: it never leaves half a page.
+_MAY_BE_OFF = frozenset({"full_page_writes"})
+
+
+def _ended(watch: Watch, process: int) -> None:
+    """Ends the watch of a store that nobody has any more, in the process that began it."""
+    if process == os.getpid():
+        watch.close()
+
 
 class PostgresStore(SqlStore):
     """A store in a database of PostgreSQL, for rooms of any number of machines.
 
-    It needs psycopg, of version 3. Transactions are SERIALIZABLE; one that others disturb is made again. A lost
-    connection is made anew. A call waits for another one's lock for so many seconds, and then raises StoreFailed; for
-    so long a connection may also be silent within a transaction, before the server ends it. Several rooms may have
-    stores in one database, under different names. They don't wait for each other.
+    It needs psycopg 3 with libpq 14 or later. Transactions are SERIALIZABLE; one that others disturb is made again. A
+    lost connection is made anew, with the first of the hosts of the `dsn` that takes it, from the last one on. Several
+    rooms may have stores in one database, under different names. They don't wait for each other.
+
+    A call waits for another one's lock for `timeout` seconds, half of `answer_timeout` at most, and then raises
+    StoreFailed; for `timeout` seconds a connection may also be silent within a transaction, before the server ends it.
+    A connection whose server says nothing for `answer_timeout` seconds is given up, and the call made again, once; each
+    host has `connect_timeout` seconds to take a connection. So where servers stand still, a call raises StoreFailed
+    within twice `answer_timeout`, and twice `connect_timeout` for each host.
+
+    A process that is forked has to load a store of its own.
     """
 
     _mark = "%s"
     _integer = "BIGINT"
+    _blob = "BYTEA"
+    _keys_at_once = 10_000
 
-    def __init__(self, dsn: str, *, name: str = "entangle", timeout: float = 10.0) -> None:
-        """`dsn` says where the database is, as psycopg takes it: `dbname=trips host=db.example`."""
+    def __init__(
+        self,
+        dsn: str,
+        *,
+        name: str = "entangle",
+        timeout: float = 10.0,
+        answer_timeout: float = 30.0,
+        connect_timeout: float = 5.0,
+        allow_settings: Collection[str] = (),
+    ) -> None:
+        """`dsn` says where the database is, as psycopg takes it: `dbname=trips host=db.example`. Its own settings of
+        connect_timeout, keepalives and tcp_user_timeout count. A server with `fsync` or `full_page_writes` off is
+        refused; `allow_settings=("full_page_writes",)` says that its file system never leaves half a page.
+
+        Raises ValueError for a name that no store has, for a `dsn` that can't be read, and for times of no length; and
+        StoreError without psycopg, and if libpq is older than 14. Nothing is asked yet."""
         super().__init__(name, timeout)
+        if not set(allow_settings) <= _MAY_BE_OFF:
+            raise ValueError(f"only full_page_writes may be off, and not {sorted(set(allow_settings) - _MAY_BE_OFF)}")
+        if min(timeout, answer_timeout, connect_timeout) <= 0:
+            raise ValueError("a time to wait for is more than 0 seconds")
         try:
             self._engine: Any = importlib.import_module("psycopg")
         except ImportError as error:
             raise StoreError("PostgresStore needs psycopg 3: Debian has it as python3-psycopg") from error
-        self._dsn = dsn
+        libpq = self._engine.pq.version()
+        if libpq < _OLDEST_LIBPQ:
+            raise StoreError(f"PostgresStore needs libpq 14 or later, and psycopg has found version {libpq // 10_000}")
+        settings = {"connect_timeout": math.ceil(connect_timeout), "application_name": f"entangle {name}"}
+        self._hosts = Hosts(self._engine, each_host(self._engine, dsn, **settings))
+        self._answer_timeout, self._allowed = answer_timeout, frozenset(allow_settings)
         self._connection: Any = None
+        self._new_watch()
+        # whether the server has said, since the last COMMIT was sent, that something isn't as it should be
+        self._warning: Optional[str] = None
+
+    def _new_watch(self) -> None:
+        self._watch = Watch(self._answer_timeout)
+        weakref.finalize(self, _ended, self._watch, os.getpid())
 
     def _connected(self) -> Any:
         """The connection, which is made if there is none."""
+        if self._is_forked():
+            self._new_watch()  # its thread is in the other process
         if self._connection is None:
-            connection = self._engine.connect(self._dsn, autocommit=True)
+            self._connection = connection = self._hosts.connect()
             try:
-                self._prepare(connection)
+                connection.add_notice_handler(self._noticed)
+                self._watch.attach(connection.pgconn.socket)
+                with self._watch:
+                    self._prepare(connection)
             except BaseException:
-                connection.close()
+                self._drop()
                 raise
-            self._connection = connection
         return self._connection
 
     def _prepare(self, connection: Any) -> None:
-        """What holds for all transactions of a connection."""
-        encoding = connection.execute("SHOW server_encoding").fetchone()[0]
+        """What holds for all transactions of a connection. Raises StoreError if the server can't have a store."""
+        locked, silent = min(self._timeout, self._answer_timeout / 2), self._timeout
+        milliseconds = [str(max(1, round(seconds * 1000))) for seconds in (locked, silent)]
+        encoding, fsync, full_pages, synchronous = connection.execute(_SETTINGS, milliseconds).fetchone()[:4]
         if encoding != "UTF8":
             raise StoreError(f"the database has to be in UTF8, and is in {encoding}")
-        milliseconds = str(max(1, round(self._timeout * 1000)))
-        for setting in ("lock_timeout", "idle_in_transaction_session_timeout"):
-            connection.execute("SELECT set_config(%s, %s, false)", (setting, milliseconds))
-        if connection.execute("SHOW synchronous_commit").fetchone()[0] == "off":
+        for setting, value in (("fsync", fsync), ("full_page_writes", full_pages)):
+            if value == "off" and setting not in self._allowed:
+                raise StoreError(f"{setting} is off: the server may lose what it said to have")
+        if synchronous == "off":
             connection.execute("SET synchronous_commit = on")
+
+    def _noticed(self, said: Any) -> None:
+        """The server has said something beside its answers."""
+        if said.severity_nonlocalized == "WARNING":  # messages may be translated
+            self._warning = str(said.message_primary)
+
+    def _drop(self) -> None:
+        """Gives up the connection. The server takes back what isn't committed."""
+        connection, self._connection = self._connection, None
+        self._watch.detach()
+        if connection is not None:
+            with suppress(self._engine.Error):
+                connection.close()
 
     def close(self) -> None:
         """Gives up the connection; nothing that was written is lost. load() connects anew."""
         with self._lock:
-            connection, self._connection = self._connection, None
-            if connection is not None:
-                with suppress(self._engine.Error):
-                    connection.close()
+            self._drop()
+            self._watch.close()
 
     def _transaction(self, work: Callable[[], Result]) -> Result:
         def whole() -> Result:
             self._run("BEGIN ISOLATION LEVEL SERIALIZABLE")
             result = work()
-            said = self._run("COMMIT").statusmessage
-            if said != "COMMIT":
-                raise StoreFailed(f"the server answers {said} to COMMIT")
+            self._commit()
             return result
 
         return self._tried(whole)
+
+    def _commit(self) -> None:
+        self._warning = None
+        said = self._run("COMMIT").statusmessage
+        if said != "COMMIT":
+            raise StoreFailed(f"the server answers {said} to COMMIT")
+        # so it says that it didn't wait for its standby, since the wait was cancelled
+        if self._warning is not None:
+            raise StoreFailed(f"the server warns at COMMIT: {self._warning}")
 
     def _reading(self, work: Callable[[], Result]) -> Result:
         return self._tried(work)
 
     def _tried(self, work: Callable[[], Result]) -> Result:
-        """Does work, again where it was disturbed, or where a connection was lost that had stood for some time."""
+        """Does work, again where it was disturbed; and once where a connection was lost that had stood for some time."""
+        was_lost = False
         for further in reversed(range(_MOST_TRIES)):
             had_connection = self._connection is not None
             try:
                 self._connected()
                 return work()
             except self._engine.Error as error:
-                is_lost = self._connection is not None and self._connection.closed
+                is_lost = had_connection and self._connection is not None and self._connection.closed
                 is_disturbed = error.sqlstate in _DISTURBED
+                said = self._said(error)
                 self._take_back(is_disturbed)
-                if not further or not (is_disturbed or is_lost and had_connection):
-                    raise StoreFailed(str(error).strip()) from error
+                if not further or was_lost and is_lost or not (is_disturbed or is_lost):
+                    raise StoreFailed(said) from error
+                was_lost = was_lost or is_lost
             except BaseException:
-                self.close()
+                self._drop()
                 raise
         raise AssertionError("the last try ends")
+
+    def _said(self, error: Exception) -> str:
+        """What is said of an error of the engine."""
+        if not self._watch.has_shut:
+            return str(error).strip()
+        self._hosts.pass_over()
+        self._watch.has_shut = False
+        return f"the server hasn't answered for {self._answer_timeout:g} seconds"
 
     def _take_back(self, is_disturbed: bool) -> None:
         """Takes back what isn't committed. The connection stays where others disturbed the transaction; else the server
         does it, once the connection is gone."""
         if is_disturbed and self._connection is not None:
-            with suppress(self._engine.Error):
+            with suppress(self._engine.Error), self._watch:
                 self._connection.execute("ROLLBACK")
                 return
-        self.close()
+        self._drop()
 
     def _run(self, sql: str, parameters: Sequence[object] = ()) -> Any:
         if self._connection is None:
             raise self._engine.OperationalError("the connection is closed")
-        return self._connection.execute(sql, tuple(parameters) or None)
+        with self._watch:
+            return self._connection.execute(sql, tuple(parameters) or None)
 
     def _run_all(self, changes: Sequence[Change]) -> list[int]:
         counts: list[int] = []
         for start in range(0, len(changes), _AT_ONCE):
-            with self._connection.pipeline():
-                cursors = [self._run(change.sql, change.parameters) for change in changes[start : start + _AT_ONCE]]
-            counts += [cursor.rowcount for cursor in cursors]
+            sent: list[tuple[list[Change], Any]] = []
+            with self._watch, self._connection.pipeline():
+                for statement, same in groupby(changes[start : start + _AT_ONCE], lambda change: change.statement):
+                    sent += self._sent(statement, list(same))
+            for run, cursor in sent:
+                counts += self._counts_of(run, cursor)
         return counts
+
+    def _sent(self, statement: Statement, run: list[Change]) -> list[tuple[list[Change], Any]]:
+        """Sends changes of one statement: by one for all of them, if there is such."""
+        if len(run) == 1 or statement.many is None:
+            return [([change], self._run(statement.one, change.parameters)) for change in run]
+        arrays = [array_text(values) for values in zip(*(change.parameters for change in run))]
+        return [(run, self._run(statement.many, arrays))]
+
+    def _counts_of(self, run: list[Change], cursor: Any) -> list[int]:
+        """How many rows each change touched. Raises Uneven if some of many changes doesn't touch one."""
+        count: int = cursor.rowcount
+        if len(run) == 1:
+            return [count]
+        touched = {number for (number,) in cursor} if run[0].statement.returns else run
+        if count != len(run) or len(touched) != len(run):
+            raise Uneven(f"{len(run)} changes from that of {run[0].what} on touch {count} rows of the store")
+        return [1] * count
+
+    def _among(self, column: str, kind: Type, values: Sequence[object]) -> tuple[str, Sequence[object]]:
+        return among_many(column, kind), [array_text(values)]
+
+    def _insertion(self, place: str, columns: Columns) -> Statement:
+        return replace(super()._insertion(place, columns), many=insertion_of_many(place, columns))
+
+    def _update(self, place: str, sets: Columns, key: Columns, unset: str) -> Statement:
+        return replace(super()._update(place, sets, key, unset), many=update_of_many(place, sets, key, unset))
+
+    def _deletion(self, place: str, columns: Columns) -> Statement:
+        return replace(super()._deletion(place, columns), many=deletion_of_many(place, columns), returns=True)
+
+    def _is_refusal(self, error: Optional[BaseException]) -> bool:
+        if not isinstance(error, self._engine.Error):
+            return False
+        state: str = error.sqlstate or ""
+        return state.startswith(_REFUSALS)
+
+    def _check_constraints(self) -> None:
+        self._run("SET CONSTRAINTS ALL IMMEDIATE")
+        self._run("SET CONSTRAINTS ALL DEFERRED")
+
+    def _has_own_tables(self) -> bool:
+        # asked first, since who may not make tables can have a store that is there
+        (place,) = self._run("SELECT to_regclass(%s)", (self._claims,)).fetchone()
+        return place is not None
+
+    def _take_up_tickets(self, now: int) -> None:
+        self._run(f"ALTER TABLE {self._claims} ALTER COLUMN token DROP DEFAULT")
+        for statement in self._own.ticket_changes_of_1(now):
+            self._run(statement)
+        found = self._run(_CHECK_OF_GROUPS, (self._tickets,)).fetchall()
+        for (name,) in found:
+            self._run(f"ALTER TABLE {self._tickets} DROP CONSTRAINT {quoted(name)}")
+        self._run(f"ALTER TABLE {self._tickets} ADD {self._own.group_check}")
 
     def _make_own_tables(self) -> None:
         # two processes may come at once: one after the other makes what isn't there
         self._run("SELECT pg_advisory_xact_lock(%s)", (_LOCK,))
         super()._make_own_tables()
 
-    def _load(self, tables: Sequence[Table]) -> Loaded:
+    def _load(self, tables: Sequence[Table], ready: Ready) -> tuple[Loaded, Held]:
         # before the snapshot is taken: who writes all the time can't be in the way for longer than one transaction
         self._run(f"LOCK TABLE {self._claims} IN EXCLUSIVE MODE")
-        return super()._load(tables)
+        # a room with many who wait takes its time to be made ready
+        self._run(f"SET LOCAL idle_in_transaction_session_timeout = {_MOST_LOADING * 1000}")
+        return super()._load(tables, ready)
 
     def _place(self, table: Table) -> str:
         if len(table.path) == 2:
@@ -164,6 +344,13 @@ class PostgresStore(SqlStore):
     def _described(self, table: Table) -> Optional[dict[str, Column]]:
         found = self._run(_COLUMNS, (quoted(*table.path),)).fetchall()
         return {name: Column(kind, needs) for name, kind, needs in found} or None
+
+    def _keys_of(self, table: Table) -> list[Key]:
+        found = self._run(_KEYS, (quoted(*table.path),)).fetchall()
+        return [Key(name, tuple(columns), is_primary) for name, is_primary, columns in found]
+
+    def _drop_key(self, table: Table, key: Key) -> None:
+        self._run(f"ALTER TABLE {quoted(*table.path)} DROP CONSTRAINT {quoted(key.name)}")
 
     def _creation(self, table: Table) -> str:
         types = {"INT": "BIGINT", "TEXT": 'TEXT COLLATE "C"'}

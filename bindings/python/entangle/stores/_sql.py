@@ -2,110 +2,184 @@
 
 from __future__ import annotations
 
+import os
 import re
+import secrets
 import threading
+import time
 from abc import ABC, abstractmethod
-from dataclasses import dataclass
+from dataclasses import dataclass, replace
+from datetime import datetime
 from typing import Any, Callable, Iterator, Optional, Sequence, TypeVar
 
 from .._groups import Group
-from .._tickets import Ticket, TicketCommitted, TicketFailed, ending_of_words
+from .._tickets import Ending, Ticket, TicketCommitted, TicketFailed, TicketNotRestored, TicketRefusedByStore
+from .._tickets import ending_of_words
 from .._values import Row
-from ._errors import NotLoadable, StoreDiffers, StoredFault, StoreError, StoreTaken
-from ._kept import Loaded, Outcome, Update, Waiter, answers_of, answers_text, patience_number, patience_of, values_of
-from ._kept import values_text
-from ._tables import MOST_ROWS, Kind, Table, checked_tables
+from ._errors import NotLoadable, RefusedByStore, StoreDiffers, StoredFault, StoreError, StoreFailed, StoreTaken
+from ._forms import FORM, OwnTables, quoted
+from ._kept import Loaded, Outcome, Update, UsedKey, Waiter, answers_of, answers_text, asked_digest, key_digest
+from ._kept import microseconds_of, patience_number, patience_of, time_of, values_of, values_text
+from ._protocol import Ready, nobody_ends
+from ._rows import Column, Key, check_columns, checked_rows, is_own_key, keys_in_the_way, too_many
+from ._statements import Columns, Statement, Type
+from ._tables import MOST_ROWS, Table, checked_tables
 
 Result = TypeVar("Result")
 
-_FORM = 1
+_WAITER: Columns = {
+    "ticket": "INT",
+    "request_key": "TEXT",
+    "script": "TEXT",
+    "bound": "TEXT",
+    "patience": "INT",
+    "batches": "INT",
+    "until": "INT",
+    "asked": "BYTES",
+}
+_ENDING: Columns = {
+    "ended_in": "INT",
+    "ending": "TEXT",
+    "epoch": "INT",
+    "number": "INT",
+    "failure": "TEXT",
+    "answers": "TEXT",
+    "ended_at": "INT",
+}
+_FORGOTTEN: Columns = {
+    "key_digest": "BYTES",
+    "ticket": "INT",
+    "asked": "BYTES",
+    **{name: kind for name, kind in _ENDING.items() if name != "answers"},
+}
+_TICKET: Columns = {"ticket": "INT"}
+
+# Runs statements in order, and gives how many rows each touched.
+Running = Callable[[Sequence["Change"]], list[int]]
+
 _STORE_NAME = re.compile(r"[a-z][a-z0-9_]{0,39}")
-_CONTROL = re.compile(r"[\x00-\x1f\x7f]")
-_TAKEN = "another process has loaded the store since"
+_TAKEN = "the store isn't as this process left it: another one has loaded it since, or it went back to an earlier state"
+# Connections of processes from which this one was forked.
+_inherited: list[object] = []
+# So many who wait are read by one statement.
+_WAITERS_AT_ONCE = 10_000
+# Of so many tickets one transaction forgets those that ended.
+_AT_ONCE = 1_000
 
 
-def quoted(*path: str) -> str:
-    """A name as SQL has it."""
-    return ".".join(f'"{name}"' for name in path)
+def checked_store_name(name: str) -> str:
+    """The name of a store. Raises ValueError for one that no store has."""
+    if not _STORE_NAME.fullmatch(name):
+        raise ValueError(f"a store's name has small letters, digits and _, 40 at most, not {name!r}")
+    return name
+
+
+def _drawn_token() -> int:
+    """A number that no other process draws."""
+    return secrets.randbits(63)
+
+
+def _now() -> int:
+    """The present time in microseconds since 1970 in UTC."""
+    return time.time_ns() // 1000
 
 
 @dataclass(frozen=True)
 class Change:
-    """A statement that has to touch one row."""
+    """A statement that has to touch one row; and, if a group makes the change, the group, the table and the row."""
 
-    sql: str
+    statement: Statement
     parameters: tuple[object, ...]
     what: str
+    group: Optional[Group] = None
+    table: Optional[str] = None
+    row: Optional[Row] = None
+
+    def refused(self) -> RefusedByStore:
+        """The error that says that a group isn't taken, because of this change."""
+        assert self.group is not None
+        return RefusedByStore(self.group.number, _members(self.group), self.table, self.row)
+
+
+class Uneven(StoreFailed):
+    """One of many changes, which were made by one statement, doesn't touch exactly one row."""
+
+
+def _members(group: Group) -> list[Ticket]:
+    """The tickets of those who committed in a group."""
+    return [commit.ticket for commit in group.commits]
 
 
 @dataclass(frozen=True)
-class Column:
-    """A column as the engine describes it. Its kind is None if no column of a room is like it. It `needs` a value if it
-    takes no row without one."""
+class Held:
+    """What a process knows of a store that it has: the process; the version; the numbers from which the room goes on;
+    what was written last; what is to be written, as long as that isn't known to stand, with the token that it drew; and
+    the claims and tokens of those reloads of which it isn't known whether they stand.
 
-    kind: Optional[Kind]
-    needs: bool
+    It is another one behind each write, by one assignment: so no interruption leaves a half of it.
+    """
 
+    process: int
+    claim: int
+    write: int
+    token: int
+    last_group: int
+    next_ticket: int
+    epoch: int
+    written: Optional[Update] = None
+    unsure: Optional[Update] = None
+    drawn: int = 0
+    reclaimed: tuple[tuple[int, int], ...] = ()
 
-def _fault_of(value: object, kind: Kind) -> Optional[StoredFault]:
-    """Why a value that stands in a store can't be one of a column of this kind."""
-    if value is None:
-        return StoredFault.NULL
-    if not isinstance(value, int if kind == "INT" else str):
-        return StoredFault.OTHER_KIND
-    if isinstance(value, str):
-        try:
-            length = len(value.encode())
-        except UnicodeEncodeError:
-            return StoredFault.NOT_UTF8
-        if length > 255:
-            return StoredFault.TOO_LONG
-        if _CONTROL.search(value):
-            return StoredFault.CONTROL_CHARACTER
-    return None
+    def begun(self, update: Update) -> Held:
+        """What is known before an update is sent for the first time. Raises ValueError for one that doesn't go on where
+        the last one ended."""
+        expected = range(self.last_group + 1, self.last_group + 1 + len(update.groups))
+        if [group.number for group in update.groups] != list(expected):
+            raise ValueError(f"the groups aren't those from {expected.start} on, one after the other")
+        if update.next_ticket < self.next_ticket or update.epoch < self.epoch:
+            raise ValueError("the next ticket or the epoch is less than before")
+        if any(waiter.ticket.number >= update.next_ticket for waiter in update.waiting):
+            raise ValueError("who waits has a ticket from next_ticket on")
+        return replace(self, unsure=update, drawn=_drawn_token())
 
-
-def _checked_rows(table: Table, rows: Sequence[Row]) -> list[Row]:
-    """The rows of a table. Raises NotLoadable for the first that can't be one of a room."""
-    kinds = list(table.columns.values())
-    for row in rows:
-        for kind, column, value in zip(kinds, table.stored_names, row):
-            fault = _fault_of(value, kind)
-            if fault is not None:
-                raise NotLoadable(table.stored_name, fault, column, row)
-    seen: set[Row] = set()
-    for row in rows:
-        if row in seen:
-            raise NotLoadable(table.stored_name, StoredFault.TWICE, None, row)
-        seen.add(row)
-    return list(rows)
+    def behind(self, update: Update) -> Held:
+        """What is known once the update that was sent stands."""
+        last_group, write = self.last_group + len(update.groups), self.write + 1
+        return Held(self.process, self.claim, write, self.drawn, last_group, update.next_ticket, update.epoch, update)
 
 
 class SqlStore(ABC):
     """A store in a database of SQL. Threads may share it: a lock inside gives it to one call at a time.
 
-    Beside the tables of the room it has three of its own, which begin with its name: NAME_claim has one row with the
-    numbers of the claim, of the writes and of what goes on from there; NAME_tickets has a row for each script that was
-    put, with its ending once it has one; and entangle_tables says which store has which table.
+    Beside the tables of the room it has four of its own. NAME_claim has one row with the numbers of the claim and of
+    the writes, a random number that the last of them drew, and the numbers from which the room goes on; NAME_tickets
+    has a row for each script that was put, with its ending once it has one; NAME_keys has the keys of tickets that were
+    forgotten; and entangle_tables says which store has which table.
     """
 
+    # the connection, if there is one
+    _connection: Any = None
     _mark = "?"
     _integer = "INTEGER"
+    _blob = "BLOB"
+    # of so many keys one statement asks
+    _keys_at_once = 400
 
     def __init__(self, name: str, timeout: float) -> None:
-        if not _STORE_NAME.fullmatch(name):
-            raise ValueError(f"a store's name has small letters, digits and _, 40 at most, not {name!r}")
-        self._name = name
+        self._name = checked_store_name(name)
         self._timeout = timeout
-        self._claims, self._tickets = quoted(f"{name}_claim"), quoted(f"{name}_tickets")
+        self._own = OwnTables(name, self._integer, self._blob)
+        self._claims, self._tickets, self._keys = self._own.claims, self._own.tickets, self._own.keys
         self._lock = threading.RLock()
         self._tables: dict[str, Table] = {}
-        self._claim: Optional[int] = None
-        self._write = self._last_group = self._epoch = 0
-        self._next_ticket = 1
-        # what was to be written last, as long as that isn't known to stand; and whether it may stand
-        self._unsure: Optional[Update] = None
-        self._may_stand = False
+        self._process = os.getpid()  # the process that has the connection
+        self._held: Optional[Held] = None
+        self._puts = self._insertion(self._tickets, _WAITER)
+        self._counts = self._update(self._tickets, {"batches": "INT"}, _TICKET, "ending")
+        self._ends = self._update(self._tickets, _ENDING, _TICKET, "ending")
+        self._forgets = self._deletion(self._tickets, _TICKET)
+        self._keeps_key = self._insertion(self._keys, _FORGOTTEN)
 
     # ---- what each engine does
 
@@ -134,6 +208,14 @@ class SqlStore(ABC):
         """The columns of a table by name. None if it isn't there."""
 
     @abstractmethod
+    def _keys_of(self, table: Table) -> list[Key]:
+        """What lets a table that is there have no row twice."""
+
+    @abstractmethod
+    def _drop_key(self, table: Table, key: Key) -> None:
+        """Takes the key from a table that a store made."""
+
+    @abstractmethod
     def _creation(self, table: Table) -> str:
         """The statement that makes a table."""
 
@@ -146,63 +228,96 @@ class SqlStore(ABC):
         """The test that a row is one certain row of those that meet these tests."""
 
     @abstractmethod
+    def _is_refusal(self, error: Optional[BaseException]) -> bool:
+        """Whether the engine's error says that a constraint or a trigger refuses a change."""
+
+    @abstractmethod
+    def _check_constraints(self) -> None:
+        """Has the engine check the constraints that it would check at COMMIT."""
+
+    @abstractmethod
+    def _has_own_tables(self) -> bool:
+        """Whether the tables of the store itself are there."""
+
+    @abstractmethod
+    def _take_up_tickets(self, now: int) -> None:
+        """Makes NAME_tickets of form 1 one of form 2."""
+
+    @abstractmethod
     def close(self) -> None:
         """Gives up the connection; nothing that was written is lost. load() connects anew."""
 
+    def _is_forked(self) -> bool:
+        """Whether this process was forked from the one that has the connection, which stays with that one."""
+        if self._process == os.getpid():
+            return False
+        _inherited.append(self._connection)  # to close it here would end what the other process does there
+        self._process, self._connection = os.getpid(), None
+        return True
+
     # ---- loading
 
-    def load(self, tables: Sequence[Table]) -> Loaded:
+    def load(self, tables: Sequence[Table], ready: Ready = nobody_ends) -> Loaded:
         """Claims the store for this process, and gives what it has: see Store.load()."""
         checked = checked_tables(tables)
-        own = {"entangle_tables", f"{self._name}_claim", f"{self._name}_tickets"}
-        if any(table.path[-1].casefold() in own for table in checked):
-            raise ValueError("a table of the store itself can't be one of a room")
+        if any(table.path[-1].casefold() in self._own.reserved for table in checked):
+            raise ValueError("a table or an index of the store itself can't be a table of a room")
         with self._lock:
-            self._transaction(self._make_own_tables)
-            loaded = self._transaction(lambda: self._load(checked))
+            if not self._reading(self._has_own_tables):
+                self._transaction(self._make_own_tables)
+            loaded, held = self._transaction(lambda: self._load(checked, ready))
+            self._held = None
             self._tables = {table.name: table for table in checked}
-            self._claim, self._unsure, self._may_stand = loaded.claim, None, False
-            self._last_group, self._next_ticket, self._epoch = loaded.last_group, loaded.next_ticket, loaded.epoch
+            self._held = held
             return loaded
 
-    def _make_own_tables(self) -> None:
-        integer = self._integer
-        self._run(
-            f"CREATE TABLE IF NOT EXISTS {self._claims} (form {integer} NOT NULL PRIMARY KEY, claim {integer} NOT NULL,"
-            f" write {integer} NOT NULL, epoch {integer} NOT NULL, last_group {integer} NOT NULL,"
-            f" next_ticket {integer} NOT NULL)"
-        )
-        self._run(
-            f"CREATE TABLE IF NOT EXISTS {self._tickets} (ticket {integer} NOT NULL PRIMARY KEY,"
-            " request_key TEXT UNIQUE, script TEXT NOT NULL, bound TEXT NOT NULL,"
-            f" patience {integer} NOT NULL, batches {integer} NOT NULL,"
-            f" ended_in {integer}, ending TEXT, epoch {integer}, number {integer}, failure TEXT, answers TEXT,"
-            " CHECK ((ended_in IS NULL) = (ending IS NULL OR ending = 'withdrawn')),"
-            " CHECK ((ending = 'committed') = (number IS NOT NULL)))"
-        )
-        of_name = f"{self._name}_tickets"
-        self._run(
-            f"CREATE INDEX IF NOT EXISTS {quoted(f'{self._name}_waiting')} ON {quoted(of_name)} (ticket)"
-            " WHERE ending IS NULL"
-        )
-        self._run(
-            f"CREATE UNIQUE INDEX IF NOT EXISTS {quoted(f'{self._name}_commits')} ON {quoted(of_name)} (epoch, number)"
-            " WHERE ending = 'committed'"
-        )
-        self._run("CREATE TABLE IF NOT EXISTS entangle_tables (place TEXT NOT NULL PRIMARY KEY, store TEXT NOT NULL)")
-        self._run(f"INSERT INTO {self._claims} VALUES ({_FORM}, 0, 0, 0, 0, 1) ON CONFLICT DO NOTHING")
+    def reload(self, ready: Ready = nobody_ends) -> Loaded:
+        """Claims the store anew for the process that has it: see Store.reload()."""
+        with self._lock:
+            self._claimed()
+            loaded, held = self._transaction(lambda: self._reload(ready))
+            self._held = held
+            return loaded
 
-    def _load(self, tables: Sequence[Table]) -> Loaded:
-        self._run(f"UPDATE {self._claims} SET claim = claim + 1, epoch = epoch + 1")
-        found = self._run(f"SELECT form, claim, write, epoch, last_group, next_ticket FROM {self._claims}").fetchall()
-        if len(found) != 1 or found[0][0] != _FORM:
-            raise StoreError(f"the store {self._name} is of another version")
-        _, claim, self._write, epoch, last_group, next_ticket = found[0]
+    def _reload(self, ready: Ready) -> tuple[Loaded, Held]:
+        self._check_held()
+        before = self._claimed()
+        loaded, held = self._load(tuple(self._tables.values()), ready)
+        # it may stand without an answer, and then the claim is this process's all the same
+        self._held = replace(before, reclaimed=(*before.reclaimed, (held.claim, held.token)))
+        return loaded, held
+
+    def _make_own_tables(self) -> None:
+        for statement in self._own.creations():
+            self._run(statement)
+
+    def _load(self, tables: Sequence[Table], ready: Ready) -> tuple[Loaded, Held]:
+        """What the store has, and what this process knows of it from then on."""
+        self._take_up()
+        token = _drawn_token()
+        sets = f"claim = claim + 1, epoch = epoch + 1, token = {self._mark}"
+        self._run(f"UPDATE {self._claims} SET {sets}", (token,))
+        found = self._run(f"SELECT claim, write, epoch, last_group, next_ticket FROM {self._claims}").fetchone()
+        claim, write, epoch, last_group, next_ticket = found
         self._register(tables)
-        rows: dict[str, list[Row]] = {}
         for table in tables:
-            rows[table.name] = self._rows_of(table, MOST_ROWS - sum(map(len, rows.values())))
-        return Loaded(claim, rows, tuple(self._waiters()), next_ticket, epoch, last_group)
+            self._make_table(table)
+        rows = self._rows_of(tables)
+        loaded = Loaded(claim, rows, tuple(self._waiters()), next_ticket, epoch, last_group)
+        self._make(list(map(self._ending_change, ready(loaded))), self._run_all)
+        return loaded, Held(os.getpid(), claim, write, token, last_group, next_ticket, epoch)
+
+    def _take_up(self) -> None:
+        """Makes the store's own tables of an earlier form those of the present one. Raises StoreError, and writes
+        nothing, if a later version of the package made them."""
+        forms = [form for (form,) in self._run(f"SELECT form FROM {self._claims}").fetchall()]
+        if len(forms) != 1 or not 1 <= forms[0] <= FORM:
+            is_of = f"is of form {forms[0]}, which a later version writes" if len(forms) == 1 else "has no one form"
+            raise StoreError(f"the store {self._name} {is_of}: this version takes forms 1 to {FORM}")
+        if forms[0] == 1:
+            for statement in self._own.claim_changes_of_1():
+                self._run(statement)
+            self._take_up_tickets(_now())
 
     def _register(self, tables: Sequence[Table]) -> None:
         """Says that this store has these tables, and no others."""
@@ -215,32 +330,64 @@ class SqlStore(ABC):
         for place in places:
             self._run(f"INSERT INTO entangle_tables VALUES ({self._mark}, {self._mark})", (place, self._name))
 
-    def _rows_of(self, table: Table, most: int) -> list[Row]:
-        """The rows of a table, which is made if it isn't there. Raises NotLoadable."""
+    def _make_table(self, table: Table) -> None:
+        """Makes a table if it isn't there, and has one that is there collect, if it is to. Raises NotLoadable."""
         found = self._described(table)
         if found is None:
             if table.is_mapped:
                 raise NotLoadable(table.stored_name, StoredFault.NO_SUCH_TABLE)
             self._run(self._creation(table))
             for row in table.initial:
-                self._run(self._insertion(table), row)
-        else:
-            _check_columns(table, found)
-        if table.collects:
-            return []
-        columns = ", ".join(map(quoted, table.stored_names))
-        rows = self._run(f"SELECT {columns} FROM {quoted(*table.path)} LIMIT {most + 1}").fetchall()
-        if len(rows) > most:
-            raise NotLoadable(table.stored_name, StoredFault.TOO_MANY_ROWS)
-        return _checked_rows(table, rows)
+                self._run(self._row_insertion(table).one, row)
+            return
+        check_columns(table, found)
+        in_the_way = keys_in_the_way(table, self._keys_of(table)) if table.collects else []
+        if in_the_way and is_own_key(table, found, in_the_way):
+            self._drop_key(table, in_the_way[0])
+        elif in_the_way:
+            raise NotLoadable(table.stored_name, StoredFault.ONCE, None, None, in_the_way[0].name)
+
+    def _rows_of(self, tables: Sequence[Table]) -> dict[str, list[Row]]:
+        """The rows of tables that are there, none of those that collect. Raises NotLoadable."""
+        rows: dict[str, list[Row]] = {table.name: [] for table in tables}
+        most = MOST_ROWS
+        for table in tables:
+            if table.collects:
+                continue
+            columns = ", ".join(map(quoted, table.stored_names))
+            found = self._run(f"SELECT {columns} FROM {quoted(*table.path)} LIMIT {most + 1}").fetchall()
+            if len(found) > most:
+                raise self._too_many_rows(tables)
+            rows[table.name] = checked_rows(table, found)
+            most -= len(found)
+        return rows
+
+    def _too_many_rows(self, tables: Sequence[Table]) -> NotLoadable:
+        """What is said where there are too many rows: how many each table has, and which could collect."""
+        counts, may_collect = {}, []
+        for table in tables:
+            if table.collects:
+                continue
+            (counts[table.stored_name],) = self._run(f"SELECT count(*) FROM {quoted(*table.path)}").fetchone()
+            in_the_way = keys_in_the_way(table, self._keys_of(table))
+            if not in_the_way or is_own_key(table, self._described(table) or {}, in_the_way):
+                may_collect.append(table.stored_name)
+        return too_many(counts, may_collect)
 
     def _waiters(self) -> Iterator[Waiter]:
-        columns = "ticket, script, bound, patience, batches, request_key"
-        sql = f"SELECT {columns} FROM {self._tickets} WHERE ending IS NULL ORDER BY ticket"
+        columns, mark = "ticket, script, bound, patience, batches, request_key, until", self._mark
+        sql = (
+            f"SELECT {columns} FROM {self._tickets} WHERE ending IS NULL AND ticket > {mark}"
+            f" ORDER BY ticket LIMIT {_WAITERS_AT_ONCE}"
+        )
         scripts: dict[str, str] = {}  # many wait with the same one
-        for ticket, script, bound, patience, batches, key in self._run(sql).fetchall():
-            script = scripts.setdefault(script, script)
-            yield Waiter(Ticket(ticket), script, values_of(bound), patience_of(patience), batches, key)
+        found = self._run(sql, (-1,)).fetchall()
+        while found:
+            for ticket, script, bound, patience, batches, key, until in found:
+                script = scripts.setdefault(script, script)
+                due = None if until is None else time_of(until)
+                yield Waiter(Ticket(ticket), script, values_of(bound), patience_of(patience), batches, key, due)
+            found = self._run(sql, (ticket,)).fetchall() if len(found) == _WAITERS_AT_ONCE else ()
 
     # ---- writing
 
@@ -255,114 +402,199 @@ class SqlStore(ABC):
         """Writes what a room did since the last apply(), all of it or nothing: see Store.apply()."""
         update = Update(tuple(groups), tuple(ended), tuple(waiting), next_ticket, epoch)
         with self._lock:
-            claim = self._claimed()
-            if self._unsure is None:
-                self._check_order(update)
-            elif self._unsure != update:
+            held = self._claimed()
+            if held.unsure is None and held.written == update:
+                return  # it stands, and whoever was interrupted behind it makes it again
+            if held.unsure is None:
+                held = held.begun(update)
+            elif held.unsure != update:
                 raise ValueError("the last apply() isn't known to stand: make it again first, with the same arguments")
-            changes = list(self._changes(update))
-            self._unsure = update
-            self._transaction(lambda: self._apply(claim, update, changes))
-            self._unsure, self._may_stand = None, False
-            self._write += 1
-            self._last_group += len(update.groups)
-            self._next_ticket, self._epoch = next_ticket, epoch
+            changes = list(self._changes(update, held.next_ticket))
+            self._held = held
+            try:
+                self._transaction(lambda: self._apply(held, update, changes, self._run_all))
+            except StoreFailed as error:
+                if not isinstance(error, Uneven) and not (update.groups and self._is_refusal(error.__cause__)):
+                    raise
+                # by which change, the second try says
+                self._transaction(lambda: self._apply(held, update, changes, self._run_each))
+            self._held = held.behind(update)
 
-    def _claimed(self) -> int:
-        """The number of this process's claim. Raises StoreTaken."""
-        if self._claim is None:
+    def _claimed(self) -> Held:
+        """What this process knows of the store. Raises StoreTaken."""
+        if self._held is None:
             raise StoreTaken("the store isn't loaded")
-        return self._claim
+        if self._held.process != os.getpid():
+            raise StoreTaken("the process that loaded the store has it, and this one was forked from it")
+        return self._held
 
-    def _check_order(self, update: Update) -> None:
-        """Raises ValueError for an update that doesn't go on where the last one ended."""
-        expected = range(self._last_group + 1, self._last_group + 1 + len(update.groups))
-        if [group.number for group in update.groups] != list(expected):
-            raise ValueError(f"the groups aren't those from {expected.start} on, one after the other")
-        if update.next_ticket < self._next_ticket or update.epoch < self._epoch:
-            raise ValueError("the next ticket or the epoch is less than before")
-        if any(waiter.ticket.number >= update.next_ticket for waiter in update.waiting):
-            raise ValueError("who waits has a ticket from next_ticket on")
-
-    def _apply(self, claim: int, update: Update, changes: Sequence[Change]) -> None:
-        last_group = self._last_group + len(update.groups)
+    def _apply(self, held: Held, update: Update, changes: Sequence[Change], run: Running) -> None:
+        last_group, before = held.last_group + len(update.groups), (held.claim, held.write, held.token)
         mark = self._mark
         compared = self._run(
-            f"UPDATE {self._claims} SET write = {mark}, last_group = {mark}, next_ticket = {mark}, epoch = {mark}"
-            f" WHERE claim = {mark} AND write = {mark}",
-            (self._write + 1, last_group, update.next_ticket, update.epoch, claim, self._write),
+            f"UPDATE {self._claims} SET write = {mark}, last_group = {mark}, next_ticket = {mark}, epoch = {mark},"
+            f" token = {mark} WHERE claim = {mark} AND write = {mark} AND token = {mark}",
+            (held.write + 1, last_group, update.next_ticket, update.epoch, held.drawn, *before),
         )
         if compared.rowcount != 1:
-            self._judge(claim)
+            self._judge(held)
             return
-        for change, count in zip(changes, self._run_all(changes)):
+        self._make(changes, run)
+
+    def _make(self, changes: Sequence[Change], run: Running) -> None:
+        """Makes changes. Raises StoreDiffers for the first that doesn't touch exactly one row."""
+        for change, count in zip(changes, run(changes)):
             if count != 1:
                 raise StoreDiffers(f"{change.what} touches {count} rows of the store, and should touch one")
-        self._may_stand = True
 
-    def _judge(self, claim: int) -> None:
-        """Why the claim and the number of writes aren't as they were. Nothing is to be done if this very update
-        stands."""
-        found = self._run(f"SELECT claim, write FROM {self._claims}").fetchone()
-        if found is not None and found[0] == claim and found[1] == self._write + 1 and self._may_stand:
-            return
-        if found is not None and found[0] != claim:
-            self._claim = None
+    def _run_each(self, changes: Sequence[Change]) -> list[int]:
+        """Runs statements one by one. Raises RefusedByStore for the first change of a group that the engine refuses, or
+        for the first group behind whose changes it refuses the whole."""
+        counts: list[int] = []
+        for change, later in zip(changes, (*changes[1:], None)):
+            try:
+                counts.append(self._run(change.statement.one, change.parameters).rowcount)
+                if change.group is not None and (later is None or later.group is not change.group):
+                    change = replace(change, table=None, row=None)
+                    self._check_constraints()
+            except Exception as error:
+                if change.group is None or not self._is_refusal(error):
+                    raise
+                raise change.refused() from error
+        return counts
+
+    def _judge(self, held: Held) -> None:
+        """Why the claim, the number of writes and the token aren't as they were. Nothing is to be done if this very
+        update stands: nobody else draws its token."""
+        found = self._run(f"SELECT claim, write, token FROM {self._claims}").fetchone()
+        if found is None:
+            raise StoreDiffers(f"the claim {held.claim} stands behind {held.write} writes, and the store has none")
+        if tuple(found) != (held.claim, held.write + 1, held.drawn):
+            self._held = None
             raise StoreTaken(_TAKEN)
-        raise StoreDiffers(f"the claim {claim} stands behind {self._write} writes, and the store has {found}")
+        # a server that waits for its standby does so for what is written: so it waits for that update too
+        self._run(f"UPDATE {self._claims} SET write = write")
 
-    def _changes(self, update: Update) -> Iterator[Change]:
-        """The statements of an update, in order."""
+    def _changes(self, update: Update, next_ticket: int) -> Iterator[Change]:
+        """The statements of an update, in order. Who waits from this ticket on waits since."""
         for waiter in update.waiting:
-            yield self._waiting_change(waiter)
+            yield self._waiting_change(waiter, next_ticket)
         for group in update.groups:
             for name, change in group.changes.items():
                 if name not in self._tables:
                     raise ValueError(f"group {group.number} changes {name}, which isn't one of the store's tables")
                 table = self._tables[name]
+                if change.removed:
+                    deletion = self._row_deletion(table)
                 for row in change.removed:
                     what = f"group {group.number} takes out {row!r} of {name}, which"
-                    yield Change(self._deletion(table), row, what)
+                    yield Change(deletion, row, what, group, name, row)
+                if change.added:
+                    insertion = self._row_insertion(table)
                 for row in change.added:
                     what = f"group {group.number} puts in {row!r} of {name}, which"
-                    yield Change(self._insertion(table), row, what)
+                    yield Change(insertion, row, what, group, name, row)
         for outcome in update.ended:
             yield self._ending_change(outcome)
 
-    def _waiting_change(self, waiter: Waiter) -> Change:
+    def _waiting_change(self, waiter: Waiter, next_ticket: int) -> Change:
         """Somebody waits since, or was in more batches."""
-        mark, ticket = self._mark, waiter.ticket.number
+        ticket = waiter.ticket.number
         what = f"ticket {ticket}, which waits,"
-        if ticket < self._next_ticket:
-            sql = f"UPDATE {self._tickets} SET batches = {mark} WHERE ticket = {mark} AND ending IS NULL"
-            return Change(sql, (waiter.batches, ticket), what)
-        columns = "ticket, request_key, script, bound, patience, batches"
-        sql = f"INSERT INTO {self._tickets} ({columns}) VALUES ({', '.join([mark] * 6)})"
+        if ticket < next_ticket:
+            return Change(self._counts, (waiter.batches, ticket), what)
         bound, patience = values_text(waiter.values), patience_number(waiter.patience)
-        return Change(sql, (ticket, waiter.key, waiter.script, bound, patience, waiter.batches), what)
+        until = None if waiter.until is None else microseconds_of(waiter.until)
+        asked = None if waiter.key is None else asked_digest(waiter.script, waiter.values)
+        values = (ticket, waiter.key, waiter.script, bound, patience, waiter.batches, until, asked)
+        return Change(self._puts, values, what)
 
     def _ending_change(self, outcome: Outcome) -> Change:
         """Somebody waits no more."""
-        mark, ending = self._mark, outcome.ending
+        ending = outcome.ending
         epoch = ending.epoch if isinstance(ending, TicketCommitted) else None
         number = ending.number if isinstance(ending, TicketCommitted) else None
-        failure = ending.failure.value if isinstance(ending, TicketFailed) else None
-        columns = ("ended_in", "ending", "epoch", "number", "failure", "answers")
-        sets = ", ".join(f"{column} = {mark}" for column in columns)
         ticket, answers = outcome.ticket.number, answers_text(outcome.answers)
-        sql = f"UPDATE {self._tickets} SET {sets} WHERE ticket = {mark} AND ending IS NULL"
-        values = (outcome.group, ending.kind, epoch, number, failure, answers, ticket)
-        return Change(sql, values, f"ticket {ticket}, which ended,")
+        values = (outcome.group, ending.kind, epoch, number, _failure_of(ending), answers, _now(), ticket)
+        return Change(self._ends, values, f"ticket {ticket}, which ended,")
 
-    def _insertion(self, table: Table) -> str:
-        columns = ", ".join(map(quoted, table.stored_names))
-        marks = ", ".join([self._mark] * len(table.columns))
-        return f"INSERT INTO {quoted(*table.path)} ({columns}) VALUES ({marks})"
+    # ---- statements
 
-    def _deletion(self, table: Table) -> str:
-        place = quoted(*table.path)
-        tests = " AND ".join(self._equal(quoted(column)) for column in table.stored_names)
-        return f"DELETE FROM {place} WHERE {self._one_of(place, tests) if table.collects else tests}"
+    def _among(self, column: str, kind: Type, values: Sequence[object]) -> tuple[str, Sequence[object]]:
+        """The test that a column has one of these values, and its parameters."""
+        return f"{column} IN ({', '.join([self._mark] * len(values))})", values
+
+    def _insertion(self, place: str, columns: Columns) -> Statement:
+        """Puts a row into a table."""
+        marks = ", ".join([self._mark] * len(columns))
+        return Statement(f"INSERT INTO {place} ({', '.join(columns)}) VALUES ({marks})")
+
+    def _update(self, place: str, sets: Columns, key: Columns, unset: str) -> Statement:
+        """Sets columns of the row that has a key, and NULL in the column `unset`."""
+        given = ", ".join(f"{column} = {self._mark}" for column in sets)
+        tests = " AND ".join(f"{column} = {self._mark}" for column in key)
+        return Statement(f"UPDATE {place} SET {given} WHERE {tests} AND {unset} IS NULL")
+
+    def _deletion(self, place: str, columns: Columns) -> Statement:
+        """Takes a row out of a table where it stands once."""
+        return Statement(f"DELETE FROM {place} WHERE {' AND '.join(map(self._equal, columns))}")
+
+    def _row_insertion(self, table: Table) -> Statement:
+        return self._insertion(quoted(*table.path), _columns_of(table))
+
+    def _row_deletion(self, table: Table) -> Statement:
+        place, columns = quoted(*table.path), _columns_of(table)
+        if table.collects:
+            tests = " AND ".join(map(self._equal, columns))
+            return Statement(f"DELETE FROM {place} WHERE {self._one_of(place, tests)}")
+        return self._deletion(place, columns)
+
+    # ---- forgetting
+
+    def forget(self, before: datetime, first: int = 0) -> tuple[int, Optional[int]]:
+        """Forgets tickets that ended: see Store.forget()."""
+        with self._lock:
+            self._claimed()
+            return self._transaction(lambda: self._forget(microseconds_of(before), first))
+
+    def _forget(self, before: int, first: int) -> tuple[int, Optional[int]]:
+        self._check_held()
+        mark, columns = self._mark, "ended_in, ending, epoch, number, failure, ended_at"
+        found = self._run(
+            f"SELECT ticket, request_key, asked, {columns}, CASE WHEN asked IS NULL THEN script END,"
+            f" CASE WHEN asked IS NULL THEN bound END FROM {self._tickets} WHERE ticket >= {mark}"
+            f" ORDER BY ticket LIMIT {_AT_ONCE}",
+            (first,),
+        ).fetchall()
+        keys, tickets = [], []
+        for ticket, key, asked, group, ending, *rest, ended_at, script, bound in found:
+            if ending is None or ended_at >= before:
+                continue
+            what = f"ticket {ticket}, which is forgotten,"
+            if key is not None:
+                values = (key_digest(key), ticket, asked or asked_digest(script, values_of(bound)))
+                keys.append(Change(self._keeps_key, (*values, group, ending, *rest, ended_at), what))
+            tickets.append(Change(self._forgets, (ticket,), what))
+        self._make([*keys, *tickets], self._run_all)
+        return len(tickets), found[-1][0] + 1 if len(found) == _AT_ONCE else None
+
+    def forget_keys(self, before: datetime, first: int = 0) -> tuple[int, Optional[int]]:
+        """Forgets keys of forgotten tickets: see Store.forget_keys()."""
+        with self._lock:
+            self._claimed()
+            return self._transaction(lambda: self._forget_keys(microseconds_of(before), first))
+
+    def _forget_keys(self, before: int, first: int) -> tuple[int, Optional[int]]:
+        self._check_held()
+        mark = self._mark
+        sql = f"SELECT ticket FROM {self._keys} WHERE ticket >= {mark} ORDER BY ticket LIMIT {_AT_ONCE}"
+        found = self._run(sql, (first,)).fetchall()
+        if not found:
+            return 0, None
+        last = found[-1][0]
+        sql = f"DELETE FROM {self._keys} WHERE ticket >= {mark} AND ticket <= {mark} AND ended_at < {mark}"
+        count: int = self._run(sql, (first, last, before)).rowcount
+        return count, last + 1 if len(found) == _AT_ONCE else None
 
     # ---- looking
 
@@ -378,19 +610,29 @@ class SqlStore(ABC):
     def check(self) -> None:
         """Raises StoreTaken if another process has the store."""
         with self._lock:
-            claim = self._claimed()
-            found = self._read(f"SELECT claim FROM {self._claims}")
-            if found is None or found[0] != claim:
-                self._claim = None
-                raise StoreTaken(_TAKEN)
+            self._claimed()
+            self._reading(self._check_held)
+
+    def _check_held(self) -> None:
+        """Raises StoreTaken if the store isn't as this process left it."""
+        held = self._claimed()
+        found = self._run(f"SELECT claim, token FROM {self._claims}").fetchone()
+        tokens = (held.token,) if held.unsure is None else (held.token, held.drawn)
+        own = {*((held.claim, token) for token in tokens), *held.reclaimed}
+        if found is None or tuple(found) not in own:
+            self._held = None
+            raise StoreTaken(_TAKEN)
 
     def outcome(self, ticket: Ticket) -> Optional[Outcome]:
-        """How a script ended, as it stands in the store. None if it hasn't, or nobody has the ticket. This needs no
-        claim: any process may ask."""
-        columns = "ended_in, ending, epoch, number, failure, answers"
-        sql = f"SELECT {columns} FROM {self._tickets} WHERE ticket = {self._mark} AND ending IS NOT NULL"
+        """How a script ended, as it stands in the store, without answers if it was forgotten. None if it hasn't, or
+        nobody has the ticket. This needs no claim: any process may ask."""
+        columns, mark = "ended_in, ending, epoch, number, failure", self._mark
+        sql = (
+            f"SELECT {columns}, answers FROM {self._tickets} WHERE ticket = {mark} AND ending IS NOT NULL"
+            f" UNION ALL SELECT {columns}, '[]' FROM {self._keys} WHERE ticket = {mark}"
+        )
         with self._lock:
-            found = self._read(sql, (ticket.number,))
+            found = self._read(sql, (ticket.number, ticket.number))
         if found is None:
             return None
         group, kind, epoch, number, failure, answers = found
@@ -398,19 +640,70 @@ class SqlStore(ABC):
 
     def ticket_of(self, key: str) -> Optional[Ticket]:
         """The ticket of the request with this key, if there is one. This needs no claim: any process may ask."""
-        sql = f"SELECT ticket FROM {self._tickets} WHERE request_key = {self._mark}"
+        used = self.tickets_of((key,)).get(key)
+        return None if used is None else used.ticket
+
+    def tickets_of(self, keys: Sequence[str]) -> dict[str, UsedKey]:
+        """The tickets of those of these keys that were used, with the digest of what was asked. This needs no claim:
+        any process may ask."""
+        wanted, used = list(dict.fromkeys(keys)), {}
+        with self._lock:
+            for start in range(0, len(wanted), self._keys_at_once):
+                some = wanted[start : start + self._keys_at_once]
+                used.update(self._reading(lambda: self._used(some)))
+        return used
+
+    def _used(self, keys: Sequence[str]) -> dict[str, UsedKey]:
+        of_digests = {key_digest(key): key for key in keys}
+        of_key, with_keys = self._among("request_key", "TEXT", keys)
+        of_digest, with_digests = self._among("key_digest", "BYTES", list(of_digests))
+        # a ticket that was put by form 1 has no digest of what was asked: it is made of what stands there
+        columns = "CASE WHEN asked IS NULL THEN script END, CASE WHEN asked IS NULL THEN bound END"
+        sql = (
+            f"SELECT request_key, NULL, ticket, asked, {columns} FROM {self._tickets} WHERE {of_key}"
+            f" UNION ALL SELECT NULL, key_digest, ticket, asked, NULL, NULL FROM {self._keys} WHERE {of_digest}"
+        )
+        used = {}
+        for key, digest, ticket, asked, script, bound in self._run(sql, (*with_keys, *with_digests)).fetchall():
+            if script is not None:
+                asked = asked_digest(script, values_of(bound))
+            used[of_digests[digest] if key is None else key] = UsedKey(Ticket(ticket), asked)
+        return used
+
+    def put_with(self, key: str) -> Optional[Waiter]:
+        """What was put with this key, whether it waits or has ended, if anything was. This needs no claim: any process
+        may ask."""
+        columns = "ticket, script, bound, patience, batches, until"
+        sql = f"SELECT {columns} FROM {self._tickets} WHERE request_key = {self._mark}"
         with self._lock:
             found = self._read(sql, (key,))
-        return None if found is None else Ticket(found[0])
+        if found is None:
+            return None
+        ticket, script, bound, patience, batches, until = found
+        due = None if until is None else time_of(until)
+        return Waiter(Ticket(ticket), script, values_of(bound), patience_of(patience), batches, key, due)
+
+    def waiters(self) -> list[Waiter]:
+        """Who waits, by ticket; nobody where nothing was loaded yet. This needs no claim: any process may ask."""
+        with self._lock:
+            return self._reading(lambda: list(self._waiters()) if self._has_own_tables() else [])
+
+    def endings(self) -> int:
+        """How many scripts have ended, with those that were forgotten and had a key. This needs no claim: any process
+        may ask."""
+        ended = f"(SELECT count(*) FROM {self._tickets} WHERE ending IS NOT NULL)"
+        with self._lock:
+            found = self._read(f"SELECT {ended} + (SELECT count(*) FROM {self._keys})")
+        return 0 if found is None else int(found[0])
 
 
-def _check_columns(table: Table, found: dict[str, Column]) -> None:
-    """Raises NotLoadable if a table of a database can't have the rows of a room."""
-    for column, kind in zip(table.stored_names, table.columns.values()):
-        if column not in found:
-            raise NotLoadable(table.stored_name, StoredFault.NO_SUCH_COLUMN, column)
-        if found[column].kind != kind:
-            raise NotLoadable(table.stored_name, StoredFault.OTHER_TYPE, column)
-    for name, column_found in found.items():
-        if column_found.needs and name not in table.stored_names:
-            raise NotLoadable(table.stored_name, StoredFault.OTHER_COLUMN, name)
+def _columns_of(table: Table) -> Columns:
+    """The columns of a table in the store, with quoted names."""
+    return dict(zip(map(quoted, table.stored_names), table.columns.values()))
+
+
+def _failure_of(ending: Ending) -> Optional[str]:
+    """Why a script ended so, as stores have it."""
+    if isinstance(ending, TicketFailed):
+        return ending.failure.value
+    return ending.fault if isinstance(ending, (TicketNotRestored, TicketRefusedByStore)) else None

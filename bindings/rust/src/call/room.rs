@@ -2,7 +2,8 @@
 
 use super::{DONE, Limits, MISUSED, OUT_OF_MEMORY, Opaque, REFUSED, SubmissionSeen, TicketPosition, Told};
 use super::{buffered, fault_of};
-use super::{ent_c_room_ended, ent_c_room_epoch, ent_c_room_explain, ent_c_room_free, ent_c_room_groups};
+use super::{ent_c_room_ended, ent_c_room_epoch, ent_c_room_explain, ent_c_room_free, ent_c_room_further};
+use super::ent_c_room_groups;
 use super::{ent_c_room_next_group, ent_c_room_open, ent_c_room_put, ent_c_room_report, ent_c_room_restore};
 use super::{ent_c_room_settled_through, ent_c_room_state, ent_c_room_step, ent_c_room_submission};
 use super::{ent_c_room_table, ent_c_room_turn, ent_c_room_waiting, ent_c_room_why, ent_c_room_withdraw};
@@ -48,7 +49,7 @@ pub(crate) struct BoundValues {
     at: *mut Opaque,
 }
 
-// What is said of the calls of a manager holds for those of values, of rows and of a room: each passes the place of a
+// What is said of the calls of a driver holds for those of values, of rows and of a room: each passes the place of a
 // pointer that is null or was written by the archive, and which `&mut` keeps from every other call.
 impl BoundValues {
     pub(crate) fn new() -> Self {
@@ -184,7 +185,7 @@ pub(crate) struct RoomHandle {
     at: *mut Opaque,
 }
 
-// SAFETY: as said of a manager's handle.
+// SAFETY: as said of a driver's handle.
 unsafe impl Send for RoomHandle {}
 
 impl RoomHandle {
@@ -251,6 +252,13 @@ impl RoomHandle {
         // SAFETY: as said above.
         let status = unsafe { ent_c_room_step(&mut self.at, &mut step, &mut refusal) };
         Ok(room_said(status, refusal, Told::default()).map(|()| step)?)
+    }
+
+    pub(crate) fn further(&mut self) -> Result<(), RoomError> {
+        let mut refusal = 0;
+        // SAFETY: as said above.
+        let status = unsafe { ent_c_room_further(&mut self.at, &mut refusal) };
+        Ok(room_said(status, refusal, Told::default())?)
     }
 
     pub(crate) fn state(&mut self, ticket: u64) -> TicketPosition {
@@ -359,7 +367,7 @@ impl RoomHandle {
 
 impl Drop for RoomHandle {
     fn drop(&mut self) {
-        // SAFETY: as said of a manager's handle.
+        // SAFETY: as said of a driver's handle.
         unsafe { ent_c_room_free(&mut self.at) }
     }
 }

@@ -1,5 +1,5 @@
 use Rattle.std.proofs.Common.{rules, arith, ◌≡◌, List, ℕ, subst, IsTrue}
-use Rattle.ent_engine.specs.Reading.{IsInput}
+use Rattle.ent_input.specs.Reading.{IsInput}
 use Rattle.ent_arrange.specs.Written.{Arranges}
 use Rattle.ent_arrange.proofs.Chosen.{given_order, new_order}
 use Rattle.ent_arrange.proofs.arranging.text_and_told.Goals as goal
@@ -10,7 +10,7 @@ returns-clause-ok c =
     let bytes = c.args.bytes.now in
     let input = c.in_ok-input.input in
     let formed : IsInput bytes input =
-    record { read = c.in_ok-input.ensures.input; formed = c.in_ok-submit_all.ensures.formed } in
+    record { read = c.in_ok-input.ensures.input; formed = c.in_ok-over.ensures.formed } in
     let is = λ (text : List ℕ). Arranges bytes text in
     elim c.if-is_right.branch [
       | then-is_right w ↦

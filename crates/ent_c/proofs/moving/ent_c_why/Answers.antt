@@ -2,7 +2,7 @@ use Rattle.std.proofs.Common.{[], ◌∙◌, Some, ap, of_z, refl, sym, to_z, w3
 use Rattle.ent_driver.specs.Why.{Explains, IsUnexplained}
 use Rattle.ent_driver.specs.declared.driver.Driver.{Driver}
 use Rattle.ent_driver.specs.declared.fault.DriverFault.TheVariants.{Vacant}
-use Rattle.ent_c.specs.Managers.{HandsOutOr, behind}
+use Rattle.ent_c.specs.Drivers.{HandsOutOr, behind}
 use Rattle.ent_c.proofs.Behind.{behind_none, behind_some}
 use Rattle.ent_c.proofs.Texts.{declined, handed_out}
 use Rattle.ent_c.proofs.moving.ent_c_why.Goals as goal
@@ -13,7 +13,7 @@ returns-clause-same c = c.put.ensures ∙ sym c.in-Some.ensures.taken
 pub returns-clause-text : goal.returns-clause-text
 returns-clause-text c =
     let held = c.in-Some.ensures.taken ∙ ap Some (sym c.deref.ensures) in
-    let manager = c.deref.result.now in
+    let driver = c.deref.result.now in
     let buffer = c.hand_out-2.new.buffer in
     let told = c.hand_out-2.new.told in
     let status = c.hand_out-2.result in
@@ -22,7 +22,7 @@ returns-clause-text c =
     c.args.buffer.now buffer told (to_z w32 (of_z w32 status)) in
     behind_some handed held (
     handed_out c.why-text.result (λ text. text.items)
-    (Explains manager c.args.tx) (IsUnexplained manager c.args.tx) []
+    (Explains driver c.args.tx) (IsUnexplained driver c.args.tx) []
     c.args.buffer.now buffer told status c.hand_out-2.type_inv
     c.why-text.ensures.ok c.why-text.ensures.refused
     c.hand_out-2.ensures.handed c.hand_out-2.ensures.refused

@@ -2,7 +2,7 @@ use Rattle.std.proofs.Common.{◌∙◌, Some, ap, inl, inr, refl, sym}
 use Rattle.ent_driver.specs.Passed.{reply_seen}
 use Rattle.ent_driver.specs.Moves.{IsNotMade, Moves}
 use Rattle.ent_driver.specs.declared.fault.DriverFault.TheVariants.{Vacant}
-use Rattle.ent_c.specs.Managers.{behind}
+use Rattle.ent_c.specs.Drivers.{behind}
 use Rattle.ent_c.proofs.Behind.{behind_both, behind_none}
 use Rattle.ent_c.proofs.Statuses.{of_byte}
 use Rattle.ent_c.proofs.moving.make_move.Goals as goal

@@ -1,6 +1,6 @@
 use Rattle.std.proofs.Common.{◌≡◌, take, map}
 use Rattle.ent_semantics.specs.Form.{term_worth}
-use Rattle.ent_select.specs.Worth.{itself}
+use Rattle.ent_ordinary.specs.Worth.{itself}
 use Rattle.ent_check.proofs.facts.bindings_of.Given as goal
 
 -- the bindings so far

@@ -3,8 +3,8 @@ use Rattle.std.specs.Arc.{arc_value}
 use Rattle.ent_lists.specs.Sets as set
 use Rattle.ent_rel.specs.Numbered.{relation_of}
 use Rattle.ent_semantics.specs.Form.{term_worth}
-use Rattle.ent_select.specs.Tables.{rows_in}
-use Rattle.ent_select.specs.Worth.{itself}
+use Rattle.ent_ordinary.specs.Tables.{rows_in}
+use Rattle.ent_ordinary.specs.Worth.{itself}
 use Rattle.ent_check.specs.Shown.{is_shown}
 use Rattle.ent_check.proofs.ground.membership_holds.Goals as goal
 

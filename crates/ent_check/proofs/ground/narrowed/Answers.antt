@@ -3,7 +3,7 @@ use Rattle.ent_lists.specs.Sets as set
 use Rattle.ent_value.specs.declared.value.Value.{Value}
 use Rattle.ent_semantics.specs.Selection.{meets, selection}
 use Rattle.ent_semantics.specs.declared.statement.Select.{Select}
-use Rattle.ent_select.specs.Worth.{worth_over}
+use Rattle.ent_ordinary.specs.Worth.{worth_over}
 use Rattle.ent_check.specs.Shown.{is_shown}
 use Rattle.ent_check.proofs.Shown.{one_test_more}
 use Rattle.ent_check.proofs.ground.narrowed.Goals.{then-len-lt-MOST_PARTS+in_ok-test+in_ok-push, else-len-lt-MOST_PARTS}

@@ -1,7 +1,7 @@
 use Rattle.std.proofs.Common.{◌≡◌, take, map, slice_index_or}
 use Rattle.std.specs.Arc.{arc_value}
 use Rattle.ent_rel.specs.Numbered.{Numbered, relation_of}
-use Rattle.ent_select.specs.Tables.{no_table}
+use Rattle.ent_ordinary.specs.Tables.{no_table}
 use Rattle.ent_check.proofs.ground.tables_of.Given as goal
 
 -- the tables so far

@@ -4,7 +4,7 @@ use Rattle.std.specs.Arc.{arc_value}
 use Rattle.std.specs.Option.{option_map}
 use Rattle.ent_closing.specs.Environment.{environment_of}
 use Rattle.ent_history.specs.Placed.{member_at}
-use Rattle.ent_select.specs.Tables.{rows_in}
+use Rattle.ent_ordinary.specs.Tables.{rows_in}
 use Rattle.ent_check.proofs.Compared.{right_finding, tables_there}
 use Rattle.ent_check.proofs.operation.operation_finding.Goals as goal
 

@@ -1,9 +1,9 @@
 use Rattle.std.proofs.Common.{None, map, take}
 use Rattle.std.specs.Arc.{arc_value}
 use Rattle.ent_check.specs.Order.{accounts_at}
-use Rattle.ent_form_laws.specs.Tables.{database_of}
+use Rattle.ent_form.specs.Tables.{database_of}
 use Rattle.ent_history.specs.Account.{accounts_from}
-use Rattle.ent_select.specs.Tables.{rows_in}
+use Rattle.ent_ordinary.specs.Tables.{rows_in}
 use Rattle.ent_check.specs.Alone.{AreReplayed, StandAsDeclared}
 use Rattle.ent_check.proofs.serial.turns_finding.Given as goal
 

@@ -5,14 +5,14 @@ use Rattle.ent_lists.specs.Sets as set
 use Rattle.ent_semantics.specs.Form.{closed_worth, form_meaning}
 use Rattle.ent_semantics.specs.FormKinds.{tables_named}
 use Rattle.ent_closing.specs.Environment.{environment_of}
-use Rattle.ent_effect.specs.Change.{IsApplicable}
-use Rattle.ent_effect.specs.Meant.{changed_number, effect_of, set_variable}
-use Rattle.ent_effect.specs.declared.outcome.Outcome.{Outcome}
-use Rattle.ent_effect.specs.declared.outcome.Outcome.TheVariants as outcomes
+use Rattle.ent_ordinary.specs.Change.{IsApplicable}
+use Rattle.ent_ordinary.specs.Meant.{changed_number, effect_of, set_variable}
+use Rattle.ent_ordinary.specs.declared.outcome.Outcome.{Outcome}
+use Rattle.ent_ordinary.specs.declared.outcome.Outcome.TheVariants as outcomes
 use Rattle.ent_rel.specs.Change.{changed_rows}
 use Rattle.ent_rel.specs.Numbered.{relation_of}
 use Rattle.ent_rel.specs.Relation.{Relation}
-use Rattle.ent_select.specs.Tables.{no_table, rows_in}
+use Rattle.ent_ordinary.specs.Tables.{no_table, rows_in}
 use Rattle.ent_semantics.specs.Database.{with_value}
 use Rattle.ent_semantics.specs.declared.answer.Answer.TheVariants as answers
 use Rattle.ent_check.proofs.Ordinary.{applied_so, change_applies, change_there, is_set, meant_so, one_table}

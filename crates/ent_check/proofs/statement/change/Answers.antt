@@ -4,7 +4,7 @@ use Rattle.std.specs.Prelude.{slice_index_or}
 use Rattle.std.proofs.lemmas.List.{length-map, map-set}
 use Rattle.ent_rel.specs.Change.{changed_rows}
 use Rattle.ent_rel.specs.Relation.{Relation}
-use Rattle.ent_select.specs.Tables.{kinds_in, no_table, rows_in}
+use Rattle.ent_ordinary.specs.Tables.{kinds_in, no_table, rows_in}
 use Rattle.ent_check.proofs.Ordinary.{set_kinds, set_rows}
 use Rattle.ent_check.proofs.statement.change.Goals as goal
 

@@ -5,7 +5,7 @@ use Rattle.ent_value.specs.Order.{rows_total, exact_rows}
 use Rattle.ent_value.specs.Value.{row_cmp}
 use Rattle.ent_lists.specs.Sets as set
 use Rattle.ent_lists.specs.Laws.{ascending-from_list}
-use Rattle.ent_select.specs.Tables.{rows_in}
+use Rattle.ent_ordinary.specs.Tables.{rows_in}
 use Rattle.ent_semantics.specs.Database.{Rows, same_name}
 use Rattle.ent_check.proofs.Found.{NamedBehind, named_here, named_later, named_nowhere}
 use Rattle.ent_check.proofs.Places.{rows_at, rows_many}

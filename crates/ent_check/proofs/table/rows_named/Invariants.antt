@@ -1,6 +1,6 @@
 use Rattle.std.proofs.Common.{map}
 use Rattle.std.specs.Arc.{arc_value}
-use Rattle.ent_select.specs.Tables.{rows_in}
+use Rattle.ent_ordinary.specs.Tables.{rows_in}
 use Rattle.ent_check.proofs.Found.{NamedBehind}
 use Rattle.ent_check.proofs.table.rows_named.Given as goal
 

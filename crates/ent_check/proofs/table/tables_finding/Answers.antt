@@ -1,7 +1,7 @@
 use Rattle.std.proofs.Common.{◌≡◌, ◌<◌, true, false, length, map, sym, subst, arith, rules}
 use Rattle.std.specs.Arc.{arc_value}
-use Rattle.ent_form_laws.specs.Tables.{database_of}
-use Rattle.ent_select.specs.Tables.{rows_in}
+use Rattle.ent_form.specs.Tables.{database_of}
+use Rattle.ent_ordinary.specs.Tables.{rows_in}
 use Rattle.ent_check.proofs.Found.{ShownBehind, rows_right, shown_right, shown_whole, shown_wrong}
 use Rattle.ent_check.proofs.table.tables_finding.Goals as goal
 

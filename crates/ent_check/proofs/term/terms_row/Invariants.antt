@@ -1,6 +1,6 @@
 use Rattle.std.proofs.Common.{◌≡◌, take, map}
 use Rattle.ent_semantics.specs.Form.{term_worth}
-use Rattle.ent_select.specs.Worth.{itself}
+use Rattle.ent_ordinary.specs.Worth.{itself}
 use Rattle.ent_check.proofs.term.terms_row.Given as goal
 
 -- what the terms so far are worth

@@ -9,8 +9,8 @@ use Rattle.ent_closing.specs.Environment.{environment_of}
 use Rattle.ent_form.specs.Catalogue.{schemas_of}
 use Rattle.ent_form.specs.Form.{script_in}
 use Rattle.ent_form.specs.Kinds.{none_bound}
-use Rattle.ent_form_laws.specs.Tables.{database_of}
-use Rattle.ent_select.specs.Tables.{rows_in}
+use Rattle.ent_form.specs.Tables.{database_of}
+use Rattle.ent_ordinary.specs.Tables.{rows_in}
 use Rattle.ent_semantics.specs.declared.answer.Answer.{Answer}
 use Rattle.ent_check.proofs.Along.{Midway, Resolves, midway_begun, resolved_so}
 use Rattle.ent_check.proofs.Next.{end_replayed, next_asks, next_on, next_there, none_there, off_replayed}

@@ -1,8 +1,8 @@
 use Rattle.std.proofs.Common.{◌+◌, drop, map}
 use Rattle.std.specs.Arc.{arc_value}
 use Rattle.ent_closing.specs.Environment.{environment_of}
-use Rattle.ent_form_laws.specs.Tables.{database_of}
-use Rattle.ent_select.specs.Tables.{rows_in}
+use Rattle.ent_form.specs.Tables.{database_of}
+use Rattle.ent_ordinary.specs.Tables.{rows_in}
 use Rattle.ent_check.proofs.Along.{Midway}
 use Rattle.ent_check.proofs.transaction.transaction_finding.Given as goal
 

@@ -2,7 +2,7 @@ use Rattle.std.proofs.Common.{◌≡◌, ◌++◌, [], false, true, List, map, N
 use Rattle.std.specs.Arc.{arc_value}
 use Rattle.ent_history.specs.Told.{joint_answer_of}
 use Rattle.ent_history.specs.declared.history.ToldJoint.{ToldJoint}
-use Rattle.ent_form_laws.specs.Tables.{database_of}
+use Rattle.ent_form.specs.Tables.{database_of}
 use Rattle.ent_history.specs.Account.{accounts, in_commit_order}
 use Rattle.ent_history.specs.Joint.{left_out_findings, members_findings}
 use Rattle.ent_history.specs.Placed.{placed}
@@ -11,7 +11,7 @@ use Rattle.ent_history.specs.Replay.{replay_findings, told_end, told_read_views}
 use Rattle.ent_history.specs.Table.{end_findings, tables_findings}
 use Rattle.ent_history.specs.Verdict.{first_of}
 use Rattle.ent_history.specs.declared.finding.Finding.{Finding}
-use Rattle.ent_select.specs.Tables.{rows_in}
+use Rattle.ent_ordinary.specs.Tables.{rows_in}
 use Rattle.ent_semantics.specs.Book.{all_members}
 use Rattle.ent_semantics.specs.Database.{opening_database}
 use Rattle.ent_check.proofs.Numbers.{first_none}

@@ -1,6 +1,6 @@
 use Rattle.std.proofs.Common.{◌≡◌, ◌∙◌, refl, sym, ap, subst, List}
 use Rattle.std.specs.Prelude.{IfOk}
-use Rattle.ent_coordination.specs.Pool.{Posted}
+use Rattle.ent_semantics.specs.Pool.{Posted}
 use Rattle.ent_form.specs.declared.fault.FormFault.{FormFault}
 use Rattle.ent_match.specs.Fault.{IsByNumber}
 use Rattle.ent_match.specs.Posting.{HasNone, IsPostedTo, IsWhyWith}

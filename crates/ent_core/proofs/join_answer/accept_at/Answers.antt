@@ -1,7 +1,7 @@
 use Rattle.std.proofs.Common.{◌≡◌, ◌∙◌, List, ap, sym, subst}
 use Rattle.ent_job.specs.Work.{work_seen}
 use Rattle.ent_job.specs.declared.work.Work.{Work}
-use Rattle.ent_coordination.specs.Pool.{Posted}
+use Rattle.ent_semantics.specs.Pool.{Posted}
 use Rattle.ent_protocol.specs.Job.{Job, Joint}
 use Rattle.ent_protocol.specs.PoolEvents.{IsPresentComponent}
 use Rattle.ent_protocol_laws.proofs.Determined.{same_asked}

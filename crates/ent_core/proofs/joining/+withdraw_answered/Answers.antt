@@ -1,6 +1,6 @@
 use Rattle.std.proofs.Common.{◌≡◌, ◌∙◌, ◌∷◌, [], List, ap, map, sym}
 use Rattle.std.specs.List.{filter}
-use Rattle.ent_coordination.specs.Pool.{Posted}
+use Rattle.ent_semantics.specs.Pool.{Posted}
 use Rattle.ent_waits.specs.Pooled.{is_of_none}
 use Rattle.ent_rel.proofs.Keyed.{none_in}
 use Rattle.ent_core.proofs.Pooled.{withdrawn_none, withdrawn_one}

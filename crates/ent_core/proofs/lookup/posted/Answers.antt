@@ -1,6 +1,6 @@
 use Rattle.std.proofs.Common.{◌≡◌, ◌∙◌, List, ap, refl, subst, sym}
 use Rattle.std.specs.Prelude.{MatchOption}
-use Rattle.ent_coordination.specs.Pool.{Posted}
+use Rattle.ent_semantics.specs.Pool.{Posted}
 use Rattle.ent_protocol.specs.Member.{pool}
 use Rattle.ent_match.specs.Place.{HasNoneOf}
 use Rattle.ent_core.specs.Obstacle.{IsOf}

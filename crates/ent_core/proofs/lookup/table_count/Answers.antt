@@ -3,7 +3,7 @@ use Rattle.std.proofs.lemmas.List.{length-map}
 use Rattle.ent_value.specs.declared.value.Kind.{Kind}
 use Rattle.ent_protocol.specs.Reached.{settled}
 use Rattle.ent_protocol.specs.State.{State}
-use Rattle.ent_serializability.proofs.Undo.{put_length}
+use Rattle.ent_protocol_laws.proofs.Undo.{put_length}
 use Rattle.ent_core.proofs.lookup.table_count.Goals as goal
 
 pub returns-clause-declared : goal.returns-clause-declared

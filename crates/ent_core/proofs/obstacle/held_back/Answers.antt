@@ -2,7 +2,7 @@ use Rattle.std.proofs.Common.{◌≡◌, ◌∙◌, List, [], ◌∷◌, ◌++�
 use Rattle.std.specs.Arc.{arc_value}
 use Rattle.std.specs.Prelude.{MatchOption}
 use Rattle.std.proofs.lemmas.Result.{IfOk-weaker}
-use Rattle.ent_coordination.specs.Pool.{IsFirstUnsafe, IsSafe, Posted}
+use Rattle.ent_semantics.specs.Pool.{IsFirstUnsafe, IsSafe, Posted}
 use Rattle.ent_headline.specs.Resolved.{resolved_forms}
 use Rattle.ent_match.specs.Posting.{HasNone}
 use Rattle.ent_members.specs.Next.{next_seen}

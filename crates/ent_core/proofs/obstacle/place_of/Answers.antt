@@ -1,5 +1,5 @@
 use Rattle.std.proofs.Common.{◌≡◌, ◌∙◌, List, ap, refl, subst, sym}
-use Rattle.ent_coordination.specs.Pool.{Posted}
+use Rattle.ent_semantics.specs.Pool.{Posted}
 use Rattle.ent_match.specs.Demand.{IsDemand}
 use Rattle.ent_protocol.specs.Member.{is_prepared, pool}
 use Rattle.ent_protocol.specs.State.{State}

@@ -1,7 +1,8 @@
 use Rattle.std.proofs.Common.{◌≡◌, ◌<◌, ◌∷◌, [], ◌++◌, ◌∙◌, length, ap, sym, arith, Some, None}
 use Rattle.std.proofs.lemmas.List.{append_assoc, length-append}
 use Rattle.ent_tree.specs.declared.limits.TheConstants.{MOST_SCRIPTS}
-use Rattle.ent_core.specs.Play.{fault_in, scripts_fault}
+use Rattle.ent_form.specs.InputFault.{scripts_fault}
+use Rattle.ent_core.specs.Play.{fault_in}
 use Rattle.ent_core.specs.Reply.{reply_seen}
 use Rattle.ent_core.proofs.Playing.{first_fault, one_clean, one_submitted}
 use Rattle.ent_core.proofs.play.submit_all.Goals as goal

@@ -1,7 +1,8 @@
 use Rattle.std.proofs.Common.{◌≡◌, ◌++◌, None}
 use Rattle.ent_protocol.specs.Reached.{book_of}
 use Rattle.ent_semantics.specs.Book.{IsLegal}
-use Rattle.ent_core.specs.Play.{AreSubmitted, scripts_fault}
+use Rattle.ent_form.specs.InputFault.{scripts_fault}
+use Rattle.ent_core.specs.Play.{AreSubmitted}
 use Rattle.ent_core.proofs.play.submit_all.Given as goal
 
 -- those so far were submitted, and no fault was found

@@ -2,7 +2,7 @@ use Rattle.std.proofs.Common.{refl}
 use Rattle.ent_core.specs.Reply.{reply_seen}
 use Rattle.ent_sched.specs.Passed.{resolved_forms}
 use Rattle.ent_protocol.specs.Event.{Lent, Pick}
-use Rattle.ent_termination.specs.Lending.{IsLentAlone}
+use Rattle.ent_protocol_laws.specs.Lending.{IsLentAlone}
 use Rattle.ent_driver.proofs.moves.answer.Goals as goal
 
 pub join_answer_at_once-requires-clause-alone : goal.join_answer_at_once-requires-clause-alone

@@ -1,5 +1,5 @@
 use Rattle.std.proofs.Common.{◌≡◌, ◌<◌, length, subst}
-use Rattle.ent_coordination.specs.Pool.{Posted}
+use Rattle.ent_semantics.specs.Pool.{Posted}
 use Rattle.ent_sched.specs.Passed.{resolved_forms}
 use Rattle.ent_match.specs.Demand.{IsDemand}
 use Rattle.ent_match.specs.declared.demand.Demand.{Demand}

@@ -1,6 +1,6 @@
 use Rattle.std.proofs.Common.{sym}
 use Rattle.ent_book.specs.Tables.{book_seen}
-use Rattle.ent_engine.specs.Reading.{IsInput}
+use Rattle.ent_input.specs.Reading.{IsInput}
 use Rattle.ent_engine.proofs.Ran.{book_of_input}
 use Rattle.ent_engine.proofs.memory.report_of.Goals as goal
 

@@ -1,4 +1,4 @@
-use Rattle.ent_serializability.proofs.Frame.{Laws}
+use Rattle.ent_protocol_laws.proofs.Frame.{Laws}
 use Rattle.ent_epoch.proofs.Standing.{tables_declared}
 use Rattle.ent_epoch.proofs.notes_law.settled_tables_are_declared.Goals as goal
 

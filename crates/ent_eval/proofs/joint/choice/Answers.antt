@@ -1,8 +1,8 @@
 use Rattle.std.proofs.Common.{◌≡◌, List, sym, subst}
 use Rattle.std.specs.Prelude.{MatchOption, Option}
 use Rattle.std.proofs.lemmas.Result.{IfOk-weaker}
-use Rattle.ent_coordination.specs.Choice.{IsLeastChoiceIfAny}
-use Rattle.ent_coordination.specs.Pool.{Posted}
+use Rattle.ent_semantics.specs.Choice.{IsLeastChoiceIfAny}
+use Rattle.ent_semantics.specs.Pool.{Posted}
 use Rattle.ent_join.specs.Laid.{AreLaid}
 use Rattle.ent_join.specs.Plans.{HaveNoPlan, Plan}
 use Rattle.ent_protocol.specs.Job.{tables_of}

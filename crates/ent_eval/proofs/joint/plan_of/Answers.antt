@@ -1,7 +1,7 @@
 use Rattle.std.proofs.Common.{◌≡◌, List, sym, subst}
 use Rattle.std.specs.Prelude.{MatchOption}
 use Rattle.std.proofs.lemmas.Result.{IfOk-weaker}
-use Rattle.ent_coordination.specs.Pool.{IsPool, IsSafe, Posted}
+use Rattle.ent_semantics.specs.Pool.{IsPool, IsSafe, Posted}
 use Rattle.ent_join.specs.Plans.{HaveNoPlan}
 use Rattle.ent_eval.proofs.Chosen.{by_number}
 use Rattle.ent_eval.proofs.joint.plan_of.Goals as goal

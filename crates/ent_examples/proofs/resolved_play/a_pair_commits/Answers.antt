@@ -1,5 +1,5 @@
-use Rattle.ent_protocol.specs.Partners.{partners_opening, partners_pass}
 use Rattle.ent_headline.specs.Resolved.{resolved_forms}
+use Rattle.ent_examples.specs.Partners.{partners_opening, partners_pass}
 use Rattle.ent_examples.specs.WrittenScripts.{partners}
 use Rattle.ent_examples.proofs.Led.{led}
 use Rattle.ent_examples.proofs.resolved_play.a_pair_commits.Goals as goal

@@ -1,9 +1,9 @@
 use Rattle.std.specs.Prelude.{◌++◌}
 use Rattle.ent_tree.specs.declared.script.End.TheVariants.{Commit}
-use Rattle.ent_protocol.specs.Partners.{partners_opening}
+use Rattle.ent_headline.specs.Resolved.{resolved_forms}
+use Rattle.ent_examples.specs.Partners.{partners_opening}
 use Rattle.ent_examples.specs.Grown.{A_for_B, C_for_A}
 use Rattle.ent_examples.specs.Ring.{B_for_C, ring_closes, ring_commits}
-use Rattle.ent_headline.specs.Resolved.{resolved_forms}
 use Rattle.ent_examples.specs.WrittenScripts.{posted}
 use Rattle.ent_examples.proofs.Led.{led}
 use Rattle.ent_examples.proofs.resolved_play.a_ring_of_three_commits.Goals as goal

@@ -1,9 +1,9 @@
 use Rattle.std.specs.Prelude.{◌++◌, codes}
 use Rattle.ent_tree.specs.declared.script.End.TheVariants.{Commit, Rollback}
-use Rattle.ent_protocol.specs.Partners.{partners_opening}
+use Rattle.ent_headline.specs.Resolved.{resolved_forms}
+use Rattle.ent_examples.specs.Partners.{partners_opening}
 use Rattle.ent_examples.specs.Earlier.{job_outlives, next_attempt}
 use Rattle.ent_examples.specs.Grown.{A_for_B, B_for_A}
-use Rattle.ent_headline.specs.Resolved.{resolved_forms}
 use Rattle.ent_examples.specs.WrittenScripts.{posted, booking}
 use Rattle.ent_examples.proofs.Led.{led}
 use Rattle.ent_examples.proofs.resolved_play.a_rollback_leaves_nobody_committed.Goals as goal

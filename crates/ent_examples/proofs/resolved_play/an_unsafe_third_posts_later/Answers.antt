@@ -1,8 +1,8 @@
 use Rattle.std.specs.Prelude.{◌++◌}
 use Rattle.ent_tree.specs.declared.script.End.TheVariants.{Commit}
-use Rattle.ent_protocol.specs.Partners.{partners_opening}
-use Rattle.ent_examples.specs.HeldBack.{holds_back, mickey, minnie, posts_later}
 use Rattle.ent_headline.specs.Resolved.{resolved_forms}
+use Rattle.ent_examples.specs.Partners.{partners_opening}
+use Rattle.ent_examples.specs.HeldBack.{holds_back, mickey, minnie, posts_later}
 use Rattle.ent_examples.specs.WrittenScripts.{posted}
 use Rattle.ent_examples.proofs.Led.{led}
 use Rattle.ent_examples.proofs.resolved_play.an_unsafe_third_posts_later.Goals as goal

@@ -1,4 +1,4 @@
-use Rattle.ent_form_laws.proofs.Opened.{declared_once}
+use Rattle.ent_form.proofs.Opened.{declared_once}
 use Rattle.ent_headline.proofs.Places.{Opens, kinded_state}
 use Rattle.ent_headline.proofs.Replayed.{Laws}
 use Rattle.ent_headline.proofs.kinds.resolved_runs_keep_kinds.Goals as goal

@@ -1,5 +1,5 @@
 use Rattle.std.proofs.Common.{subst, sym}
-use Rattle.ent_coordination.specs.Pool.{Posted}
+use Rattle.ent_semantics.specs.Pool.{Posted}
 use Rattle.ent_form.specs.Catalogue.{schemas_of}
 use Rattle.ent_plan.specs.Ranged.{IsRanged}
 use Rattle.ent_protocol.specs.Member.{pool}

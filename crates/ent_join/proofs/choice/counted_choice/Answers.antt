@@ -1,6 +1,6 @@
 use Rattle.std.proofs.Common.{◌≡◌, ◌<◌, ◌∙◌, true, false, length, map, ap, subst, sym}
 use Rattle.std.specs.Prelude.{is_some}
-use Rattle.ent_coordination.specs.Choice.{IsLeastChoice}
+use Rattle.ent_semantics.specs.Choice.{IsLeastChoice}
 use Rattle.ent_plan.specs.Plan.{slot_value, spread}
 use Rattle.ent_join.specs.Frame.{candidates_of, lets_through}
 use Rattle.ent_join.specs.Search.{AreTicks, IsGuide}

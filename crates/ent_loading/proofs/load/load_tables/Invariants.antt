@@ -3,7 +3,7 @@ use Rattle.std.specs.Arc.{arc_value}
 use Rattle.ent_lists.specs.Sets as set
 use Rattle.ent_value.specs.Value.{row_cmp}
 use Rattle.ent_semantics.specs.Database.{rows_named}
-use Rattle.ent_form_laws.specs.Kinds.{column_kinds}
+use Rattle.ent_form.specs.TableKinds.{column_kinds}
 use Rattle.ent_loading.proofs.load.load_tables.Given as goal
 
 -- the tables so far

@@ -3,7 +3,6 @@ use Rattle.std.proofs.Common.{sym}
 use Rattle.std.specs.List.{list_any}
 use Rattle.std.proofs.lemmas.List.Folds.{list_any_at}
 use Rattle.std.proofs.lemmas.Option.{get_or_from_slice_get, slice_get_within}
-use Rattle.ent_lock.specs.Holders.{is_asker}
 use Rattle.ent_lock.specs.Mode.{in_conflict}
 use Rattle.ent_lock.proofs.holders.is_conflicting_from.Goals as goal
 
@@ -22,6 +21,6 @@ returns-then-eq-clause-value c =
     let holder = c.args.holder.now in
     let pass = c.args.pass.now in
     let same : c.get.result ≡ Some holder.holder = grind (arith, c.eq.ensures, c.if-eq.true) in
-    passes (not (is_asker c.args.asker holder.holder)) (in_conflict holder.mode c.args.mode)
+    passes (not (holder.holder == c.args.asker)) (in_conflict holder.mode c.args.mode)
     (list_any (λ m. m == holder.holder) pass)
     (passed_at pass c.args.next.now holder.holder (sym c.get.ensures ∙ same))

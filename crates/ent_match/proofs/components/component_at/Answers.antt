@@ -1,5 +1,5 @@
 use Rattle.std.proofs.Common.{◌+◌, ◌++◌, List, map, sym, ap, ◌∙◌}
-use Rattle.ent_coordination.specs.Pool.{Posted}
+use Rattle.ent_semantics.specs.Pool.{Posted}
 use Rattle.ent_match.specs.Components.{begins_at}
 use Rattle.ent_match.proofs.Beginning.{marked_is}
 use Rattle.ent_match.proofs.Rests.{marks_at, put_next, put_none, rest_of, rest_whole}

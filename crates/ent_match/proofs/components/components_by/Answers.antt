@@ -1,5 +1,5 @@
 use Rattle.std.proofs.Common.{◌≡◌, ◌+◌, List, ◌++◌, [], ◌∷◌, arith, sym, ap, subst, ◌∙◌, Vec, Global}
-use Rattle.ent_coordination.specs.Pool.{Posted}
+use Rattle.ent_semantics.specs.Pool.{Posted}
 use Rattle.ent_match.proofs.Beginning.{AreListed, all_listed, listed_more, listed_same, none_listed}
 use Rattle.ent_match.specs.Components.{component_at}
 use Rattle.ent_match.proofs.components.components_by.Goals as goal

@@ -1,5 +1,5 @@
 use Rattle.std.proofs.Common.{ℕ, ◌<◌, get_or}
-use Rattle.ent_coordination.specs.Pool.{CanMeet, Posted}
+use Rattle.ent_semantics.specs.Pool.{CanMeet, Posted}
 use Rattle.ent_match.proofs.demand.offerer.Given as goal
 
 -- none of the statements so far has a head for the post

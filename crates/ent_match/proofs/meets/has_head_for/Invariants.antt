@@ -1,7 +1,7 @@
 use Rattle.std.proofs.Common.{ℕ, ◌<◌, get_or}
 use Rattle.ent_value.specs.declared.value.Value.{Value}
 use Rattle.ent_semantics.specs.declared.entangled.Atom.{Atom}
-use Rattle.ent_coordination.specs.Pool.{Unify}
+use Rattle.ent_semantics.specs.Pool.{Unify}
 use Rattle.ent_match.proofs.meets.has_head_for.Given as goal
 
 -- none of the heads so far unifies with the post

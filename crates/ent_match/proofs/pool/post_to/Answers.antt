@@ -1,6 +1,6 @@
 use Rattle.std.proofs.Common.{◌≡◌, get_or, sym, ap, subst, ◌∙◌}
 use Rattle.std.specs.List.{insert, remove}
-use Rattle.ent_coordination.specs.Pool.{IsSafe, Posted}
+use Rattle.ent_semantics.specs.Pool.{IsSafe, Posted}
 use Rattle.ent_match.specs.Fault.{IsByNumber, IsSafeBut}
 use Rattle.ent_match.specs.Offers.{AreOffers, AreOffersBut}
 use Rattle.ent_match.specs.Posting.{IsPlaceFor, IsPostedTo, IsWhyIn}

@@ -1,6 +1,6 @@
 use Rattle.std.proofs.Common.{◌≡◌, ◌∙◌, ℕ, List, sym, subst, ap}
 use Rattle.std.specs.Prelude.{IfOk, MatchOption}
-use Rattle.ent_coordination.specs.Pool.{IsPool, IsSafe, Posted}
+use Rattle.ent_semantics.specs.Pool.{IsPool, IsSafe, Posted}
 use Rattle.ent_plan.specs.Plan.{HaveDistinctHeads, HaveNoPlan, named}
 use Rattle.ent_plan.proofs.Selection.{named_once, named_safe, named_distinct}
 use Rattle.ent_plan.proofs.join_plan.combine.Goals as goal

@@ -1,5 +1,5 @@
 use Rattle.std.proofs.Common.{List, ℕ, sym, subst, vec_items}
-use Rattle.ent_prepare.specs.Reading.{IsScript}
+use Rattle.ent_input.specs.Reading.{IsScript}
 use Rattle.ent_prepare.proofs.Kept.{are_read_after, has_bytes, same_bytes}
 use Rattle.ent_prepare.proofs.cache.keep.Goals as goal
 

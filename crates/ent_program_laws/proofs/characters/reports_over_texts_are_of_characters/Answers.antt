@@ -3,8 +3,8 @@ use Rattle.std.specs.Str.{IsUtf8}
 use Rattle.ent_tree.specs.declared.script.Input.{Input}
 use Rattle.ent_book.specs.Report2.{report_2_text}
 use Rattle.ent_history.specs.Told.{told_by}
-use Rattle.ent_answer_laws.specs.Unplaced.{unplaced_book}
-use Rattle.ent_program_laws.proofs.Told.{Laws, holds_characters}
+use Rattle.ent_program_laws.specs.Unplaced.{unplaced_book}
+use Rattle.ent_program_laws.proofs.FinishedTold.{Laws, holds_characters}
 use Rattle.ent_program_laws.proofs.characters.reports_over_texts_are_of_characters.Goals as goal
 
 pub returns : goal.returns

@@ -1,7 +1,7 @@
 use Rattle.ent_semantics.specs.declared.book.Fated.{Fated}
 use Rattle.ent_lists.specs.Elements.{contains_in, of_all}
-use Rattle.ent_verdict.specs.Reportable.{CountsRuns}
-use Rattle.ent_program_laws.proofs.Runs.{Laws, fates_count}
+use Rattle.ent_program_laws.specs.Reportable.{CountsRuns}
+use Rattle.ent_program_laws.proofs.FinishedRuns.{Laws, fates_count}
 use Rattle.ent_program_laws.proofs.finished_law.fates_count_runs.Goals as goal
 
 pub returns : goal.returns

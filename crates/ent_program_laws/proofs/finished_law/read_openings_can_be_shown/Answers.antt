@@ -1,4 +1,4 @@
-use Rattle.ent_program_laws.proofs.Opened.{opening_read}
+use Rattle.ent_program_laws.proofs.FinishedOpened.{opening_read}
 use Rattle.ent_program_laws.proofs.finished_law.read_openings_can_be_shown.Goals as goal
 
 pub returns : goal.returns

@@ -1,6 +1,6 @@
 use Rattle.ent_form.specs.OpeningFault.{opening_fault}
-use Rattle.ent_core.specs.Play.{scripts_fault}
-use Rattle.ent_form_laws.proofs.Steps.{nothing_first}
+use Rattle.ent_form.specs.InputFault.{scripts_fault}
+use Rattle.ent_form.proofs.ResolvedSteps.{nothing_first}
 use Rattle.ent_program_laws.proofs.report_law.reports_of_the_program_are_right.Goals as goal
 
 pub returns : goal.returns

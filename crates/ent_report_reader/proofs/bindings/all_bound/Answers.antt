@@ -1,5 +1,5 @@
 use Rattle.std.proofs.Common.{◌∙◌, sym, arith}
-use Rattle.ent_report_lines.proofs.Listing.{left_first, left_end, left_fault, left_one}
+use Rattle.ent_history.proofs.Listing.{left_first, left_end, left_fault, left_one}
 use Rattle.ent_report_reader.specs.Bindings.{all_bound_at, bound_at}
 use Rattle.ent_report_reader.proofs.BindingLines.{bound_shorter}
 use Rattle.ent_report_reader.proofs.bindings.all_bound.Goals as goal

@@ -1,5 +1,5 @@
 use Rattle.std.proofs.Common.{length}
-use Rattle.ent_report_lines.proofs.Listing.{Left}
+use Rattle.ent_history.proofs.Listing.{Left}
 use Rattle.ent_report_reader.specs.Bindings.{all_bound_at, bound_at}
 use Rattle.ent_report_reader.proofs.bindings.all_bound.Given as goal
 

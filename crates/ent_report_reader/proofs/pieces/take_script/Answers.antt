@@ -1,7 +1,7 @@
 use Rattle.std.proofs.Common.{◌++◌, arith, ap, refl, subst, sym}
 use Rattle.ent_book.specs.Report2.{line_count}
 use Rattle.ent_history.specs.Scripts.{ScriptStands}
-use Rattle.ent_report_lines.specs.Begins.{script_line}
+use Rattle.ent_history.specs.Begins.{script_line}
 use Rattle.ent_report_reader.specs.Scripts.{IsScriptLine}
 use Rattle.ent_report_reader.proofs.ScriptSteps.{another_script, next_script, no_line, not_judged, not_read, too_few}
 use Rattle.ent_report_reader.proofs.pieces.take_script.Goals as goal

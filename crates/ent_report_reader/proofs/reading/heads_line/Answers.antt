@@ -1,5 +1,5 @@
 use Rattle.std.proofs.Common.{◌∙◌, ap}
-use Rattle.ent_report_lines.specs.Heads.{heads_at}
+use Rattle.ent_history.specs.Heads.{heads_at}
 use Rattle.ent_report_reader.specs.Reading.{IsHeadsLine}
 use Rattle.ent_report_reader.proofs.LinesRead.{reads}
 use Rattle.ent_report_reader.proofs.reading.heads_line.Goals as goal

@@ -1,5 +1,5 @@
 use Rattle.std.proofs.Common.{◌∙◌, ap}
-use Rattle.ent_report_lines.specs.Joints.{joint_at}
+use Rattle.ent_history.specs.JointLines.{joint_at}
 use Rattle.ent_report_reader.specs.Reading.{IsJointLine}
 use Rattle.ent_report_reader.proofs.LinesRead.{reads}
 use Rattle.ent_report_reader.proofs.reading.joint_line.Goals as goal

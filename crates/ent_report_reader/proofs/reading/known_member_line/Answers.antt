@@ -1,5 +1,5 @@
 use Rattle.std.proofs.Common.{◌∙◌, ap}
-use Rattle.ent_report_lines.specs.Bindings.{member_at}
+use Rattle.ent_history.specs.Bindings.{member_at}
 use Rattle.ent_report_reader.specs.Bindings.{IsKnownMember}
 use Rattle.ent_report_reader.proofs.LinesRead.{reads}
 use Rattle.ent_report_reader.proofs.reading.known_member_line.Goals as goal

@@ -1,5 +1,5 @@
 use Rattle.std.proofs.Common.{◌∙◌, ap}
-use Rattle.ent_report_lines.specs.Openings.{opening_at}
+use Rattle.ent_history.specs.Openings.{opening_at}
 use Rattle.ent_report_reader.specs.Reading.{IsOpeningLine}
 use Rattle.ent_report_reader.proofs.LinesRead.{reads}
 use Rattle.ent_report_reader.proofs.reading.opening_line.Goals as goal

@@ -1,7 +1,7 @@
 use Rattle.std.proofs.Common.{◌≡◌, ◌<◌, ap, false, subst, sym, rules}
 use Rattle.ent_book.specs.Tables.{book_seen}
 use Rattle.ent_core.specs.Reply.{reply_seen}
-use Rattle.ent_termination.specs.Tries.{tries_left}
+use Rattle.ent_protocol_laws.specs.Tries.{tries_left}
 use Rattle.ent_protocol.specs.Event.{Recall}
 use Rattle.ent_protocol.specs.Reached.{CanClose, IsFinished}
 use Rattle.ent_protocol.specs.State.{State}

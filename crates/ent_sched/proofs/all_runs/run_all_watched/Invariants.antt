@@ -1,5 +1,5 @@
 use Rattle.std.proofs.Common.{◌≡◌, []}
-use Rattle.ent_termination.specs.Tries.{tries_left}
+use Rattle.ent_protocol_laws.specs.Tries.{tries_left}
 use Rattle.ent_core.specs.Passed.{resolved_forms}
 use Rattle.ent_sched.specs.Watching.{IsWatched}
 use Rattle.ent_sched.proofs.Running.{HasRun}

@@ -1,5 +1,5 @@
 use Rattle.std.proofs.Common.{◌≡◌, false, true, subst, ap, refl, ◌∙◌, arith}
-use Rattle.ent_termination.specs.Progress.{brings_work}
+use Rattle.ent_protocol_laws.specs.Progress.{brings_work}
 use Rattle.ent_core.specs.Reply.{reply_seen}
 use Rattle.ent_protocol.specs.Event.{Pick}
 use Rattle.ent_protocol.specs.State.{State}

@@ -1,5 +1,5 @@
 use Rattle.std.proofs.Common.{◌≤◌, ◌+◌, ◌*◌, inl, inr, length, subst, ◌∙◌, arith}
-use Rattle.ent_termination.specs.Idle.{IsAnswered}
+use Rattle.ent_protocol_laws.specs.Idle.{IsAnswered}
 use Rattle.ent_protocol.specs.Event.{BreakCycle, NoCycle, Nothing, Pick}
 use Rattle.ent_protocol.specs.Lookup.{running_members}
 use Rattle.ent_protocol.specs.State.{State}

@@ -1,5 +1,5 @@
 use Rattle.std.proofs.Common.{◌≡◌, ◌<◌, ◌+◌, arith, false}
-use Rattle.ent_termination.specs.Tries.{tries_left}
+use Rattle.ent_protocol_laws.specs.Tries.{tries_left}
 use Rattle.ent_core.specs.Passed.{resolved_forms}
 use Rattle.ent_sched.specs.Bounds.{events_of_rounds, run_start}
 use Rattle.ent_sched.proofs.Counting.{AddUp, rounds_made, run_made}

@@ -1,5 +1,5 @@
 use Rattle.std.proofs.Common.{◌-◌, ◌∙◌, length, refl, rules, subst, sym}
-use Rattle.ent_termination.specs.Idle.{IsIdleRound}
+use Rattle.ent_protocol_laws.specs.Idle.{IsIdleRound}
 use Rattle.ent_protocol.specs.State.{members}
 use Rattle.ent_core.specs.Passed.{resolved_forms}
 use Rattle.ent_sched.specs.Bounds.{most_progress}

@@ -1,5 +1,5 @@
 use Rattle.std.proofs.Common.{◌≡◌, ◌≤◌, ◌-◌, ◌*◌, [], length}
-use Rattle.ent_termination.specs.Within.{IsWithin}
+use Rattle.ent_protocol_laws.specs.Within.{IsWithin}
 use Rattle.ent_protocol.specs.State.{members}
 use Rattle.ent_core.specs.Passed.{resolved_forms}
 use Rattle.ent_sched.specs.Onward.{TicksOn, events_of_round}

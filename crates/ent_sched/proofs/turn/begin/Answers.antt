@@ -1,5 +1,5 @@
 use Rattle.std.proofs.Common.{◌≡◌, sym, ap, refl, ◌∙◌, arith}
-use Rattle.ent_termination.specs.Progress.{brings_work, is_progress}
+use Rattle.ent_protocol_laws.specs.Progress.{brings_work, is_progress}
 use Rattle.ent_core.specs.Reply.{reply_seen}
 use Rattle.ent_protocol.specs.Event.{Begin}
 use Rattle.ent_core.specs.Passed.{resolved_forms}

@@ -1,6 +1,6 @@
 use Rattle.std.proofs.Common.{refl}
 use Rattle.ent_core.specs.Reply.{reply_seen}
-use Rattle.ent_termination.specs.Lending.{IsLentAlone}
+use Rattle.ent_protocol_laws.specs.Lending.{IsLentAlone}
 use Rattle.ent_protocol.specs.Event.{Begin, Finish, Lent}
 use Rattle.ent_core.specs.Passed.{resolved_forms}
 use Rattle.ent_sched.proofs.Moving.{single_progress}

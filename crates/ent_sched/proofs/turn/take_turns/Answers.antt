@@ -1,6 +1,6 @@
 use Rattle.std.proofs.Common.{◌≡◌, ◌≤◌, ◌+◌, ◌*◌, false, true, inl, inr, length, get_or, sym, subst, ap, ◌∙◌, arith}
 use Rattle.std.proofs.Common.{refl, rules}
-use Rattle.ent_termination.specs.Idle.{IsHeldUp}
+use Rattle.ent_protocol_laws.specs.Idle.{IsHeldUp}
 use Rattle.ent_protocol.specs.Lookup.{running_members}
 use Rattle.ent_protocol.specs.State.{State}
 use Rattle.ent_core.specs.Passed.{resolved_forms}

@@ -1,6 +1,6 @@
 use Rattle.std.proofs.Common.{◌≡◌, ◌*◌, [], false, true, take}
 use Rattle.std.specs.List.{AllByRecursion}
-use Rattle.ent_termination.specs.Idle.{IsHeldUp}
+use Rattle.ent_protocol_laws.specs.Idle.{IsHeldUp}
 use Rattle.ent_core.specs.Passed.{resolved_forms}
 use Rattle.ent_sched.specs.Onward.{TicksOn}
 use Rattle.ent_sched.specs.Progress.{UsesUp}

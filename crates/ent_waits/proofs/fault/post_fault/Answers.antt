@@ -1,6 +1,6 @@
 use Rattle.std.proofs.Common.{List, [], ◌∷◌, ◌++◌, ap, subst, ◌∙◌}
 use Rattle.std.specs.Prelude.{Contains}
-use Rattle.ent_coordination.specs.Pool.{IsFirstUnsafe, IsSafe, Posted}
+use Rattle.ent_semantics.specs.Pool.{IsFirstUnsafe, IsSafe, Posted}
 use Rattle.ent_match.specs.Posting.{IsWhyWith}
 use Rattle.ent_waits.proofs.ComponentPooled.{added, put_before}
 use Rattle.ent_waits.proofs.fault.post_fault.Goals as goal

@@ -3,7 +3,7 @@ use Rattle.ent_lock.specs.Use.{IsLeastIfAny}
 use Rattle.ent_run.proofs.LeastOf.{least_same}
 use Rattle.ent_job.specs.Work.{work_seen}
 use Rattle.ent_job.specs.declared.work.Work.{Work}
-use Rattle.ent_coordination.specs.Pool.{Posted}
+use Rattle.ent_semantics.specs.Pool.{Posted}
 use Rattle.ent_protocol.specs.PoolEvents.{IsPresentComponent}
 use Rattle.ent_waits.specs.Jobs.{HasPostedQuery, IsWorkOf}
 use Rattle.ent_waits.proofs.jobs.least_at.Goals as goal

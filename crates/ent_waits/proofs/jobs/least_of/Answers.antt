@@ -1,5 +1,5 @@
 use Rattle.std.proofs.Common.{◌≡◌, ◌+◌, ℕ, Option, Some, take, sym, subst, arith}
-use Rattle.ent_coordination.specs.Pool.{Posted}
+use Rattle.ent_semantics.specs.Pool.{Posted}
 use Rattle.ent_lock.specs.Use.{IsLeastIfAny}
 use Rattle.ent_waits.specs.Jobs.{HasPostedQuery}
 use Rattle.ent_waits.proofs.Smallest.{least_more, least_nil, least_whole}

@@ -1,6 +1,6 @@
 use Rattle.std.proofs.Common.{◌+◌, ◌<◌, ◌≤◌, ℕ, List, Option, length, take, refl, sym, subst, arith}
 use Rattle.std.specs.Prelude.{Contains}
-use Rattle.ent_coordination.specs.Pool.{Posted}
+use Rattle.ent_semantics.specs.Pool.{Posted}
 use Rattle.ent_lock.specs.Use.{IsLeastIfAny}
 use Rattle.ent_run.proofs.LeastOf.{least_same}
 use Rattle.ent_protocol.specs.Quiet.{CanMove}

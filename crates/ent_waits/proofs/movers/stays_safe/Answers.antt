@@ -1,7 +1,7 @@
 use Rattle.std.proofs.Common.{◌≡◌, ◌↔◌, List, sym, ap, subst, ◌∙◌}
 use Rattle.std.specs.Prelude.{IsTrue}
 use Rattle.std.specs.Arc.{arc_value}
-use Rattle.ent_coordination.specs.Pool.{IsSafe, Posted}
+use Rattle.ent_semantics.specs.Pool.{IsSafe, Posted}
 use Rattle.ent_members.specs.Next.{next_seen}
 use Rattle.ent_protocol.specs.Member.{Asks, next_in, posted_as}
 use Rattle.ent_protocol.specs.State.{Submitted}

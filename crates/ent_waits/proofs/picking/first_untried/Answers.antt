@@ -1,6 +1,6 @@
 use Rattle.std.proofs.Common.{◌≡◌, ◌∙◌, ℕ, [], List, Option, length, get_or, arith, sym, ap, subst}
 use Rattle.ent_lock.specs.Use.{IsLeast}
-use Rattle.ent_coordination.specs.Pool.{Posted, first_tx}
+use Rattle.ent_semantics.specs.Pool.{Posted, first_tx}
 use Rattle.ent_match.specs.Components.{AreFirstPlaces, component_at}
 use Rattle.ent_match.proofs.Beginning.{some_within}
 use Rattle.ent_protocol.specs.Quiet.{IsUntried}

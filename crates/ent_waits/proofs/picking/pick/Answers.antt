@@ -1,5 +1,5 @@
 use Rattle.std.proofs.Common.{◌≡◌, ◌∙◌, ℕ, List, Option, Some, sym, ap, subst}
-use Rattle.ent_coordination.specs.Pool.{Posted}
+use Rattle.ent_semantics.specs.Pool.{Posted}
 use Rattle.ent_match.specs.Components.{AreFirstPlaces, component_at}
 use Rattle.ent_waits.specs.Component.{IsPick}
 use Rattle.ent_waits.specs.Open.{IsFirstOpen, NoneIsOpen}

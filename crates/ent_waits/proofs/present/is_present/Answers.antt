@@ -1,6 +1,6 @@
 use Rattle.std.proofs.Common.{◌≡◌, ℕ, List, Option, false, length, arith, sym, ap, subst, true≢false}
 use Rattle.std.specs.Prelude.{IsTrue}
-use Rattle.ent_coordination.specs.Pool.{Posted}
+use Rattle.ent_semantics.specs.Pool.{Posted}
 use Rattle.ent_match.specs.Components.{AreFirstPlaces, FirstIs, component_at}
 use Rattle.ent_match.specs.Place.{HasNoneOf, IsPlaceOf}
 use Rattle.ent_waits.proofs.Around.{in_state, is_whole, not_posted, of_none}

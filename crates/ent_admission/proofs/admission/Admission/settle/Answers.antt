@@ -65,7 +65,7 @@ returns-in_ok-end-in-Some-ending_of-clause-ok c =
       feed = c.in_ok-end-in-Some-ending_of.ensures.feed;
       news = subst
           (λ (o : Option Ending). c.end.new.self.news
-          ≡ c.args.self.now.news ++ news_of c.args.ticket (ended_with o c.args.self.now.again there.waiter))
+          ≡ c.args.self.now.news ++ news_of c.args.ticket (ended_with o c.args.self.now.again c.args.ticket there.waiter))
           (sym (told ∙ c.in-Some-ending_of.is)) c.in_ok-end-in-Some-ending_of.ensures.news;
     }
 
@@ -105,7 +105,7 @@ returns-in_ok-wait_again-in-None-clause-ok c =
       feed = c.in_ok-wait_again-in-None.ensures.feed;
       news = subst
           (λ (o : Option Ending). c.wait_again.new.self.news
-          ≡ c.args.self.now.news ++ news_of c.args.ticket (ended_with o c.args.self.now.again there.waiter))
+          ≡ c.args.self.now.news ++ news_of c.args.ticket (ended_with o c.args.self.now.again c.args.ticket there.waiter))
           (sym (told ∙ c.in-None.is)) (c.in_ok-wait_again-in-None.ensures.news there.waiter there.waits);
     }
 

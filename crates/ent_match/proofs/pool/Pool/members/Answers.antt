@@ -1,5 +1,5 @@
 use Rattle.std.proofs.Common.{subst}
-use Rattle.ent_coordination.specs.Pool.{IsSafe}
+use Rattle.ent_semantics.specs.Pool.{IsSafe}
 use Rattle.ent_match.proofs.pool.Pool.members.Goals as goal
 
 pub returns-clause-safe : goal.returns-clause-safe

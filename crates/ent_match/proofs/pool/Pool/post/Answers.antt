@@ -1,6 +1,6 @@
 use Rattle.std.proofs.Common.{sym, subst, List}
 use Rattle.std.specs.Prelude.{Contains}
-use Rattle.ent_coordination.specs.Pool.{Posted, IsSafe}
+use Rattle.ent_semantics.specs.Pool.{Posted, IsSafe}
 use Rattle.ent_match.specs.Fault.{IsByNumber}
 use Rattle.ent_match.proofs.Placed.{either_way}
 use Rattle.ent_match.proofs.pool.Pool.post.Goals as goal

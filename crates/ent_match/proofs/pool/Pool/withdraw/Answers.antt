@@ -1,5 +1,5 @@
 use Rattle.std.proofs.Common.{filter, sym, subst, List}
-use Rattle.ent_coordination.specs.Pool.{Posted, IsSafe}
+use Rattle.ent_semantics.specs.Pool.{Posted, IsSafe}
 use Rattle.ent_match.specs.declared.offers.Offer.{Offer}
 use Rattle.ent_match.specs.Fault.{IsByNumber}
 use Rattle.ent_match.specs.Offers.{AreOffers}

@@ -1,5 +1,5 @@
 use Rattle.std.proofs.Common.{subst}
-use Rattle.ent_coordination.specs.Pool.{Posted}
+use Rattle.ent_semantics.specs.Pool.{Posted}
 use Rattle.ent_match.specs.Signature.{IsSignature}
 use Rattle.ent_match.proofs.Signatures.{share_none, unlike}
 use Rattle.ent_match.proofs.posted.Posted.may_meet.Goals as goal

@@ -1,5 +1,5 @@
 use Rattle.std.proofs.Common.{sym, subst}
-use Rattle.ent_coordination.specs.Pool.{IsSafe}
+use Rattle.ent_semantics.specs.Pool.{IsSafe}
 use Rattle.ent_plan.specs.Plan.{HaveNoPlan}
 use Rattle.ent_plan.proofs.join_plan.JoinPlan.of.Goals as goal
 

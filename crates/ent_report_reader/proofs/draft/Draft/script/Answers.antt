@@ -2,7 +2,7 @@ use Rattle.std.proofs.Common.{◌≡◌, ◌∙◌, ap, refl, subst, sym}
 use Rattle.ent_form.specs.Catalogue.{schemas_of}
 use Rattle.ent_history.specs.Draft.{Draft}
 use Rattle.ent_history.specs.Scripts.{IsScript, ScriptIsNext, ScriptStands}
-use Rattle.ent_report_lines.specs.Read.{IsRead}
+use Rattle.ent_history.specs.Read.{IsRead}
 use Rattle.ent_report_reader.specs.View.{due_of}
 use Rattle.ent_report_reader.proofs.ScriptLines.{no_script, script_piece, script_stands}
 use Rattle.ent_report_reader.proofs.draft.Draft.script.Goals as goal

@@ -3,16 +3,6 @@ use Rattle.ent_room.specs.Acts.{Advances}
 use Rattle.ent_room.specs.Room.{Room}
 use Rattle.ent_room.proofs.room.Room.make.Goals as goal
 
-pub returns-in_err-rest_all-clause-advances : goal.returns-in_err-rest_all-clause-advances
-returns-in_err-rest_all-clause-advances c =
-    c.acts_go_on.ensures.advances c.args.self.now c.plan.new.self c.rest_all.new.self c.plan.ensures.advances
-    (c.acts_go_on.ensures.shifting c.plan.new.self c.rest_all.new.self c.rest_all.ensures.shifts)
-
-pub returns-then-not-branch-clause-advances : goal.returns-then-not-branch-clause-advances
-returns-then-not-branch-clause-advances c =
-    c.acts_go_on.ensures.advances c.args.self.now c.plan.new.self c.rest_all.new.self c.plan.ensures.advances
-    (c.acts_go_on.ensures.shifting c.plan.new.self c.rest_all.new.self c.rest_all.ensures.shifts)
-
 pub returns-in_err-finish-clause-advances : goal.returns-in_err-finish-clause-advances
 returns-in_err-finish-clause-advances c =
     c.acts_go_on.ensures.advances c.args.self.now c.plan.new.self c.finish.new.self c.plan.ensures.advances

@@ -33,3 +33,9 @@ returns-in_default-2 c =
     let waits : Waits c.args.self.now.admission c.args.ticket false =
     record { waiter = c.args.waiter.now; waits = c.requires.waits; batch = c.requires.no_batch } in
     (waits, refl)
+
+pub returns-in_default-3 : goal.returns-in_default-3
+returns-in_default-3 c =
+    let waits : Waits c.args.self.now.admission c.args.ticket false =
+    record { waiter = c.args.waiter.now; waits = c.requires.waits; batch = c.requires.no_batch } in
+    record { waiting = waits; place = c.requires.rests }

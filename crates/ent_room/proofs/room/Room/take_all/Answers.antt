@@ -1,6 +1,7 @@
 use Rattle.std.proofs.Common.{◌≡◌, ◌∙◌, [], ◌∷◌, ◌++◌, None, sym, subst, ap}
 use Rattle.std.proofs.lemmas.List.{append_assoc}
-use Rattle.ent_admission.specs.Passed.{Epoch, scripts_fault}
+use Rattle.ent_form.specs.InputFault.{scripts_fault}
+use Rattle.ent_admission.specs.Passed.{Epoch}
 use Rattle.ent_admission.specs.Admission.{IsFormed}
 use Rattle.ent_waiting.specs.WaitingList.{WaitingList}
 use Rattle.ent_room.specs.Putting.{with_put}

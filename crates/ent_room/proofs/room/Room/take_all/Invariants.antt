@@ -1,5 +1,5 @@
 use Rattle.std.proofs.Common.{◌≡◌, ◌++◌, None}
-use Rattle.ent_admission.specs.Passed.{scripts_fault}
+use Rattle.ent_form.specs.InputFault.{scripts_fault}
 use Rattle.ent_room.specs.Reading.{all_put}
 use Rattle.ent_room.proofs.room.Room.take_all.Given as goal
 

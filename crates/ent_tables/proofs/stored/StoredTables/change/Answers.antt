@@ -4,7 +4,7 @@ use Rattle.std.specs.Prelude.{slice_index_or}
 use Rattle.std.proofs.lemmas.List.{map-set}
 use Rattle.ent_rel.specs.Relation.{Relation}
 use Rattle.ent_protocol.specs.Job.{applied}
-use Rattle.ent_select.specs.Tables.{no_table}
+use Rattle.ent_ordinary.specs.Tables.{no_table}
 use Rattle.ent_tables.proofs.Changing.{change_is_made, change_is_noted, change_is_undone}
 use Rattle.ent_tables.proofs.stored.StoredTables.change.Goals as goal
 

@@ -1,5 +1,5 @@
 use Rattle.std.proofs.Common.{◌∙◌, ap, map}
-use Rattle.ent_form_laws.specs.Kinds.{column_kinds}
+use Rattle.ent_form.specs.TableKinds.{column_kinds}
 use Rattle.ent_tables.proofs.Opening.{kinds_opened, tables_opened}
 use Rattle.ent_tables.proofs.stored.StoredTables.open.Goals as goal
 

@@ -1,7 +1,7 @@
 use Rattle.std.proofs.Common.{◌∙◌, ap, Some, List, map, slice_get}
 use Rattle.std.specs.Arc.{arc_value}
 use Rattle.ent_rel.specs.Relation.{Relation}
-use Rattle.ent_select.specs.Tables.{kinds_in, rows_in}
+use Rattle.ent_ordinary.specs.Tables.{kinds_in, rows_in}
 use Rattle.ent_tables.specs.Stored.{Stored}
 use Rattle.ent_tables.proofs.Places.{past_all, there_at}
 use Rattle.ent_tables.proofs.stored.StoredTables.table.Goals as goal

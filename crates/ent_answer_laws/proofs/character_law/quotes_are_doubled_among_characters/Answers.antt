@@ -1,5 +1,0 @@
-use Rattle.ent_answer_laws.proofs.Quoting.{quoted_exactly}
-use Rattle.ent_answer_laws.proofs.character_law.quotes_are_doubled_among_characters.Goals as goal
-
-pub returns : goal.returns
-returns c = quoted_exactly

@@ -1,9 +1,0 @@
-pub mod Faults
-pub mod Unplaced
-pub mod Held
-pub mod Answered
-pub mod Runs
-pub mod Laws
-pub mod Characters
-pub mod Values
-pub mod Kept

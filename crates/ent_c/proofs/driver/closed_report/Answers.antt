@@ -1,0 +1,40 @@
+use Rattle.std.proofs.Common.{[], ◌∙◌, Some, ap, of_z, refl, sym, to_z, w32}
+use Rattle.ent_driver.specs.Drives.{Reports, IsUnreported}
+use Rattle.ent_driver.specs.declared.driver.Driver.{Driver}
+use Rattle.ent_driver.specs.declared.fault.DriverFault.TheVariants.{Vacant}
+use Rattle.ent_c.specs.Drivers.{HandsOutOr, behind}
+use Rattle.ent_c.proofs.Behind.{behind_none, behind_some}
+use Rattle.ent_c.proofs.Texts.{declined, handed_out}
+use Rattle.ent_c.proofs.driver.closed_report.Goals as goal
+
+pub returns-clause-same : goal.returns-clause-same
+returns-clause-same c = c.put.ensures ∙ sym c.in-Some.ensures.taken
+
+pub returns-clause-text : goal.returns-clause-text
+returns-clause-text c =
+    let held = c.in-Some.ensures.taken ∙ ap Some (sym c.deref.ensures) in
+    let driver = c.deref.result.now in
+    let buffer = c.hand_out-2.new.buffer in
+    let told = c.hand_out-2.new.told in
+    let status = c.hand_out-2.result in
+    let handed = λ (driver : Driver).
+    HandsOutOr (Reports driver c.args.version) (IsUnreported driver) []
+    c.args.buffer.now buffer told (to_z w32 (of_z w32 status)) in
+    behind_some handed held (
+    handed_out c.report-text.result (λ text. text.items)
+    (Reports driver c.args.version) (IsUnreported driver) []
+    c.args.buffer.now buffer told status c.hand_out-2.type_inv
+    c.report-text.ensures.ok c.report-text.ensures.refused
+    c.hand_out-2.ensures.handed c.hand_out-2.ensures.refused
+    )
+
+pub returns-in_default-clause-same : goal.returns-in_default-clause-same
+returns-in_default-clause-same c = c.take.ensures.left ∙ sym c.in_default.ensures.taken
+
+pub returns-in_default-clause-text : goal.returns-in_default-clause-text
+returns-in_default-clause-text c =
+    let none = behind c.args.handle.now.held in
+    let refused = behind_none (λ driver. IsUnreported driver Vacant) c.in_default.ensures.taken refl in
+    declined (Reports none c.args.version) (IsUnreported none) Vacant []
+    c.args.buffer.now c.hand_out.new.buffer c.hand_out.new.told c.hand_out.result c.hand_out.type_inv
+    refused c.hand_out.ensures.refused

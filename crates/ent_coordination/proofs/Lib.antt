@@ -1,3 +1,0 @@
-pub mod Linked
-pub mod Least
-pub mod Grounded

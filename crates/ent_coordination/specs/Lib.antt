@@ -1,3 +1,0 @@
-pub mod Pool
-pub mod Component
-pub mod Choice

@@ -1,4 +1,0 @@
-pub mod Worth
-pub mod Change
-pub mod Meant
-pub mod Setting

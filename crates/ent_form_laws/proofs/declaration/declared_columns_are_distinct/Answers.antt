@@ -1,6 +1,0 @@
-use Rattle.std.proofs.Common.{[]}
-use Rattle.ent_form_laws.proofs.Declared.{columns_distinct}
-use Rattle.ent_form_laws.proofs.declaration.declared_columns_are_distinct.Goals as goal
-
-pub returns : goal.returns
-returns c = λ creates e. columns_distinct [] creates e

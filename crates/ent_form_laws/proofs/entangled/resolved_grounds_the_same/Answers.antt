@@ -1,6 +1,0 @@
-use Rattle.ent_form_laws.proofs.Grounding.{grounding_same}
-use Rattle.ent_form_laws.proofs.entangled.resolved_grounds_the_same.Goals as goal
-
-pub returns : goal.returns
-returns c = λ creates tables environment bound after tree form valuation wide e.
-    grounding_same creates tables wide environment bound after tree form e valuation

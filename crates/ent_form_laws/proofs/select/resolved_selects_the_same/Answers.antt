@@ -1,6 +1,0 @@
-use Rattle.ent_form_laws.proofs.Selecting.{select_same}
-use Rattle.ent_form_laws.proofs.select.resolved_selects_the_same.Goals as goal
-
-pub returns : goal.returns
-returns c = λ creates tables environment bound select form kinds wide e.
-    select_same creates tables wide environment bound select form kinds e

@@ -1,0 +1,4 @@
+pub mod Coming
+pub mod Ended
+pub mod Stopped
+pub mod Written

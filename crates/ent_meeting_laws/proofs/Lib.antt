@@ -1,9 +1,0 @@
-mod Alike
-mod Covering
-mod Closed
-mod Groups
-mod Histories
-mod Partners
-mod Places
-mod Ran
-mod Seeing

@@ -1,4 +1,0 @@
-pub mod Cover
-pub mod Known
-pub mod Answered
-pub mod Running

@@ -1,0 +1,12 @@
+use Rattle.std.proofs.Common.{◌≡◌, ◌≤◌, length, map, take, vec_capacity}
+use Rattle.ent_semantics.specs.Term.{no_value}
+use Rattle.ent_ordinary.specs.Worth.{worth_over}
+use Rattle.ent_ordinary.proofs.row.item_row.Given as goal
+
+-- the values of the items so far; there is room for those of all
+abbrev pub invariant-loop-item : goal.invariant-loop-item
+invariant-loop-item l = record {
+  none : l.none ≡ no_value;
+  shown : l.values.items ≡ map (worth_over l.row) (take l.item-index l.items);
+  room : length l.items ≤ vec_capacity l.values;
+}

@@ -1,0 +1,9 @@
+pub mod Worth
+pub mod Combined
+pub mod Early
+pub mod Prepared
+pub mod Tables
+pub mod ExpressionWorth
+pub mod Change
+pub mod Meant
+pub mod Setting

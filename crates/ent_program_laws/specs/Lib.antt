@@ -1,0 +1,15 @@
+pub mod Faults
+pub mod Unplaced
+pub mod Held
+pub mod Answered
+pub mod Runs
+pub mod Laws
+pub mod Characters
+pub mod Values
+pub mod Kept
+pub mod Reportable
+pub mod Right
+pub mod Cover
+pub mod Known
+pub mod MeetingAnswered
+pub mod Running

@@ -1,5 +1,0 @@
-use Rattle.ent_protocol_laws.proofs.Safe.{reached_safe}
-use Rattle.ent_protocol_laws.proofs.standing.pools_are_safe.Goals as goal
-
-pub returns : goal.returns
-returns c h = reached_safe

@@ -1,5 +1,0 @@
-use Rattle.ent_protocol_laws.proofs.Few.{reached_few}
-use Rattle.ent_protocol_laws.proofs.standing.scripts_are_few.Goals as goal
-
-pub returns : goal.returns
-returns c h = reached_few

@@ -1,5 +1,0 @@
-use Rattle.ent_protocol_laws.proofs.Onward.{goes_on}
-use Rattle.ent_protocol_laws.proofs.standing.steps_go_on.Goals as goal
-
-pub returns : goal.returns
-returns c h = goes_on

@@ -1,5 +1,0 @@
-use Rattle.ent_protocol_laws.proofs.Counted.{reached_counted}
-use Rattle.ent_protocol_laws.proofs.standing.transactions_are_counted.Goals as goal
-
-pub returns : goal.returns
-returns c h = reached_counted

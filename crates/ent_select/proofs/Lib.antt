@@ -1,5 +1,0 @@
-mod Combinations
-mod Fronts
-pub mod Narrowed
-mod Searched
-mod Wanted

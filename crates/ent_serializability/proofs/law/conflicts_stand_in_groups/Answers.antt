@@ -1,6 +1,0 @@
-use Rattle.ent_serializability.proofs.Conflicts.{conflicts_stand}
-use Rattle.ent_serializability.proofs.law.conflicts_stand_in_groups.Goals as goal
-
-pub returns : goal.returns
-returns c h forms s faithful reached =
-    conflicts_stand s (h.lent_jobs_are_present.ensures.apart forms s faithful reached)

@@ -1,7 +1,0 @@
-use Rattle.std.proofs.Common.{◌≡◌, take}
-use Rattle.std.specs.List.{flat_map}
-use Rattle.ent_svg.specs.Escape.{escape}
-use Rattle.ent_svg.proofs.escape.escaped.Given as goal
-
-abbrev pub invariant-loop-byte : goal.invariant-loop-byte
-invariant-loop-byte l = l.made.items ≡ flat_map escape (take l.byte-index l.text)

@@ -1,5 +1,0 @@
-use Rattle.ent_termination.proofs.Ready.{turn_taken}
-use Rattle.ent_termination.proofs.endings.ready_members_are_answered.Goals as goal
-
-pub returns : goal.returns
-returns g c forms s tx turn reply new ready step = turn_taken s tx turn reply new ready step

@@ -1,6 +1,0 @@
-pub mod Progress
-pub mod Within
-pub mod Lending
-pub mod Idle
-pub mod Tries
-pub mod Fates

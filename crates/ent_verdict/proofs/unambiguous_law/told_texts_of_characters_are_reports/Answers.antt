@@ -1,5 +1,0 @@
-use Rattle.ent_verdict.proofs.Runs.{is_report}
-use Rattle.ent_verdict.proofs.unambiguous_law.told_texts_of_characters_are_reports.Goals as goal
-
-pub returns : goal.returns
-returns c = is_report c.told_texts_have_no_form_fault.ensures

@@ -1,2 +1,0 @@
-pub mod Reportable
-pub mod Right
