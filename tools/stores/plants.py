@@ -6,7 +6,7 @@ from dataclasses import replace
 from clients import Client
 from engines import Sqlite
 from entangle import stores
-from entangle.stores import DurableRoom, _connections, _durable, _memory, _postgres, _sql
+from entangle.stores import DurableRoom, _connections, _durable, _forms, _memory, _postgres, _sql
 
 
 def without_compare(engine):
@@ -218,6 +218,34 @@ def takes_any_server(engine):
     engine.store_class = Planted
 
 
+def takes_any_libpq(engine):
+    """A store takes each version of libpq."""
+    _postgres._OLDEST_LIBPQ = 0
+
+
+# ---- of places and names
+
+
+def resolves_the_path_anew(engine):
+    """A relative path is resolved at each connection."""
+    if isinstance(engine, Sqlite):
+
+        class Planted(engine.store_class):
+            def __init__(self, path, **how):
+                super().__init__(path, **how)
+                self._path = os.fspath(path)
+
+        engine.store_class = Planted
+
+
+def reserves_no_index(engine):
+    """A table of a room may have the name of a store's index."""
+    tables = ("claim", "tickets", "keys")
+    _forms.OwnTables.reserved = property(
+        lambda own: frozenset({"entangle_tables", *(f"{own.name}_{table}" for table in tables)})
+    )
+
+
 # ---- of what gets a room past a lock-out
 
 
@@ -388,6 +416,9 @@ PLANTS = {
         waits_for_ever,
         tries_hosts_together,
         takes_any_server,
+        takes_any_libpq,
+        resolves_the_path_anew,
+        reserves_no_index,
         claims_before_it_is_ready,
         sets_nobody_aside,
         names_no_group,
