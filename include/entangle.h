@@ -71,7 +71,7 @@ enum entangle_status {
     ENTANGLE_REFUSED = 1,       /* the input, the script or the call is refused; the check says no, or the report is too
                                    long */
     ENTANGLE_MISUSED = 2,       /* a pointer is null, the version of a report is neither 1 nor 2, there is no such move
-                                   or stay, or the room or the driver isn't in the state that the call requires */
+                                   or patience, or the room or the driver isn't in the state that the call requires */
     ENTANGLE_OUT_OF_MEMORY = 3, /* E900 */
     ENTANGLE_UNREADABLE = 4     /* no call answers this, since bytes in memory can always be read */
 };
@@ -292,11 +292,11 @@ int32_t ent_c_room_open(entangle_room **room, const uint8_t *input, size_t lengt
                         uint64_t epoch, uint64_t next, uint64_t next_group, const entangle_limits *limits,
                         uint32_t *refusal, entangle_told *told);
 int32_t ent_c_room_put(entangle_room **room, const uint8_t *script, size_t length, entangle_values **values,
-                       int64_t stay, uint64_t *ticket, uint32_t *refusal, entangle_told *told);
+                       int64_t patience, uint64_t *ticket, uint32_t *refusal, entangle_told *told);
 int32_t ent_c_room_explain(entangle_room **room, const uint8_t *script, size_t length, entangle_values **values,
                            uint8_t *buffer, size_t capacity, entangle_told *told);
 int32_t ent_c_room_restore(entangle_room **room, uint64_t ticket, const uint8_t *script, size_t length,
-                           entangle_values **values, int64_t stay, uint64_t batches, uint32_t *refusal,
+                           entangle_values **values, int64_t patience, uint64_t batches, uint32_t *refusal,
                            entangle_told *told);
 int32_t ent_c_room_withdraw(entangle_room **room, uint64_t ticket, uint32_t *refusal);
 int32_t ent_c_room_step(entangle_room **room, uint32_t *step, uint32_t *refusal);
@@ -474,20 +474,20 @@ static inline int32_t entangle_room_open(entangle_room **room, const void *input
 
 /* Puts a script into a room: the text of one script, from its BEGIN TRANSACTION on, and nothing else. It waits from
  * then on. In the places of host variables stand the values that are bound to their names; `values` is the address of
- * a null pointer if there are none, and the values stay as they are. `stay` is ENTANGLE_AS_WRITTEN,
+ * a null pointer if there are none, and the values stay as they are. `patience` is ENTANGLE_AS_WRITTEN,
  * ENTANGLE_UNTIL_WITHDRAWN, or in how many batches that count the script takes part before it gives up, from 1 to
  * ENTANGLE_MOST_BATCHES.
  *
  * ENTANGLE_DONE: `*ticket` is the script's ticket; none is given out twice. ENTANGLE_REFUSED: the first fault is told:
  * of the text, whose place counts from its start, else of the values, else of the form; or it is FULL.
- * ENTANGLE_OUT_OF_MEMORY: E900 is told. ENTANGLE_MISUSED: there is no such stay. After a refusal nothing has changed,
- * not even `*ticket`. */
+ * ENTANGLE_OUT_OF_MEMORY: E900 is told. ENTANGLE_MISUSED: there is no such patience. After a refusal nothing has
+ * changed, not even `*ticket`. */
 static inline int32_t entangle_room_put(entangle_room **room, const void *script, size_t length,
-                                        entangle_values **values, int64_t stay, uint64_t *ticket, uint32_t *refusal,
+                                        entangle_values **values, int64_t patience, uint64_t *ticket, uint32_t *refusal,
                                         entangle_told *told) {
     if (!room || !values || !ticket || !refusal) return ENTANGLE_MISUSED;
     if (entangle_is_misused(script, length, NULL, 0, told)) return ENTANGLE_MISUSED;
-    return ent_c_room_put(room, entangle_bytes(script), length, values, stay, ticket, refusal, told);
+    return ent_c_room_put(room, entangle_bytes(script), length, values, patience, ticket, refusal, told);
 }
 
 /* Gives the explanation of the first fault for which entangle_room_put would refuse a script with these values, as
@@ -513,11 +513,11 @@ static inline int32_t entangle_room_explain(entangle_room **room, const void *sc
  * ENTANGLE_DONE: it waits. ENTANGLE_REFUSED: as entangle_room_put; or the ticket is USED: it isn't of an earlier
  * process, or one that is no less came back before. */
 static inline int32_t entangle_room_restore(entangle_room **room, uint64_t ticket, const void *script, size_t length,
-                                            entangle_values **values, int64_t stay, uint64_t batches,
+                                            entangle_values **values, int64_t patience, uint64_t batches,
                                             uint32_t *refusal, entangle_told *told) {
     if (!room || !values || !refusal) return ENTANGLE_MISUSED;
     if (entangle_is_misused(script, length, NULL, 0, told)) return ENTANGLE_MISUSED;
-    return ent_c_room_restore(room, ticket, entangle_bytes(script), length, values, stay, batches, refusal, told);
+    return ent_c_room_restore(room, ticket, entangle_bytes(script), length, values, patience, batches, refusal, told);
 }
 
 /* Takes a script back: it waits no more, and will never commit.

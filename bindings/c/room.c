@@ -213,7 +213,7 @@ static void opened(void) {
 }
 
 /* A script waits for as many batches as the header says at most, and for no more. */
-static void longest_stay(void) {
+static void longest_patience(void) {
     const int64_t most = ENTANGLE_MOST_BATCHES;
     entangle_room *room = NULL;
     entangle_rows *rows = NULL;
@@ -715,7 +715,7 @@ int main(void) {
     collected();
     closed();
     opened();
-    longest_stay();
+    longest_patience();
     given();
     misfits();
     whole();

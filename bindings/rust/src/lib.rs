@@ -42,12 +42,12 @@
 mod answer;
 mod call;
 mod counted;
+mod driver;
 mod fate;
 mod fault;
 mod given;
 mod group;
 mod library;
-mod driver;
 mod refusal;
 mod room;
 mod step;
@@ -56,11 +56,11 @@ mod value;
 mod waits;
 
 pub use answer::{Answer, Fact};
+pub use driver::{Driver, Failure, Fate, Shared, Standing, Tx};
 pub use fate::FutureFate;
 pub use fault::{Error, Fault, FaultKind, Place};
 pub use group::{EndedTicket, Group, GroupCommit, TableChange};
 pub use library::library_version;
-pub use driver::{Failure, Fate, Driver, Shared, Standing, Tx};
 pub use refusal::{BindingFault, RoomError, RowFault, ValueFault};
 pub use room::{EpochReport, Patience, Room, RoomOptions, Stepped};
 pub use step::{Reply, Step};

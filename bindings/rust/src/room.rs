@@ -5,10 +5,10 @@ use crate::answer::table_in;
 use crate::call::room::{First, RoomHandle};
 use crate::call::{Limits, TicketPosition};
 use crate::counted::Counted;
+use crate::driver::{Failure, read};
 use crate::fate::FutureFate;
 use crate::given::{bound, error_of_rows, error_of_values, given};
 use crate::group::{Group, groups_in};
-use crate::driver::{Failure, read};
 use crate::refusal::RoomError;
 use crate::ticket::{Ending, Submission, Ticket, TicketState};
 use crate::value::{Row, Value};
@@ -87,7 +87,7 @@ pub enum Patience {
 
 impl Patience {
     /// As `include/entangle.h` has it.
-    fn stay(self) -> Result<i64, RoomError> {
+    fn number(self) -> Result<i64, RoomError> {
         match self {
             Patience::AsWritten => Ok(-1),
             Patience::Batches(0) => Err(RoomError::NoPatience),
@@ -330,9 +330,9 @@ impl Room {
     /// A value that can't be bound; else the script's first fault, with its place in this text; that as many wait as
     /// there may be; or that memory ran out. Nothing has changed then.
     pub fn put(&self, script: &str, values: &[(&str, Value)], patience: Patience) -> Result<Ticket, RoomError> {
-        let (mut bound, stay) = (bound(values)?, patience.stay()?);
+        let (mut bound, patience) = (bound(values)?, patience.number()?);
         self.inner.with(|kept| {
-            let put = kept.handle.put(script.as_bytes(), &mut bound, stay);
+            let put = kept.handle.put(script.as_bytes(), &mut bound, patience);
             put.map(Ticket::new).map_err(|not_done| error_of_values(not_done, values))
         })
     }
@@ -351,9 +351,9 @@ impl Room {
         patience: Patience,
         batches: u64,
     ) -> Result<(), RoomError> {
-        let (mut bound, stay) = (bound(values)?, patience.stay()?);
+        let (mut bound, patience) = (bound(values)?, patience.number()?);
         self.inner.with(|kept| {
-            let restored = kept.handle.restore(ticket.number(), script.as_bytes(), &mut bound, stay, batches);
+            let restored = kept.handle.restore(ticket.number(), script.as_bytes(), &mut bound, patience, batches);
             restored.map_err(|not_done| error_of_values(not_done, values))
         })
     }

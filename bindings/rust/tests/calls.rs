@@ -1,6 +1,6 @@
 //! What the calls promise beside the rows: places, long reports, errors, conversions and many threads.
 
-use entangle::{Error, Failure, Fate, FaultKind, Driver, Place, Reply, Shared, Standing, Step, Value, Version};
+use entangle::{Driver, Error, Failure, Fate, FaultKind, Place, Reply, Shared, Standing, Step, Value, Version};
 use entangle::{WrongKind, check, check_bytes, explain, explain_bytes, report, report_of_bytes};
 use std::error::Error as StandardError;
 use std::thread;

@@ -1,9 +1,7 @@
 //! Where a call promises E900, it gives E900: each allocation that this crate makes for a call fails in turn, and the
 //! process goes on. (The library's own allocations fail in turn in `bindings/c/calls.c`.)
 
-use entangle::{
-    Answer, Ending, Error, Fault, FaultKind, Driver, Patience, Room, RoomError, RoomOptions, Row, Stepped,
-};
+use entangle::{Answer, Driver, Ending, Error, Fault, FaultKind, Patience, Room, RoomError, RoomOptions, Row, Stepped};
 use entangle::{Ticket, Value, Verdict, Version};
 use std::alloc::{GlobalAlloc, Layout, System};
 use std::cell::Cell;

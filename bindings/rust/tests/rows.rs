@@ -1,6 +1,6 @@
 //! The worked rows of the program, byte for byte: those whose command line is a run without threads, or a check.
 
-use entangle::{Error, Fault, Driver, Verdict, Version, check_bytes, explain_bytes, report_of_bytes};
+use entangle::{Driver, Error, Fault, Verdict, Version, check_bytes, explain_bytes, report_of_bytes};
 use std::fs;
 use std::path::PathBuf;
 

@@ -1,9 +1,9 @@
 //! The calls of rooms, and those of what rooms are given: bound values and rows.
 
+use super::ent_c_room_groups;
 use super::{DONE, Limits, MISUSED, OUT_OF_MEMORY, Opaque, REFUSED, SubmissionSeen, TicketPosition, Told};
 use super::{buffered, fault_of};
 use super::{ent_c_room_ended, ent_c_room_epoch, ent_c_room_explain, ent_c_room_free, ent_c_room_further};
-use super::ent_c_room_groups;
 use super::{ent_c_room_next_group, ent_c_room_open, ent_c_room_put, ent_c_room_report, ent_c_room_restore};
 use super::{ent_c_room_settled_through, ent_c_room_state, ent_c_room_step, ent_c_room_submission};
 use super::{ent_c_room_table, ent_c_room_turn, ent_c_room_waiting, ent_c_room_why, ent_c_room_withdraw};
@@ -201,12 +201,13 @@ impl RoomHandle {
         room_said(status, refusal, told).map(|()| handle)
     }
 
-    pub(crate) fn put(&mut self, script: &[u8], values: &mut BoundValues, stay: i64) -> Result<u64, NotDone> {
+    pub(crate) fn put(&mut self, script: &[u8], values: &mut BoundValues, patience: i64) -> Result<u64, NotDone> {
         let (mut ticket, mut refusal, mut told) = (0, 0, Told::default());
         let (from, length, values) = (script.as_ptr(), script.len(), &mut values.at);
         // SAFETY: as said above.
-        let status =
-            unsafe { ent_c_room_put(&mut self.at, from, length, values, stay, &mut ticket, &mut refusal, &mut told) };
+        let status = unsafe {
+            ent_c_room_put(&mut self.at, from, length, values, patience, &mut ticket, &mut refusal, &mut told)
+        };
         room_said(status, refusal, told).map(|()| ticket)
     }
 
@@ -215,14 +216,14 @@ impl RoomHandle {
         ticket: u64,
         script: &[u8],
         values: &mut BoundValues,
-        stay: i64,
+        patience: i64,
         batches: u64,
     ) -> Result<(), NotDone> {
         let (mut refusal, mut told) = (0, Told::default());
         let (from, length, values) = (script.as_ptr(), script.len(), &mut values.at);
         // SAFETY: as said above.
         let status = unsafe {
-            ent_c_room_restore(&mut self.at, ticket, from, length, values, stay, batches, &mut refusal, &mut told)
+            ent_c_room_restore(&mut self.at, ticket, from, length, values, patience, batches, &mut refusal, &mut told)
         };
         room_said(status, refusal, told)
     }
