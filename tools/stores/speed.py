@@ -1,6 +1,9 @@
-"""How fast stores are: what they write in a second, and whole lives of requests in a room over them."""
+"""How fast stores are: what they write in a second, whole lives of requests in a room over them, and crowds."""
 
+import asyncio
 import os
+import statistics
+import threading
 import time
 
 import entangle
@@ -99,9 +102,95 @@ def lives(engine, couples=32, seconds=LIVES_SECONDS):
     print(f"processors: {each:.2f} ms each here, and {of_server:.2f} ms in the server", flush=True)
 
 
-def measured(engine):
-    written(engine)
+# ---- crowds that wait
+
+
+def crowded(engine, count, patience):
+    """A store in which so many wait whose friends never come, and its place."""
+    place = engine.fresh()
+    store = engine.store(place)
+    epoch = store.load(TRAVEL).epoch
+    for first in range(1, count + 1, 1_000):
+        tickets = range(first, min(first + 1_000, count + 1))
+        waiting = [
+            stores.Waiter(entangle.Ticket(at), TRIP, {"me": f"{at}", "friend": f"{at}'s"}, patience) for at in tickets
+        ]
+        store.apply((), (), waiting, tickets.stop, epoch)
+    store.close()
+    return place
+
+
+def opening(engine, count=100_000):
+    """How long the opening of a room takes over a store in which so many wait."""
+    place = crowded(engine, count, UNTIL)
+    store = engine.store(place)
+    began, used = time.perf_counter(), time.process_time()
+    room = DurableRoom(TRAVEL, store)
+    took, used = time.perf_counter() - began, time.process_time() - used
+    assert len(room.waiting()) == count
+    room.close()
+    print(f"{engine.name}, opening with {count} who wait: {took:.1f} s, {used:.1f} s of a processor", flush=True)
+
+
+def idle(engine, count=10_000, times=50):
+    """How long a step takes that has nothing to do, where so many wait for a number of batches."""
+    room = DurableRoom(TRAVEL, engine.store(crowded(engine, count, 8)))
+    while room.step() != "idle":
+        pass
+    took = []
+    for _ in range(times):
+        began = time.perf_counter()
+        assert room.step() == "idle"
+        took.append(1_000 * (time.perf_counter() - began))
+    room.close()
+    median = statistics.median(took)
+    print(f"{engine.name}, an idle step with {count} who wait: {median:.3f} ms in the median of {times}", flush=True)
+
+
+def hanging(engine, count=1_000, seconds=2.0):
+    """For how long an event loop is silent in which so many await their fates, while the store doesn't answer."""
+    place = crowded(engine, count, UNTIL)
+    room = DurableRoom(TRAVEL, engine.store(place))
+    silent = []
+
+    async def ticking(until):
+        last = time.perf_counter()
+        while last < until:
+            await asyncio.sleep(0)
+            now = time.perf_counter()
+            silent.append(1_000 * (now - last))
+            last = now
+
+    async def awaiting():
+        early = [asyncio.ensure_future(room.fate(ticket)) for ticket in room.waiting()]
+        await asyncio.sleep(0)
+        with engine.locked(place):
+            writing = threading.Thread(target=room.put, args=(TRIP, {"me": "Ann", "friend": "Bob"}, UNTIL))
+            writing.start()
+            await asyncio.sleep(0.2)
+            late = asyncio.ensure_future(room.fate(entangle.Ticket(1)))
+            await ticking(time.perf_counter() + seconds)
+            assert writing.is_alive() and not any(task.done() for task in (late, *early))
+        await asyncio.to_thread(writing.join)
+        for task in (late, *early):
+            task.cancel()
+
+    asyncio.run(awaiting())
+    room.close()
+    said = f"{engine.name}, a store that doesn't answer for {seconds:.0f} s while {count} await their fates"
+    print(f"{said}: the loop is silent for {max(silent):.1f} ms at most", flush=True)
+
+
+OVER_LIBRARY = (lives, idle, hanging, opening)
+
+
+def measured(engine, only=""):
+    """Measures what has a name that begins so."""
+    if "written".startswith(only):
+        written(engine)
     if "stub" in entangle.library_version():
-        print(f"{engine.name}: no library is built, so requests aren't answered", flush=True)
-    else:
-        lives(engine)
+        print(f"{engine.name}: no library is built, so nothing is tried in a room", flush=True)
+        return
+    for measure in OVER_LIBRARY:
+        if measure.__name__.startswith(only):
+            measure(engine)
