@@ -4,7 +4,7 @@ import os
 import signal
 import threading
 import time
-from contextlib import suppress
+from contextlib import contextmanager, suppress
 
 from entangle.stores import PostgresTurn, StoreError, StoreFailed
 from pair import Server, free_ports, signalled, until
@@ -255,24 +255,35 @@ class Part:
             turns.close()
 
 
-def tried_turns(folder, words):
-    """Tries turns over both engines; how many cases, and how many are wrong."""
+def say(line):
+    print(line, flush=True)
 
-    def say(line):
-        print(line, flush=True)
 
-    part, server = Part(say), Server(os.path.join(folder, "server"), *free_ports(1))
-    notes = os.path.join(folder, "notes")
+@contextmanager
+def part_over(folder):
+    """A part, with a server and a folder for notes."""
+    server, notes = Server(os.path.join(folder, "server"), *free_ports(1)), os.path.join(folder, "notes")
     os.mkdir(notes)
     try:
         server.make()
+        yield Part(say), server, notes
+    finally:
+        server.stop("immediate")
+
+
+def tried_turns(folder, words):
+    """Tries turns over both engines; how many cases, and how many are wrong."""
+    with part_over(folder) as (part, server, notes):
         for work in (calls, again_and_again, refusals, hung):
             part.case(f"PostgreSQL, {work.__name__}", lambda work=work: work(server))
         part.over("PostgreSQL", notes, server.dsn(), lambda turns: few_cases(turns, server))
-        server.sql("CREATE SCHEMA many")
-        part.over("PostgreSQL", notes, f"{server.dsn()} options='-c search_path=many'", many_cases, waiting=MANY)
         part.over("SQLite", notes, os.path.join(folder, "few.sqlite"), few_cases)
+    return part.tried, part.wrong
+
+
+def tried_crowds(folder, words):
+    """Tries turns over stores in which many wait; how many cases, and how many are wrong."""
+    with part_over(folder) as (part, server, notes):
+        part.over("PostgreSQL", notes, server.dsn(), many_cases, waiting=MANY)
         part.over("SQLite", notes, os.path.join(folder, "many.sqlite"), many_cases, waiting=MANY)
-    finally:
-        server.stop("immediate")
     return part.tried, part.wrong

@@ -185,12 +185,13 @@ OVER_LIBRARY = (lives, idle, hanging, opening)
 
 
 def measured(engine, only=""):
-    """Measures what has a name that begins so."""
-    if "written".startswith(only):
+    """Measures what has a name that begins with one of these words."""
+    words = tuple(only.split(","))
+    if "written".startswith(words):
         written(engine)
     if "stub" in entangle.library_version():
         print(f"{engine.name}: no library is built, so nothing is tried in a room", flush=True)
         return
     for measure in OVER_LIBRARY:
-        if measure.__name__.startswith(only):
+        if measure.__name__.startswith(words):
             measure(engine)
