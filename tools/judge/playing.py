@@ -7,7 +7,7 @@ from dataclasses import dataclass, field
 from crowds import AS_WRITTEN, Committed, Put, Restart, Withdraw, opening_text
 from verdict import Party, judged
 
-MOST_STEPS, MOST_FURTHER = 20_000, 256
+MOST_STEPS, MOST_FURTHER, MOST_STEPS_FURTHER = 20_000, 256, 1_000
 
 
 class Fault(Exception):
@@ -31,6 +31,7 @@ class Outcome:
     sets: int = 0
     in_part: int = 0
     further: int = 0
+    cut: int = 0
     steps: int = 0
     longest: float = 0.0
     seconds: float = 0.0
@@ -41,7 +42,7 @@ class Playing:
 
     def __init__(self, crowd, room):
         self.crowd, self.room = crowd, room
-        self.tickets, self.put = {}, {}
+        self.tickets, self.put, self.cut = {}, {}, set()
         puts = [call for call in crowd.calls if isinstance(call, Put)]
         self.outcome = Outcome(crowd.kind, crowd.seed, len(puts))
 
@@ -90,18 +91,25 @@ class Playing:
             raise Fault("long step", f"{self.outcome.longest:.2f} s of processor time")
         return answer
 
-    def _until_idle(self):
-        """Steps until nothing is left to do, and nobody is cut, as often as that may be."""
-        for _ in range(MOST_FURTHER):
-            for _ in range(MOST_STEPS):
-                if self._step() == "idle":
-                    break
-            else:
-                raise Fault("never idle", f"not after {MOST_STEPS} steps, in call {self.number}")
-            if not self.room.goes_further():
+    def _until_rest(self):
+        """Steps until nothing is left to do."""
+        for _ in range(MOST_STEPS):
+            if self._step() == "idle":
                 return
+        raise Fault("never idle", f"not after {MOST_STEPS} steps, in call {self.number}")
+
+    def _until_idle(self):
+        """Steps until nothing is left to do, and nobody is cut. It notes who is cut still after so many calls of further,
+        or so many steps."""
+        begun = self.outcome.steps
+        for _ in range(MOST_FURTHER):
+            self._until_rest()
+            self.cut = self.room.who_is_cut()
+            if not self.cut or self.outcome.steps - begun > MOST_STEPS_FURTHER:
+                break
+            self.room.further()
             self.outcome.further += 1
-        raise Fault("always cut", f"somebody is cut after {MOST_FURTHER} calls of further, in call {self.number}")
+        self.outcome.cut += bool(self.cut)
 
     def _judge(self):
         """Whether somebody waits, or gave up, who needn't."""
@@ -117,7 +125,8 @@ class Playing:
                 raise Fault("waits", f"{call.name}, who needs nobody, at call {self.number}")
         parties = [Party(self.put[ticket].name, self.put[ticket].script) for ticket in waiting]
         rows = room.tables()
-        verdict = judged(parties, rows, self.crowd.groups, self.crowd.seed)
+        cut = {self.put[ticket].name for ticket in self.cut}
+        verdict = judged(parties, rows, self.crowd.groups, self.crowd.seed, cut)
         outcome.sets += verdict.sets
         outcome.in_part += not verdict.is_whole
         if verdict.found is not None:

@@ -1,6 +1,7 @@
 """Rooms that are judged: that of the library, and a model of one that leaves nobody out, which can be planted a fault.
 
-Each has the same calls: put, withdraw, step, goes_further, state, tables, waiting and restart. Tickets are numbers.
+Each has the same calls: put, withdraw, step, who_is_cut, further, state, tables, waiting and restart. Tickets are
+numbers.
 """
 
 from crowds import AS_WRITTEN, COLUMNS, opening_text
@@ -41,14 +42,13 @@ class LibraryRoom:
     def step(self):
         return self.room.step()
 
-    def goes_further(self):
-        """Has those go on whom a bound stopped; whether there were any. A library may have no such call."""
-        if not hasattr(self.room, "further"):
-            return False
-        if not any(self.room.state(one).kind == "cut" for one in self.room.waiting()):
-            return False
+    def who_is_cut(self):
+        """The tickets whose search a bound stopped."""
+        return {one.number for one in self.room.waiting() if self.room.state(one).kind == "cut"}
+
+    def further(self):
+        """Has the searches go on that a bound stopped."""
         self.room.further()
-        return True
 
     def state(self, ticket):
         return self.ended.get(ticket) or self.room.state(entangle.Ticket(ticket)).kind
@@ -127,10 +127,11 @@ class ModelRoom:
     def waiting(self):
         return sorted(self.scripts)
 
-    def goes_further(self):
-        """Has those go on who are cut; whether there are any."""
-        were_cut, self.cut = self.cut & set(self.scripts), set()
-        return bool(were_cut)
+    def who_is_cut(self):
+        return self.cut & set(self.scripts)
+
+    def further(self):
+        self.cut = set()
 
     def restart(self):
         self.tried, self.cut = set(), set()

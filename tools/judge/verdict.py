@@ -233,16 +233,18 @@ def sets_to_run(parties, trials, make):
     return sets, is_whole
 
 
-def judged(parties, rows, groups, seed):
+def judged(parties, rows, groups, seed, cut):
     """Judges those who wait, by arrival: whether a set of at most four of them, or one of the groups of names, would be
-    answered by a run by itself over these rows."""
+    answered by a run by itself over these rows. A set with somebody who is cut isn't run."""
     trials, verdict = Trials(rows), Judged()
     sets, verdict.is_whole = sets_to_run(parties, trials, random.Random(seed))
     place = {it.name: at for at, it in enumerate(parties)}
     sets += [tuple(sorted(place[name] for name in names)) for names in groups if all(name in place for name in names)]
     for one in sets:
-        verdict.sets += 1
         chosen = [parties[at] for at in one]
+        if any(it.name in cut for it in chosen):
+            continue
+        verdict.sets += 1
         fates, _ = trials.run([it.script for it in chosen])
         if "committed" in fates or "rolled back" in fates:
             verdict.found = LeftOut([it.name for it in chosen], [it.script for it in chosen], fates)
