@@ -3,12 +3,14 @@
 from __future__ import annotations
 
 import importlib
+import json
 import math
 import os
 import weakref
 from contextlib import suppress
 from dataclasses import replace
 from itertools import groupby
+from operator import itemgetter
 from typing import Any, Callable, Collection, Optional, Sequence
 
 from ._connections import Hosts, Watch, each_host
@@ -254,6 +256,12 @@ class PostgresStore(SqlStore):
             raise self._engine.OperationalError("the connection is closed")
         with self._watch:
             return self._connection.execute(sql, tuple(parameters) or None)
+
+    def _many_rows(self, columns: Sequence[str], source: str, parameters: Sequence[object]) -> Sequence[Sequence[Any]]:
+        # a text for each column: a psycopg that has no part in C takes two microseconds for each value
+        texts = ", ".join(f"json_agg({column})::text" for column in columns)
+        found = self._run(f"SELECT {texts} FROM (SELECT {', '.join(columns)} FROM {source}) AS found", parameters)
+        return sorted(zip(*(json.loads(text or "[]") for text in found.fetchone())), key=itemgetter(0))
 
     def _run_all(self, changes: Sequence[Change]) -> list[int]:
         counts: list[int] = []

@@ -195,6 +195,11 @@ class SqlStore(ABC):
     def _run(self, sql: str, parameters: Sequence[object] = ()) -> Any:
         """Runs a statement; its cursor. Each statement of a transaction passes here."""
 
+    def _many_rows(self, columns: Sequence[str], source: str, parameters: Sequence[object]) -> Sequence[Sequence[Any]]:
+        """Thousands of rows, in order of the first column: the columns of what stands behind FROM."""
+        rows: Sequence[Sequence[Any]] = self._run(f"SELECT {', '.join(columns)} FROM {source}", parameters).fetchall()
+        return rows
+
     @abstractmethod
     def _run_all(self, changes: Sequence[Change]) -> list[int]:
         """Runs statements in order; how many rows each touched."""
@@ -375,19 +380,17 @@ class SqlStore(ABC):
         return too_many(counts, may_collect)
 
     def _waiters(self) -> Iterator[Waiter]:
-        columns, mark = "ticket, script, bound, patience, batches, request_key, until", self._mark
-        sql = (
-            f"SELECT {columns} FROM {self._tickets} WHERE ending IS NULL AND ticket > {mark}"
-            f" ORDER BY ticket LIMIT {_WAITERS_AT_ONCE}"
-        )
+        columns = ("ticket", "script", "bound", "patience", "batches", "request_key", "until")
+        tests = f"ending IS NULL AND ticket > {self._mark}"
+        source = f"{self._tickets} WHERE {tests} ORDER BY ticket LIMIT {_WAITERS_AT_ONCE}"
         scripts: dict[str, str] = {}  # many wait with the same one
-        found = self._run(sql, (-1,)).fetchall()
+        found = self._many_rows(columns, source, (-1,))
         while found:
             for ticket, script, bound, patience, batches, key, until in found:
                 script = scripts.setdefault(script, script)
                 due = None if until is None else time_of(until)
                 yield Waiter(Ticket(ticket), script, values_of(bound), patience_of(patience), batches, key, due)
-            found = self._run(sql, (ticket,)).fetchall() if len(found) == _WAITERS_AT_ONCE else ()
+            found = self._many_rows(columns, source, (ticket,)) if len(found) == _WAITERS_AT_ONCE else ()
 
     # ---- writing
 
