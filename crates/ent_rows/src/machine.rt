@@ -103,6 +103,18 @@ impl<'a> Machine<'a> {
         Ok(())
     }
 
+    /// Writes these bytes to standard output, as many in a call as it moves.
+    fn write(&self, bytes: &[u8]) -> io::Result<()> {
+        if self.writes.most == 0 {
+            return Err(io::Error::from(ErrorKind::WriteZero));
+        }
+        for part in bytes.chunks(self.writes.most) {
+            self.count_write()?;
+            put(&self.output, part)?;
+        }
+        Ok(())
+    }
+
     /// What was written to standard output, and to standard error.
     pub(crate) fn into_written(self) -> (Vec<u8>, Vec<u8>) {
         (self.output.into_inner(), self.errors.into_inner())
@@ -117,15 +129,11 @@ fn put(written: &RefCell<Vec<u8>>, bytes: &[u8]) -> io::Result<()> {
     }
 }
 
-/// Puts a value's text behind what was written.
-fn put_text<D: Display + Drop>(
-    alloc: Global,
-    written: &RefCell<Vec<u8>>,
-    value: D,
-) -> io::Result<()> {
+/// A value's text.
+fn text_of<D: Display + Drop>(alloc: Global, value: D) -> io::Result<Vec<u8>> {
     let mut text = Vec::new(alloc);
     write!(text, "{value}")?;
-    put(written, text.as_slice())
+    Ok(text)
 }
 
 impl Alloc for Machine<'_> {
@@ -180,19 +188,17 @@ impl<'a> Input for Machine<'a> {
 
 impl Print for Machine<'_> {
     fn print<D: Display + Drop>(&self, value: D) -> io::Result<()> {
-        self.count_write()?;
-        put_text(self.alloc, &self.output, value)
+        self.write(text_of(self.alloc, value)?.as_slice())
     }
 
     fn println<D: Display + Drop>(&self, value: D) -> io::Result<()> {
-        self.count_write()?;
-        put_text(self.alloc, &self.output, value)?;
-        put(&self.output, b"\n")
+        let mut line = text_of(self.alloc, value)?;
+        line.push(b'\n')?;
+        self.write(line.as_slice())
     }
 
     fn write_all(&self, bytes: &[u8]) -> io::Result<()> {
-        self.count_write()?;
-        put(&self.output, bytes)
+        self.write(bytes)
     }
 
     fn write_some(&self, bytes: &[u8]) -> io::Result<usize> {
@@ -205,11 +211,11 @@ impl Print for Machine<'_> {
 
 impl Eprint for Machine<'_> {
     fn eprint<D: Display + Drop>(&self, value: D) -> io::Result<()> {
-        put_text(self.alloc, &self.errors, value)
+        put(&self.errors, text_of(self.alloc, value)?.as_slice())
     }
 
     fn eprintln<D: Display + Drop>(&self, value: D) -> io::Result<()> {
-        put_text(self.alloc, &self.errors, value)?;
+        put(&self.errors, text_of(self.alloc, value)?.as_slice())?;
         put(&self.errors, b"\n")
     }
 }
