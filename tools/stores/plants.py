@@ -6,7 +6,7 @@ from dataclasses import replace
 from clients import Client
 from engines import Sqlite
 from entangle import stores
-from entangle.stores import DurableRoom, _connections, _durable, _forms, _memory, _postgres, _sql
+from entangle.stores import DurableRoom, _connections, _durable, _forms, _memory, _sessions, _sql
 
 
 def without_compare(engine):
@@ -204,7 +204,7 @@ def tries_hosts_together(engine):
     def all_hosts(engine, dsn, **settings):
         return [engine.conninfo.make_conninfo(**{**settings, **engine.conninfo.conninfo_to_dict(dsn)})]
 
-    _postgres.each_host = all_hosts
+    _sessions.each_host = all_hosts
 
 
 def takes_any_server(engine):
@@ -220,7 +220,7 @@ def takes_any_server(engine):
 
 def takes_any_libpq(engine):
     """A store takes each version of libpq."""
-    _postgres._OLDEST_LIBPQ = 0
+    _sessions._OLDEST_LIBPQ = 0
 
 
 # ---- of places and names

@@ -10,7 +10,7 @@ from typing import Any, Iterable, Mapping, Optional
 from aiohttp import web
 
 from .._values import Value
-from ._declared import KEY, RequestType
+from ._declared import KEY, RequestType, ServiceFile
 from ._positions import digest_of
 from ._problems import Problem
 
@@ -52,6 +52,20 @@ def checked_keys(given: Mapping[str, Any], most: int) -> tuple[str, ...]:
     if not isinstance(keys, list) or len(keys) > most:
         raise Problem(400, "value_wrong", f"keys is a list of {most} keys at most")
     return tuple(map(checked_key, keys))
+
+
+def checked_room(file: ServiceFile, given: Mapping[str, Any], must: bool) -> Optional[str]:
+    """The room that a call names, by the parameter that parts requests; None if it names none, and needn't. Raises
+    Problem."""
+    name = file.partition
+    if name is None:
+        return None
+    room = given.get(name)
+    if room is None and must:
+        raise Problem(400, "value_missing", f"{name} is missing: {', '.join(file.rooms)}", parameter=name)
+    if room is not None and room not in file.rooms:
+        raise Problem(400, "value_wrong", f"{name} is one of {', '.join(file.rooms)}", parameter=name)
+    return room
 
 
 def checked_until(given: Mapping[str, Any]) -> Optional[int]:

@@ -15,6 +15,7 @@ from ._declared import ServiceFile
 from ._faults import FileFault, FileRefused
 from ._log import Log
 from ._reading import read_file
+from ._role import Role, of_room
 from ._scripts import label_of
 from ._trial import not_restorable, try_file
 
@@ -42,14 +43,16 @@ def check(path: Path) -> int:
     if file.store.sqlite is not None and not file.store.sqlite.exists():
         print(f"{path}: {len(file.tables)} tables, {len(file.requests)} requests; no store yet")
         return 0
-    store = store_of(file)
-    try:
-        waiters = store.waiters()
-    except StoreError as error:
-        print(f"{path}: the store can't be read: {error}", file=sys.stderr)
-        return 1
-    finally:
-        store.close()
+    waiters = []
+    for room in file.rooms or ("",):
+        store = store_of(of_room(file, room))
+        try:
+            waiters += store.waiters()
+        except StoreError as error:
+            print(f"{path}: the store can't be read: {error}", file=sys.stderr)
+            return 1
+        finally:
+            store.close()
     lost = list(not_restorable(file, iter(waiters)))
     for waiter, why in lost:
         label = label_of(waiter.script)
@@ -61,15 +64,14 @@ def check(path: Path) -> int:
     return 1 if lost and not file.store.sets_aside else 0
 
 
-async def serve(file: ServiceFile, stands_by: bool) -> int:
-    """Serves a file, if it stands by once no other process that does serves from the store; the status with which the
-    process ends."""
+async def serve(file: ServiceFile, role: Role) -> int:
+    """Serves a file, as much of it as the role says; the status with which the process ends."""
     from ._server import Server
 
     log = Log()
     log.take_up()
     try:
-        return await Server(file, log, stands_by).run()
+        return await Server(file, log, role).run()
     finally:
         log.close()
 
@@ -86,9 +88,14 @@ def main(words: Optional[Sequence[str]] = None) -> int:
     parser.add_argument("file", type=Path, metavar="FILE")
     parser.add_argument("--check", action="store_true", help="tell each fault with its line, and start nothing")
     parser.add_argument("--standby", action="store_true", help="serve once no other process started so serves")
+    parser.add_argument("--front", action="store_true", help="take requests for rooms that other processes have")
+    parser.add_argument("--room", nargs="?", const="", help="have this room, or stand by; clients ask fronts")
     parser.add_argument("--port", type=int, help="in place of the port of `listen`")
     parser.add_argument("--operate-port", type=int, metavar="PORT", help="in place of the port of `operate`")
     options = parser.parse_args(words)
+    if options.front and options.room is not None or options.standby and (options.front or options.room is not None):
+        parser.error("a process is a front, or has a room, or stands by for all of it; who has a room stands by anyway")
+    role = Role(options.front, options.room, options.standby)
     if sys.version_info < (3, 11):
         print("entangle-server: a server needs Python 3.11 or later", file=sys.stderr)
         return 2
@@ -96,7 +103,8 @@ def main(words: Optional[Sequence[str]] = None) -> int:
         if options.check:
             return check(options.file)
         file = _on_ports(checked(options.file), options.port, options.operate_port)
-        return asyncio.run(serve(file, options.standby))
+        role.check(file)
+        return asyncio.run(serve(file, role))
     except FileRefused as error:
         print(error, file=sys.stderr)
         return 1

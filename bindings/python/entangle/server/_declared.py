@@ -134,7 +134,7 @@ class Limits:
 
 @dataclass(frozen=True)
 class ServiceFile:
-    """All that a file says."""
+    """All that a file says. Where it names rooms, the parameter `partition` says to which one a request goes."""
 
     path: Path
     tables: Mapping[str, ServedTable]
@@ -147,6 +147,8 @@ class ServiceFile:
     trusted_proxies: tuple[Network, ...] = ()
     tokens: Optional[Path] = None
     page: Optional[Path] = None
+    partition: Optional[str] = None
+    rooms: tuple[str, ...] = ()
 
     @property
     def declared(self) -> list[Table]:

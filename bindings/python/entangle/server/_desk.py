@@ -13,9 +13,8 @@ from typing import Any, Callable, Optional, Sequence, Union, cast
 from .._errors import Error, OutOfMemory
 from .._groups import Group
 from .._refusals import BatchIsOn, RoomFull
-from .._room import Patience
-from .._values import Value
 from ..stores import DurableRoom, Outcome, RefusedByStore, Request, RowCounts, StoreFailed, StoreTaken, Turn, Waiter
+from ..stores import key_of_part
 from ._book import Book, Waiting
 from ._declared import ServiceFile
 from ._forgetting import Forgetting
@@ -23,12 +22,13 @@ from ._ledger import AnyStore, Ledger
 from ._log import Log
 from ._messages import Call, Look, Message, News, Put, ReadTable, SetAside, Survey, Taken, Watch, Withdraw
 from ._metrics import Metrics
-from ._positions import Position, digest_of_values, ended_position, forgotten_position, key_of_script, seconds_of
+from ._positions import Position, digest_of_values, ended_position, forgotten_position, seconds_of
 from ._problems import Problem, busy, ending, not_found, store_fails
-from ._scripts import Label, Script, label_of
+from ._putting import requests_of, until_of, until_problem
+from ._scripts import Label, label_of
 from ._survey import GroupSeen, json_of_rows, survey
 
-_SWEEP_SECONDS = 1.0
+SWEEP_SECONDS = 1.0
 _LEAST_PAUSE, _MOST_PAUSE = 0.05, 1.0
 _MOST_ENDED = 10_000
 _MOST_GROUPS = 50
@@ -67,6 +67,10 @@ class Desk:
         self._next_sweep = 0.0
         self._forgetting = Forgetting(file.store.forget_after, log)
         self._room: Optional[DurableRoom] = None
+
+    def waiting(self) -> int:
+        """How many requests wait."""
+        return len(self.book.requests)
 
     @property
     def room(self) -> DurableRoom:
@@ -112,14 +116,14 @@ class Desk:
         self.log.say("stands by")
         while not self._stops.is_set():
             try:
-                if self.turn.take(_SWEEP_SECONDS):
+                if self.turn.take(SWEEP_SECONDS):
                     self.log.say("has the turn")
                     return True
                 self.fault = "another process serves, and this one stands by"
             except StoreFailed as error:
                 self.fault = str(error)
                 self.log.say("store fails", error=self.fault)
-                self._refuse_sent(_SWEEP_SECONDS)
+                self._refuse_sent(SWEEP_SECONDS)
             self._refuse_sent(0.0)
         return False
 
@@ -136,7 +140,7 @@ class Desk:
             except StoreFailed as error:
                 self.fault = str(error)
                 self.log.say("store fails", error=self.fault)
-                self._refuse_sent(_SWEEP_SECONDS)
+                self._refuse_sent(SWEEP_SECONDS)
                 continue
             self._load()
             self.fault = None
@@ -161,7 +165,7 @@ class Desk:
         """Does what is sent, and makes steps, until it is told to stop."""
         is_idle, pause = False, _LEAST_PAUSE
         while True:
-            messages = self._sent(_SWEEP_SECONDS if is_idle else 0.0)
+            messages = self._sent(SWEEP_SECONDS if is_idle else 0.0)
             if self._stops.is_set() and self._queue.empty() and not messages:
                 return
             try:
@@ -260,10 +264,9 @@ class Desk:
 
     def _refusal(self, call: Put, waiting: int) -> Optional[Problem]:
         """Why a new request can't be put."""
-        wait, now, limits = call.declared.wait, time.time(), self.file.limits
-        if call.until is not None and not now + wait.least - 1 <= call.until <= now + wait.most + 1:
-            said = f"{call.declared.name} waits for {wait.least} to {wait.most} seconds: until is in seconds since 1970"
-            return Problem(400, "until_wrong", said)
+        limits, problem = self.file.limits, until_problem(call)
+        if problem is not None:
+            return problem
         if call.declared.when_full:
             return None
         if waiting >= limits.waiting_in_all:
@@ -286,16 +289,9 @@ class Desk:
 
     def _requests_of(self, call: Put) -> list[Request]:
         """The scripts of a request as the room takes them."""
-        seconds = call.until or int(time.time()) + call.declared.wait.default
-        until = datetime.fromtimestamp(seconds, timezone.utc)
-        values: dict[str, Value] = {**call.values, "request": call.digest}
+        until = datetime.fromtimestamp(until_of(call), timezone.utc)
         label = Label(call.declared.name, digest_of_values(call.declared.name, call.values), call.subject)
-
-        def one(number: int, script: Script) -> Request:
-            key = key_of_script(call.digest, number)
-            return Request(label.line() + script.text, script.bound(values), Patience.UNTIL_WITHDRAWN, key, until)
-
-        return [one(number, script) for number, script in enumerate(call.declared.scripts)]
+        return requests_of(call.declared, call.digest, call.values, label, until)
 
     def _not_put(self, call: Put, error: Error) -> Problem:
         if isinstance(error, RoomFull):
@@ -367,7 +363,7 @@ class Desk:
         scripts: dict[int, str] = {}
         label: Optional[Label] = None
         until = 0
-        while (waiter := store.put_with(key_of_script(digest, len(scripts)))) is not None:
+        while (waiter := store.put_with(key_of_part(digest, len(scripts)))) is not None:
             number = len(scripts)
             label = label if number else label_of(waiter.script)
             until = seconds_of(waiter.until)
@@ -421,7 +417,7 @@ class Desk:
                 position = self._waiting_position(followed)
                 if before != followed.why:
                     self._news[digest] = position
-        self._next_sweep = time.monotonic() + _SWEEP_SECONDS
+        self._next_sweep = time.monotonic() + SWEEP_SECONDS
 
     def _written(self, groups: Sequence[Group], ended: Sequence[Outcome], waiting: Sequence[Waiter]) -> None:
         """The store has this since."""

@@ -13,9 +13,8 @@ from ._answers import Response, caller_of, json_answer
 from ._board import Board
 from ._bodies import DIGEST, object_of
 from ._declared import ServiceFile
-from ._desk import Desk
 from ._log import Log
-from ._messages import Call, SetAside, Survey, Withdraw
+from ._messages import AnyDesk, Call, SetAside, Survey, Withdraw
 from ._metrics import Metrics
 from ._problems import Problem, busy, not_found
 from ._public import DESK_SECONDS, LAG_SECONDS, PublicApi
@@ -29,7 +28,7 @@ class InnerApi:
     """Whether the server lives and serves, what it counts, and what an operator sees and does."""
 
     def __init__(
-        self, file: ServiceFile, desk: Desk, board: Board, public: PublicApi, tokens: Optional[Tokens], log: Log
+        self, file: ServiceFile, desk: AnyDesk, board: Board, public: PublicApi, tokens: Optional[Tokens], log: Log
     ) -> None:
         self.file, self.desk, self.board, self.public, self.tokens, self.log = file, desk, board, public, tokens, log
         self.hosts: tuple[str, ...] = ()
@@ -74,7 +73,7 @@ class InnerApi:
     async def counted(self, request: web.Request) -> Response:
         gauges = {
             "ready": float(self.desk.fault is None and not self.public.is_ending),
-            "waiting": float(len(self.desk.book.requests)),
+            "waiting": float(self.desk.waiting()),
             "most_waiting": float(self.file.limits.waiting_in_all),
             "rows": float(self.desk.rows.count),
             "most_rows": float(self.desk.rows.most),

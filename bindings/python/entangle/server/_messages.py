@@ -1,14 +1,19 @@
-"""What is passed between those who answer HTTP and the desk."""
+"""What is passed between those who answer HTTP and the desk.
+
+In a fleet a message may name its room; without one it is for whichever room knows of it.
+"""
 
 from __future__ import annotations
 
 import asyncio
 import time
 from dataclasses import dataclass, field
-from typing import Any, Generic, Mapping, Optional, TypeVar, Union
+from typing import Any, Generic, Mapping, Optional, Protocol, TypeVar, Union
 
 from .._values import Value
+from ..stores import RowCounts
 from ._declared import RequestType
+from ._metrics import Metrics
 from ._positions import Position
 
 Answer = TypeVar("Answer")
@@ -51,6 +56,7 @@ class Withdraw(Call[Position]):
     digest: str
     subject: Optional[str]
     is_operator: bool = False
+    room: Optional[str] = None
 
 
 @dataclass(eq=False)
@@ -60,6 +66,7 @@ class Look(Call["list[Optional[Position]]"]):
     digests: tuple[str, ...]
     subject: Optional[str]
     is_reader: bool = False
+    room: Optional[str] = None
 
 
 @dataclass(eq=False)
@@ -67,6 +74,7 @@ class ReadTable(Call[bytes]):
     """The rows of a table, in JSON."""
 
     name: str
+    room: Optional[str] = None
 
 
 @dataclass(eq=False)
@@ -85,6 +93,7 @@ class Watch:
 
     digests: tuple[str, ...]
     count: int
+    room: Optional[str] = None
 
 
 Message = Union[Put, Withdraw, Look, ReadTable, Survey, SetAside, Watch]
@@ -98,3 +107,26 @@ class News:
     positions: tuple[Position, ...]
     tables: frozenset[str]
     endings: int
+
+
+class AnyDesk(Protocol):
+    """What serves messages: the desk of a room, or a front."""
+
+    metrics: Metrics
+    rows: RowCounts
+
+    @property
+    def fault(self) -> Optional[str]:
+        """Why nobody can be served; None if that isn't so."""
+
+    def waiting(self) -> int:
+        """How many requests wait."""
+
+    def send(self, message: Message) -> None:
+        """Passes a message on; any thread may."""
+
+    def run(self) -> Optional[str]:
+        """Serves until it is stopped; why it ended, if nobody stopped it."""
+
+    def stop(self) -> None:
+        """Has run() end once all that was sent until now is done."""

@@ -22,7 +22,7 @@ def described(file: ServiceFile) -> Schema:
     needs_token = file.tokens is not None
     paths: Schema = {f"/v1/requests/{name}": {"post": _put(one)} for name, one in file.requests.items()}
     paths["/v1/requests/look"] = {"post": _look(file)}
-    paths["/v1/requests/{digest}"] = {"get": _one(needs_token), "delete": _withdraw(needs_token)}
+    paths["/v1/requests/{digest}"] = {"get": _one(file), "delete": _withdraw(file)}
     paths["/v1/events"] = {"post": _events(file)}
     for name, served in file.tables.items():
         if served.read != "nobody":
@@ -96,9 +96,20 @@ def _look(file: ServiceFile) -> Schema:
     good = {"description": "how each stands", "content": {"application/json": {"schema": schema}}}
     return {
         "operationId": "look",
-        "requestBody": _body({"keys": keys}, ["keys"], {"keys": ["0123456789abcdef0123456789abcdef"]}),
+        "requestBody": _body(
+            {"keys": keys, **_room(file)}, ["keys"], {"keys": ["0123456789abcdef0123456789abcdef"]}
+        ),
         "responses": _answers({"200": good}, 401, 403, 408, 413, 415),
     }
+
+
+def _room(file: ServiceFile) -> Mapping[str, Schema]:
+    """The room that a call names, in a fleet."""
+    return {} if file.partition is None else {file.partition: {"enum": list(file.rooms)}}
+
+
+def _room_parameters(file: ServiceFile, must: bool) -> list[Schema]:
+    return [{"name": name, "in": "query", "required": must, "schema": one} for name, one in _room(file).items()]
 
 
 def _digest_parameters(needs_token: bool) -> list[Schema]:
@@ -107,19 +118,19 @@ def _digest_parameters(needs_token: bool) -> list[Schema]:
     return [digest] if needs_token else [digest, key]
 
 
-def _one(needs_token: bool) -> Schema:
+def _one(file: ServiceFile) -> Schema:
     wait = {"name": "wait", "in": "query", "schema": {"type": "integer", "minimum": 0, "maximum": 30}}
     return {
         "operationId": "one",
-        "parameters": [*_digest_parameters(needs_token), wait],
+        "parameters": [*_digest_parameters(file.tokens is not None), *_room_parameters(file, False), wait],
         "responses": _answers({"200": {"description": "how it stands", "content": _STANDS}}, 401, 403, 404),
     }
 
 
-def _withdraw(needs_token: bool) -> Schema:
+def _withdraw(file: ServiceFile) -> Schema:
     return {
         "operationId": "withdraw",
-        "parameters": _digest_parameters(needs_token),
+        "parameters": [*_digest_parameters(file.tokens is not None), *_room_parameters(file, False)],
         "responses": _answers({"200": {"description": "it is withdrawn", "content": _STANDS}}, 401, 403, 404, 409),
     }
 
@@ -132,7 +143,7 @@ def _events(file: ServiceFile) -> Schema:
     return {
         "operationId": "events",
         "parameters": [last],
-        "requestBody": _body({"keys": keys, "tables": tables}, [], {"keys": []}),
+        "requestBody": _body({"keys": keys, "tables": tables, **_room(file)}, [], {"keys": []}),
         "responses": _answers({"200": good}, 401, 403, 404, 408, 413, 415),
     }
 
@@ -144,6 +155,7 @@ def _table(file: ServiceFile, name: str) -> Schema:
     good = {"description": "its rows, with an ETag", "content": {"application/json": {"schema": schema}}}
     return {
         "operationId": f"table_{name}",
+        "parameters": _room_parameters(file, True),
         "responses": _answers({"200": good, "304": {"description": "they are those of the ETag"}}, 401, 403, 404),
         **({"security": []} if file.tables[name].read == "anybody" else {}),
     }

@@ -33,11 +33,6 @@ def digest_of_values(name: str, values: Mapping[str, Value]) -> str:
     return hashlib.sha256(said.encode()).hexdigest()[:32]
 
 
-def key_of_script(digest: str, number: int) -> str:
-    """The key under which the store has a script of a request: the first has the digest itself."""
-    return digest if number == 0 else f"{digest}.{number}"
-
-
 @dataclass(frozen=True)
 class Position:
     """How a request stands: it waits, and why; it is booked, with its answers by name; or it has ended otherwise, and

@@ -12,10 +12,11 @@ from aiohttp import web
 from ._access import Caller, Rates, Tokens, address_of
 from ._answers import Response, caller_of, json_answer
 from ._board import Board, Follower
-from ._bodies import DIGEST, checked_key, checked_keys, checked_until, checked_values, last_event, object_of
+from ._bodies import DIGEST, checked_key, checked_keys, checked_room, checked_until, checked_values, last_event
+from ._bodies import object_of
 from ._declared import ServiceFile
-from ._desk import Desk
-from ._messages import Call, Look, Put, ReadTable, Withdraw
+from ._front import name_in
+from ._messages import AnyDesk, Call, Look, Put, ReadTable, Watch, Withdraw
 from ._openapi import described
 from ._positions import Position, digest_of
 from ._problems import Problem, busy, ending, not_found
@@ -31,7 +32,7 @@ _KEY_HEADER = "Entangle-Key"
 class PublicApi:
     """What clients may call: passes it to the desk, and tells what the desk says."""
 
-    def __init__(self, file: ServiceFile, desk: Desk, board: Board, tokens: Optional[Tokens]) -> None:
+    def __init__(self, file: ServiceFile, desk: AnyDesk, board: Board, tokens: Optional[Tokens]) -> None:
         self.file, self.desk, self.board, self.tokens = file, desk, board, tokens
         self.origins: tuple[str, ...] = file.origins
         self.is_ending = False
@@ -127,19 +128,31 @@ class PublicApi:
 
     async def look(self, request: web.Request) -> Response:
         caller = self._may(request, "ask")
-        given = await object_of(request, self.file.limits.body_seconds, ("keys",))
-        digests = checked_keys(given, self.file.limits.keys)
-        seen = await self._seen(digests, caller)
+        given = await object_of(request, self.file.limits.body_seconds, ("keys", *self._fields()))
+        digests, room = checked_keys(given, self.file.limits.keys), self._room(given)
+        seen = await self._seen(digests, caller, room)
         return json_answer({"requests": [one.said() if one else _UNKNOWN for one in seen]})
 
-    async def _seen(self, digests: tuple[str, ...], caller: Caller) -> list[Optional[Position]]:
+    def _fields(self) -> tuple[str, ...]:
+        """What a body may say beside what is asked: the room of a fleet."""
+        return () if self.file.partition is None else (self.file.partition,)
+
+    def _room(self, given: Mapping[str, Any], must: bool = False) -> Optional[str]:
+        """The room that a call names, if it does. Raises Problem."""
+        return checked_room(self.file, given, must)
+
+    async def _seen(
+        self, digests: tuple[str, ...], caller: Caller, room: Optional[str]
+    ) -> list[Optional[Position]]:
         """How requests stand, for who may see them; by memory alone where they have ended, or the desk can't tell."""
         is_reader = self.tokens is not None and "read" in caller.rights
         known = [self.board.position(digest) for digest in digests]
         may_ask = self.desk.fault is None and self.board.lag() <= LAG_SECONDS
         if may_ask and not all(position is not None and position.is_over for position in known):
             future = asyncio.get_running_loop().create_future()
-            found: list[Optional[Position]] = await self._asked(Look(future, digests, caller.subject, is_reader))
+            found: list[Optional[Position]] = await self._asked(
+                Look(future, digests, caller.subject, is_reader, room)
+            )
             return found
         if not may_ask and None in known:
             raise busy()
@@ -158,10 +171,12 @@ class PublicApi:
         said = request.query.get("wait", "0")
         if not said.isdecimal() or len(said) > 3 or int(said) > MOST_WAIT:
             raise Problem(400, "value_wrong", f"wait is from 0 to {MOST_WAIT} seconds")
-        follower = Follower(frozenset([digest]))
+        room, follower = self._room(request.query), Follower(frozenset([digest]))
         self.board.follow(follower)
+        if int(said):
+            self.desk.send(Watch((digest,), 1, room))
         try:
-            (position,) = await self._seen((digest,), caller)
+            (position,) = await self._seen((digest,), caller, room)
             if position is None:
                 raise not_found()
             until = asyncio.get_running_loop().time() + int(said)
@@ -175,27 +190,29 @@ class PublicApi:
                 position = follower.positions.pop(digest, position)
         finally:
             self.board.leave(follower)
+            if int(said):
+                self.desk.send(Watch((digest,), -1, room))
         return json_answer(position.said())
 
     async def withdraw(self, request: web.Request) -> Response:
         digest, caller = self._own(request)
         future = asyncio.get_running_loop().create_future()
-        position = await self._asked(Withdraw(future, digest, caller.subject))
+        position = await self._asked(Withdraw(future, digest, caller.subject, room=self._room(request.query)))
         return json_answer(position.said())
 
     async def events(self, request: web.Request) -> Response:
         caller = self._may(request, "ask")
-        given = await object_of(request, self.file.limits.body_seconds, ("keys", "tables"))
+        given = await object_of(request, self.file.limits.body_seconds, ("keys", "tables", *self._fields()))
         digests, tables = checked_keys(given, self.file.limits.keys), given.get("tables", [])
         if not isinstance(tables, list) or not all(isinstance(name, str) for name in tables):
             raise Problem(400, "value_wrong", "tables is a list of names")
         for name in tables:
             self._readable(name, caller)
-        after = last_event(request)
+        after, room = last_event(request), self._room(given, bool(tables))
         with self.streams.opened(caller.client) as stream:
-            seen = await self._seen(digests, caller)
-            headers = self.headers(request)
-            return await stream.serve(request, digests, frozenset(tables), seen, after, headers)
+            seen = await self._seen(digests, caller, room)
+            headers, followed = self.headers(request), frozenset(name_in(room, name) for name in tables)
+            return await stream.serve(request, digests, followed, seen, after, headers, room)
 
     # ---- tables, and what is told of all
 
@@ -212,10 +229,12 @@ class PublicApi:
     async def table(self, request: web.Request) -> Response:
         name = request.match_info["name"]
         self._readable(name, caller_of(request))
-        table = self.board.table(name)
+        room = self._room(request.query, True)
+        table = self.board.table(name_in(room, name))
         if table is None:
             future = asyncio.get_running_loop().create_future()
-            table = self.board.keep_table(name, await self._asked(ReadTable(future, name)))
+            body = await self._asked(ReadTable(future, name, room))
+            table = self.board.keep_table(name_in(room, name), body)
         headers = {"ETag": table.tag, "Cache-Control": "no-cache"}
         if request.headers.get("If-None-Match") == table.tag:
             return web.Response(status=304, headers=headers)

@@ -4,6 +4,7 @@ from __future__ import annotations
 
 import ipaddress
 import re
+from dataclasses import replace
 from pathlib import Path
 from typing import Mapping, Optional, Union, cast
 
@@ -28,13 +29,17 @@ def read_file(path: Union[str, Path]) -> ServiceFile:
     outer = read_toml(Path(path))
     tables = {name: _table(name, section) for name, section in outer.sections("tables")}
     wait = _wait(outer.section("wait"), Wait())
-    requests = {name: _request(name, section, wait) for name, section in outer.sections("requests")}
+    partition, rooms = _partition(outer)
+    requests = {name: _request(name, section, wait, partition) for name, section in outer.sections("requests")}
+    requests = {name: _in_rooms(outer, one, partition, rooms) for name, one in requests.items()}
     limits, origins, proxies = _limits(outer.section("limits")), outer.texts("origins"), _networks(outer)
     public = _address(outer.section("listen"), Address("127.0.0.1", 8000))
     inner = _address(outer.section("operate"), Address("127.0.0.1", 8001))
     tokens, page = _beside(outer, "tokens"), _beside(outer, "page")
     store = _store(outer.section("store"), Path(path))
     outer.done()
+    if partition is not None and store.postgres is None:
+        outer.source.fault(("partition",), "a file with rooms names a database of PostgreSQL: store.postgres")
     if not tables:
         outer.source.fault((), "the file declares no table: [tables.NAME]")
     if not requests:
@@ -49,7 +54,19 @@ def read_file(path: Union[str, Path]) -> ServiceFile:
     if outer.source.faults:
         raise FileRefused(tuple(sorted(set(outer.source.faults))))
     return ServiceFile(
-        Path(path), served, requests, store, limits, public, inner, tuple(origins), proxies, tokens, page
+        Path(path),
+        served,
+        requests,
+        store,
+        limits,
+        public,
+        inner,
+        tuple(origins),
+        proxies,
+        tokens,
+        page,
+        partition,
+        rooms,
     )
 
 
@@ -76,6 +93,39 @@ def _beside(outer: Section, key: str) -> Optional[Path]:
     """A file that is named by where it is from this one."""
     name = outer.find(key, str)
     return None if name is None else outer.source.path.parent / name
+
+
+# ---- rooms
+
+
+def _partition(outer: Section) -> tuple[Optional[str], tuple[str, ...]]:
+    """The parameter by which requests go to rooms, and the rooms."""
+    partition, rooms = outer.find("partition", str), tuple(outer.texts("rooms"))
+    for number, room in enumerate(rooms):
+        if not _NAME.fullmatch(room) or room.startswith("pg_"):
+            outer.source.fault(("rooms", number), f"no room can have the name {room}: small letters, digits and _")
+    if len(set(rooms)) < len(rooms):
+        outer.fault("rooms", "names a room twice")
+    if (partition is None) != (not rooms):
+        outer.source.fault((), "partition names a parameter, and rooms the values that it may have: both are said")
+    if partition in ("key", "keys", "tables", "values", "until", "wait"):
+        outer.fault("partition", f"can't be {partition}, which calls have already")
+    return (partition, rooms) if rooms else (None, ())
+
+
+def _in_rooms(
+    outer: Section, request: RequestType, partition: Optional[str], rooms: tuple[str, ...]
+) -> RequestType:
+    """A request whose parameter `partition` is the name of a room."""
+    if partition is None:
+        return request
+    parameter = request.parameters.get(partition)
+    if parameter is None or parameter.kind != "TEXT" or parameter.from_subject:
+        said = f"{request.name} has no parameter {partition} of kind TEXT, by which it goes to a room"
+        outer.source.fault(("requests", request.name), said)
+        return request
+    parameter = replace(parameter, pattern=re.compile("|".join(rooms)))
+    return replace(request, parameters={**request.parameters, partition: parameter})
 
 
 # ---- tables
@@ -128,7 +178,7 @@ def _stored_columns(section: Section) -> dict[str, str]:
 # ---- requests
 
 
-def _request(name: str, section: Section, wait: Wait) -> RequestType:
+def _request(name: str, section: Section, wait: Wait, partition: Optional[str]) -> RequestType:
     if not _NAME.fullmatch(name) or name in _RESERVED:
         section.source.fault(section.path, f"no request can have the name {name}: small letters, digits and _")
     parameters = {one: _parameter(one, inner) for one, inner in section.sections("parameters")}
@@ -138,7 +188,7 @@ def _request(name: str, section: Section, wait: Wait) -> RequestType:
     section.done()
     used = {variable for script in scripts for variable in variables_of(script.text)}
     for one in parameters:
-        if scripts and one not in used:
+        if scripts and one not in used and one != partition:
             section.source.fault((*section.path, "parameters", one), f"no script of {name} uses @{one}")
     return RequestType(name, parameters, scripts, own, answers, when_full)
 

@@ -12,8 +12,7 @@ from aiohttp import web
 
 from ._board import Board, Follower
 from ._declared import Limits
-from ._desk import Desk
-from ._messages import Watch
+from ._messages import AnyDesk, Watch
 from ._positions import Position
 from ._problems import Problem
 
@@ -24,7 +23,7 @@ _HEADERS = {"Content-Type": "text/event-stream", "Cache-Control": "no-store", "X
 class Streams:
     """The streams that are open, of all clients."""
 
-    def __init__(self, limits: Limits, desk: Desk, board: Board) -> None:
+    def __init__(self, limits: Limits, desk: AnyDesk, board: Board) -> None:
         self.count = 0
         self._limits, self._desk, self._board = limits, desk, board
         self._of_client: Counter[str] = Counter()
@@ -48,7 +47,7 @@ class Streams:
 class Stream:
     """A stream to one client: how its requests stand, and which tables have changed."""
 
-    def __init__(self, desk: Desk, board: Board) -> None:
+    def __init__(self, desk: AnyDesk, board: Board) -> None:
         self._desk, self._board = desk, board
 
     async def serve(
@@ -59,13 +58,14 @@ class Stream:
         seen: Sequence[Optional[Position]],
         after: int,
         headers: Mapping[str, str],
+        room: Optional[str],
     ) -> web.StreamResponse:
         """Tells how requests stand, but for those that ended up to the event `after`; and from then on what changes."""
         own = frozenset(position.digest for position in seen if position is not None)
         response = web.StreamResponse(headers={**_HEADERS, "X-Request-Id": request["id"], **headers})
         follower = Follower(own, tables)
         self._board.follow(follower)
-        self._desk.send(Watch(tuple(own), 1))
+        self._desk.send(Watch(tuple(own), 1, room))
         with suppress(ConnectionError, asyncio.TimeoutError):  # the client comes again
             try:
                 await response.prepare(request)
@@ -73,7 +73,7 @@ class Stream:
                 await self._go_on(response, follower)
             finally:
                 self._board.leave(follower)
-                self._desk.send(Watch(tuple(own), -1))
+                self._desk.send(Watch(tuple(own), -1, room))
         return response
 
     def _first(self, digests: Sequence[str], seen: Sequence[Optional[Position]], after: int) -> bytes:
@@ -101,7 +101,7 @@ class Stream:
             positions, follower.positions = follower.positions, {}
             changed, follower.changed = follower.changed, set()
             said = self._event("requests", [one.said() for one in positions.values()]) if positions else b""
-            said += self._event("tables", sorted(changed)) if changed else b""
+            said += self._event("tables", sorted(map(_own_name, changed))) if changed else b""
             if said:
                 await self._write(response, said)
 
@@ -110,3 +110,8 @@ class Stream:
 
     async def _write(self, response: web.StreamResponse, said: bytes) -> None:
         await asyncio.wait_for(response.write(said), _WRITE_SECONDS)
+
+
+def _own_name(name: str) -> str:
+    """A table as its file names it, of whichever room it is."""
+    return name.rpartition("/")[2]

@@ -19,9 +19,13 @@ needs psycopg 3.
 Every error of this module is a StoreError, and so an entangle.Error.
 """
 
+from ._asked import Ended, Fate, InboxRequest, Queued, Rejected, Waiting
+from ._desk import Desk, Scripts, Unfolds, key_of_part
 from ._durable import DurableRoom
+from ._ears import Ear
 from ._errors import KeyUsedOtherwise, NotLoadable, NotRestored, RefusedByStore, StoreDiffers, StoredFault, StoreError
 from ._errors import StoreFailed, StoreTaken
+from ._inbox import Backlog, InboxFull, PostgresInbox
 from ._kept import Loaded, Outcome, UsedKey, Waiter, asked_digest, outcomes_of
 from ._memory import OpenRoom, Opens
 from ._postgres import PostgresStore
@@ -33,7 +37,14 @@ from ._turns import PostgresTurn, SqliteTurn, Turn
 from ._watched import NearlyFull, RowCounts, StepStats
 
 __all__ = [
+    "Backlog",
+    "Desk",
     "DurableRoom",
+    "Ear",
+    "Ended",
+    "Fate",
+    "InboxFull",
+    "InboxRequest",
     "KeyUsedOtherwise",
     "Kind",
     "Loaded",
@@ -43,12 +54,16 @@ __all__ = [
     "OpenRoom",
     "Opens",
     "Outcome",
+    "PostgresInbox",
     "PostgresStore",
     "PostgresTurn",
+    "Queued",
     "Ready",
     "RefusedByStore",
+    "Rejected",
     "Request",
     "RowCounts",
+    "Scripts",
     "SqliteStore",
     "SqliteTurn",
     "StepStats",
@@ -60,9 +75,12 @@ __all__ = [
     "StoredFault",
     "Table",
     "Turn",
+    "Unfolds",
     "UsedKey",
     "Waiter",
+    "Waiting",
     "asked_digest",
+    "key_of_part",
     "nobody_ends",
     "outcomes_of",
 ]

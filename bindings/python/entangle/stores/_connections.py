@@ -15,6 +15,25 @@ _KEPT_ALIVE = {"keepalives_idle": 5, "keepalives_interval": 2, "keepalives_count
 _OF_HOSTS = ("host", "hostaddr", "port")
 
 
+# Connections of processes from which this one was forked.
+_inherited: list[object] = []
+
+
+class Connected:
+    """What has a connection, if there is one, and the process that has it."""
+
+    _connection: Any = None
+    _process: int
+
+    def _is_forked(self) -> bool:
+        """Whether this process was forked from the one that has the connection, which stays with that one."""
+        if self._process == os.getpid():
+            return False
+        _inherited.append(self._connection)  # to close it here would end what the other process does there
+        self._process, self._connection = os.getpid(), None
+        return True
+
+
 def each_host(engine: Any, dsn: str, **settings: object) -> list[str]:
     """The dsn of each of its hosts by itself, with these settings where it has none: a host that doesn't answer keeps
     nobody from the next one. Raises ValueError for a dsn that can't be read."""
@@ -53,6 +72,10 @@ class Hosts:
         if len(errors) == 1:
             raise errors[0]
         raise self._engine.OperationalError("; ".join(str(error).strip() for error in errors)) from errors[-1]
+
+    def others(self) -> Hosts:
+        """The same hosts, for another connection."""
+        return Hosts(self._engine, self._dsns)
 
     def pass_over(self) -> None:
         """Tries the next host first, since the one of the last connection doesn't answer."""

@@ -446,6 +446,18 @@ class DurableRoom:
             self._check_open()
             return sorted(self._now.waiting)
 
+    def waiting_count(self) -> int:
+        """How many scripts wait, as the store has it."""
+        with self._lock:
+            self._check_open()
+            return len(self._now.waiting)
+
+    def waiting_with(self, keys: Sequence[str]) -> dict[str, Ticket]:
+        """The tickets under which those of the requests with these keys wait that wait still, as the store has it."""
+        with self._lock:
+            self._check_open()
+            return {key: self._now.keys[key] for key in keys if key in self._now.keys}
+
     def ended(self) -> list[Ticket]:
         """The last 1,024 tickets that ended while this room was open, as the store has them, the last first."""
         with self._lock:

@@ -44,7 +44,8 @@ class OwnTables:
         """Names of tables and indexes that no table of a room can have, in small letters."""
         ends = ("claim", "tickets", "keys", "waiting", "commits", "claim_pkey", "tickets_pkey", "keys_pkey")
         more = ("tickets_request_key_key", "keys_ticket_key", "tickets_taken_up", "rebuilt")
-        own = {f"{self.name}_{end}" for end in (*ends, *more)}
+        inbox = ("inbox", "inbox_id_seq", "inbox_pkey", "inbox_request_key_kind_key", "inbox_state", "inbox_state_pkey")
+        own = {f"{self.name}_{end}" for end in (*ends, *more, *inbox)}
         return frozenset({"entangle_tables", "entangle_tables_pkey"} | own)
 
     def creations(self) -> list[str]:

@@ -16,6 +16,7 @@ from .._groups import Group
 from .._tickets import Ending, Ticket, TicketCommitted, TicketFailed, TicketNotRestored, TicketRefusedByStore
 from .._tickets import ending_of_words
 from .._values import Row
+from ._connections import Connected
 from ._errors import NotLoadable, RefusedByStore, StoreDiffers, StoredFault, StoreError, StoreFailed, StoreTaken
 from ._forms import FORM, OwnTables, quoted
 from ._kept import Loaded, Outcome, Update, UsedKey, Waiter, answers_of, answers_text, asked_digest, key_digest
@@ -59,8 +60,6 @@ Running = Callable[[Sequence["Change"]], list[int]]
 
 _STORE_NAME = re.compile(r"[a-z][a-z0-9_]{0,39}")
 _TAKEN = "the store isn't as this process left it: another one has loaded it since, or it went back to an earlier state"
-# Connections of processes from which this one was forked.
-_inherited: list[object] = []
 # So many who wait are read by one statement.
 _WAITERS_AT_ONCE = 10_000
 # Of so many tickets one transaction forgets those that ended.
@@ -149,7 +148,7 @@ class Held:
         return Held(self.process, self.claim, write, self.drawn, last_group, update.next_ticket, update.epoch, update)
 
 
-class SqlStore(ABC):
+class SqlStore(Connected, ABC):
     """A store in a database of SQL. Threads may share it: a lock inside gives it to one call at a time.
 
     Beside the tables of the room it has four of its own. NAME_claim has one row with the numbers of the claim and of
@@ -158,8 +157,6 @@ class SqlStore(ABC):
     forgotten; and entangle_tables says which store has which table.
     """
 
-    # the connection, if there is one
-    _connection: Any = None
     _mark = "?"
     _integer = "INTEGER"
     _blob = "BLOB"
@@ -173,7 +170,7 @@ class SqlStore(ABC):
         self._claims, self._tickets, self._keys = self._own.claims, self._own.tickets, self._own.keys
         self._lock = threading.RLock()
         self._tables: dict[str, Table] = {}
-        self._process = os.getpid()  # the process that has the connection
+        self._process = os.getpid()
         self._held: Optional[Held] = None
         self._puts = self._insertion(self._tickets, _WAITER)
         self._counts = self._update(self._tickets, {"batches": "INT"}, _TICKET, "ending")
@@ -251,14 +248,6 @@ class SqlStore(ABC):
     @abstractmethod
     def close(self) -> None:
         """Gives up the connection; nothing that was written is lost. load() connects anew."""
-
-    def _is_forked(self) -> bool:
-        """Whether this process was forked from the one that has the connection, which stays with that one."""
-        if self._process == os.getpid():
-            return False
-        _inherited.append(self._connection)  # to close it here would end what the other process does there
-        self._process, self._connection = os.getpid(), None
-        return True
 
     # ---- loading
 
@@ -625,6 +614,12 @@ class SqlStore(ABC):
         if found is None or tuple(found) not in own:
             self._held = None
             raise StoreTaken(_TAKEN)
+
+    def version(self) -> tuple[int, int]:
+        """The claim of this process, and the token of its last write. Raises StoreTaken."""
+        with self._lock:
+            held = self._claimed()
+            return held.claim, held.token
 
     def outcome(self, ticket: Ticket) -> Optional[Outcome]:
         """How a script ended, as it stands in the store, without answers if it was forgotten. None if it hasn't, or
