@@ -132,6 +132,10 @@ class Inboxes:
         until = time.monotonic() + 20
         while any(row[2] is None for row in self.rows(place)) and time.monotonic() < until and not killed:
             time.sleep(0.02)
+        if not killed and time.monotonic() > until:
+            with self.engine.reading(place) as connection:
+                sql = "SELECT application_name, state, wait_event, query FROM pg_stat_activity WHERE state IS NOT NULL"
+                raise Wrong(f"{self.rows(place)} stay in the inbox: {connection.execute(sql).fetchall()}")
         with suppress(ProcessLookupError):
             os.kill(child, signal.SIGTERM)
         status = finished(child)

@@ -1,9 +1,9 @@
 """A model of an inbox, two desks and a synchronous standby, and of what may befall them; and wrong versions of it.
 
-Two friends ask, each with a key. A front writes what is asked into the inbox, and tells how it stands. A desk claims the
-store, takes what stands in the inbox, puts it by key, makes a step that books both friends in one group, withdraws, takes
-rows out, and forgets. A state is the database of the primary, that of its standby, which is an earlier one, what each
-desk has in memory, and what clients were told. A transaction that is waited for ends in one of these ways:
+Two friends ask, each with a key. A front writes what is asked into the inbox, and tells how it stands. A desk claims
+the store, takes what stands in the inbox, puts it by key, makes a step that books both friends in one group, withdraws,
+takes rows out, and forgets. A state is the database of the primary, that of its standby, which is an earlier one, what
+each desk has in memory, and what clients were told. A transaction that is waited for ends in one of these ways:
 
   it goes through, and the standby has it then: only so is it acknowledged
   it goes through, and its acknowledgement is lost
@@ -20,11 +20,11 @@ has to hold, so who is told more finds more. Two desks that change places are on
 from collections import namedtuple
 from functools import partial
 
-# Of each key the row of the inbox: none, queued, or rejected; whether it is to be withdrawn; and how many tickets it was
-# ever given, which no program knows. `tickets` has (number, key, how it stands); `kept` the same of those forgotten.
+# Of each key the row of the inbox: none, queued, or rejected; whether it is to be withdrawn; and how many tickets it
+# was ever given, which no program knows. `tickets` has (number, key, how it stands); `kept` those that are forgotten.
 Database = namedtuple("Database", "claim token next rows withdrawals given tickets kept")
-# A desk's claim, its last token, how many it drew, what waits by its memory, the number of the next ticket, which rows it
-# is to take out, and what it has sent without an answer.
+# A desk's claim, its last token, how many it drew, what waits by its memory, the number of the next ticket, which rows
+# it is to take out, and what it has sent without an answer.
 Desk = namedtuple("Desk", "claim token drawn waits next done sent")
 # What a desk sends: of what kind, of which keys, the token it draws, and what its memory is once that stands.
 Sent = namedtuple("Sent", "kind keys token waits next")
@@ -424,7 +424,8 @@ class BooksByHalves(Protocol):
         waiting = {key for _, key in desk.waits}
         if {0, 1} <= waiting or state.primary.tickets and waiting == {1}:
             key = min(waiting)
-            yield self.send(state, at, desk, "step", (key,), tuple(one for one in desk.waits if one[1] != key), desk.next)
+            waits = tuple(one for one in desk.waits if one[1] != key)
+            yield self.send(state, at, desk, "step", (key,), waits, desk.next)
 
 
 # Of each wrong version what it is tried with.
@@ -442,7 +443,8 @@ WRONG = {
 }
 # What is explored whole: a name, and how the protocol is made.
 WHOLE = {
-    "withdrawals and forgetting": {},
+    "with withdrawals": {"forgets": False},
+    "with forgetting": {"withdraws": ()},
     "a desk that knows a script less": {"rejects": (1,), "withdraws": (), "forgets": False},
 }
 

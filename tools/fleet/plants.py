@@ -1,5 +1,135 @@
 """Wrong versions of inbox and desk, each of which a case has to find."""
 
+import contextlib
+import io
+
+from entangle.stores import Desk
+from inboxes import Hooked, Inboxes
+
+UPDATES = "DO UPDATE SET request_key = excluded.request_key RETURNING request_key, xmax = 0"
+
+
+class ConflictDoesNothing(Hooked):
+    """Who asks again writes nothing, and so waits for no standby."""
+
+    def _run(self, sql, parameters=()):
+        return super()._run(sql.replace(UPDATES, "DO NOTHING RETURNING request_key, true"), parameters)
+
+
+class TellsWhatItReads(Hooked):
+    """What is read is told, whether or not the standby has it."""
+
+    def _affirm(self):
+        pass
+
+
+class IgnoresWarnings(Hooked):
+    """What the server says beside its answer to COMMIT is passed over."""
+
+    def _noticed(self, said):
+        pass
+
+
+class RejectsUnfenced(Hooked):
+    """A desk rejects whoever has the store."""
+
+    def reject(self, faults, claim, token):
+        if faults:
+            super().reject(faults, *self._found(f"SELECT claim, token FROM {self._claims}")[0])
+
+
+class OfAllSchemas(Hooked):
+    """The inboxes of all schemas have one channel."""
+
+    def _channel(self, what):
+        return f"entangle_{what}"
+
+
+class NeverFull(Hooked):
+    """An inbox takes any number of requests."""
+
+    def backlog_seen(self):
+        return 0
+
+
+class PutsAnew(Desk):
+    """A desk puts without keys."""
+
+    def _unfolded(self, request):
+        return [type(one)(one.script, one.values, one.patience) for one in super()._unfolded(request)]
+
+
+class TakesOutFirst(Desk):
+    """A desk takes rows out before the store has them."""
+
+    def take(self):
+        rows = self._inbox.take(self._most)
+        self._inbox.done([row.number for row in rows])
+        self._inbox.take = lambda *_: rows
+        try:
+            return super().take()
+        finally:
+            del self._inbox.take
+
+
+class PutsAll(Desk):
+    """A desk puts however many wait."""
+
+    def take(self):
+        self._most_waiting = 10**9
+        return super().take()
+
+
+class LosesWithdrawals(Desk):
+    """What is withdrawn is done, whether or not it was put."""
+
+    def _put(self, rows):
+        super()._put(rows)
+        return set()
+
+    def take(self):
+        for row in self._inbox.take(self._most):
+            if row.request is None:
+                self._withdraw([row])
+        return super().take()
+
+
+class KeepsNoTime(Desk):
+    """Whose time is over waits on."""
+
+    def each_second(self):
+        self._inbox.count(self._room.waiting_count())
+
+
+# Of each wrong version the cases that have to find it.
+CASES = {
+    ConflictDoesNothing: "standby_away terminate",
+    TellsWhatItReads: "standby_away terminate",
+    IgnoresWarnings: "standby_away cancel",
+    RejectsUnfenced: "rejections",
+    OfAllSchemas: "ears",
+    NeverFull: "full",
+    PutsAnew: "comes_back",
+    TakesOutFirst: "desk_killed before",
+    PutsAll: "full",
+    LosesWithdrawals: "withdrawals",
+    KeepsNoTime: "times",
+}
+PLANTS = {version.__name__: version for version in CASES}
+
 
 def tried_plants(cases, names, say):
-    return 0, 0
+    """Tries wrong versions; how many, and how many aren't found."""
+    wrong = 0
+    for name in names or PLANTS:
+        version, before = PLANTS[name], cases.wrong
+        inboxes = Inboxes(cases)
+        kind = "desk_class" if issubclass(version, Desk) else "inbox_class"
+        setattr(inboxes, kind, version)
+        cases.only, said = CASES[version], io.StringIO()
+        with contextlib.redirect_stdout(said):
+            inboxes.run()
+        found = [line for line in said.getvalue().splitlines() if "WRONG" in line]
+        wrong += cases.wrong == before
+        say(f"{name}: " + (f"found: {found[0]:.150}" if found else "NOT FOUND"))
+    return len(names or PLANTS), wrong
