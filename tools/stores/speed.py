@@ -181,7 +181,26 @@ def hanging(engine, count=1_000, seconds=2.0):
     print(f"{said}: the loop is silent for {max(silent):.1f} ms at most", flush=True)
 
 
-OVER_LIBRARY = (lives, idle, hanging, opening)
+def growing(engine, couples=32, rounds=4):
+    """How long a room takes to book couples, by how many rows the table of their bookings has."""
+    declared = "\n".join(table.declaration for table in TRAVEL)
+    for rows in (0, 10_000, 20_000, 60_000):
+        booked = [(f"who{at}", 122) for at in range(rows)]
+        took = []
+        with entangle.Room(declared, {"Flights": TRAVEL[0].initial, "Trips": booked}) as room:
+            for number in range(rounds):
+                for at in range(couples):
+                    names = f"{number}.{at}a", f"{number}.{at}b"
+                    for me, friend in (names, names[::-1]):
+                        room.put(TRIP, {"me": me, "friend": friend}, UNTIL)
+                began = time.process_time()
+                while room.step() != "idle":
+                    pass
+                took.append(1_000 * (time.process_time() - began) / couples)
+        print(f"a room, {rows} rows of bookings: {min(took):.2f} ms of a processor for a couple", flush=True)
+
+
+OVER_LIBRARY = (lives, idle, hanging, opening, growing)
 
 
 def measured(engine, only=""):
