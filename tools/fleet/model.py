@@ -247,8 +247,11 @@ class Protocol:
                 return
 
     def clean(self, state, at):
-        """Takes rows out whose requests the store has; that needn't be durable."""
+        """Takes rows out whose requests the store has, under the desk's own claim; that needn't be durable."""
         desk, database = state.desks[at], state.primary
+        if self.is_fenced(database, desk):
+            yield self.desk(state, at, None)
+            return
         rows, withdrawals = list(database.rows), list(database.withdrawals)
         for one in desk.done:
             if one < 0:
@@ -399,6 +402,16 @@ class RejectsUnfenced(Protocol):
             yield self.desk(after, at, desk) if after.desks[at] is fenced else after
 
 
+class TakesOutUnfenced(Protocol):
+    """A desk takes rows out whoever has the store."""
+
+    def clean(self, state, at):
+        desk = state.desks[at]
+        fenced = desk._replace(claim=state.primary.claim, token=state.primary.token)
+        for after in super().clean(self.desk(state, at, fenced), at):
+            yield self.desk(after, at, desk._replace(done=()))
+
+
 class WritesUnfenced(Protocol):
     """A desk writes whoever has claimed the store since."""
 
@@ -437,6 +450,7 @@ WRONG = {
     PutsWithoutKeys: {},
     ForgetsKeys: {},
     RejectsUnfenced: {"rejects": (1,), "withdraws": ()},
+    TakesOutUnfenced: {"rejects": (1,), "withdraws": (), "forgets": False},
     WritesUnfenced: {},
     ToldWhereItStands: {},
     BooksByHalves: {},

@@ -38,6 +38,13 @@ class RejectsUnfenced(Hooked):
             super().reject(faults, *self._found(f"SELECT claim, token FROM {self._claims}")[0])
 
 
+class TakesOutUnfenced(Hooked):
+    """A desk takes rows out whoever has the store."""
+
+    def done(self, numbers, told, claim, token):
+        super().done(numbers, told, *self._found(f"SELECT claim, token FROM {self._claims}")[0])
+
+
 class OfAllSchemas(Hooked):
     """The inboxes of all schemas have one channel."""
 
@@ -64,7 +71,7 @@ class TakesOutFirst(Desk):
 
     def take(self):
         rows = self._inbox.take(self._most)
-        self._inbox.done([row.number for row in rows])
+        self._inbox.done([row.number for row in rows], None, *self._store.version())
         self._inbox.take = lambda *_: rows
         try:
             return super().take()
@@ -107,6 +114,7 @@ CASES = {
     TellsWhatItReads: "standby_away terminate",
     IgnoresWarnings: "standby_away cancel",
     RejectsUnfenced: "rejections",
+    TakesOutUnfenced: "stale",
     OfAllSchemas: "ears",
     NeverFull: "full",
     PutsAnew: "comes_back",

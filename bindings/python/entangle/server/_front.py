@@ -197,6 +197,8 @@ class Line:
         self._strange: set[str] = set()
         self._last: dict[str, Position] = {}
         self._withdrawals: list[Withdraw] = []
+        # of what is served now, the calls of which this line has answered its part
+        self._said: set[Call[Any]] = set()
         self._last_group: Optional[int] = None
 
     def send(self, message: Message) -> None:
@@ -212,7 +214,7 @@ class Line:
         pause = _LEAST_PAUSE
         try:
             while not self._stops.is_set() or not self._queue.empty():
-                messages = self._sent(_SECONDS)
+                messages, self._said = self._sent(_SECONDS), set()
                 try:
                     self._serve(messages)
                     self.fault, pause = None, _LEAST_PAUSE
@@ -257,8 +259,8 @@ class Line:
         found = self._found(wanted)
         self._withdraw(withdrawals, found)
         for look in looks:
+            self._said.add(look)
             self.front.answered(look, found, None)
-            look.is_answered = True
         self._tell(found, wanted, self._changed_tables() if is_time or heard else frozenset())
         for message in messages:
             if isinstance(message, ReadTable):
@@ -335,7 +337,7 @@ class Line:
 
     def _withdrawn(self, call: Withdraw, answer: object) -> None:
         self._withdrawals.remove(call)
-        call.is_answered = True
+        self._said.add(call)
         self.front.answered(call, {}, answer)
 
     # ---- how requests stand
@@ -434,7 +436,9 @@ class Line:
         """Tells who isn't answered that the inbox fails."""
         said = ending() if self._stops.is_set() else store_fails()
         for message in messages:
-            if isinstance(message, (Look, Withdraw)) and not message.is_answered:
+            if isinstance(message, (Look, Withdraw)):
+                if message in self._said:
+                    continue
                 if isinstance(message, Withdraw) and message in self._withdrawals:
                     self._withdrawals.remove(message)
                 self.front.answered(message, {}, _FAILED)

@@ -131,9 +131,9 @@ class Desk:
 
     def tell(self, keys: Optional[Sequence[str]]) -> None:
         """Takes out the rows that the store has, and says whose requests may stand otherwise since: with no keys, any
-        may; with None nobody's does."""
+        may; with None nobody's does. Call it behind a step. Raises StoreFailed and StoreTaken."""
         if self._taken or keys is not None:
-            self._inbox.done(sorted(self._taken), keys)
+            self._inbox.done(sorted(self._taken), keys, *self._store.version())
             self._taken.clear()
 
     def _put(self, rows: Sequence[Row]) -> set[str]:
@@ -155,6 +155,7 @@ class Desk:
                 # where the key was used for something else it is the first request that stands
                 self._taken.add(row.number)
         if faults:
+            self._room.check()  # it writes what is still to be written
             self._inbox.reject(faults, *self._store.version())
         return left
 

@@ -79,6 +79,8 @@ class PostgresInbox(Session):
         own = OwnTables(name, "BIGINT", "BYTEA")
         self._rows, self._state, self._claims = quoted(f"{name}_inbox"), quoted(f"{name}_inbox_state"), own.claims
         self._fates = _fates_sql(own, self._rows)
+        # the row of the claim stays as it is until the COMMIT: who loads the store waits for that
+        self._held = f"SELECT 1 FROM {own.claims} WHERE claim = %s AND token = %s FOR SHARE"
         self._was_taken = (
             f"NOT EXISTS (SELECT 1 FROM {self._rows} AS p"
             " WHERE p.request_key = t.request_key AND p.kind = 'put' AND p.refused IS NULL)"
@@ -260,16 +262,24 @@ class PostgresInbox(Session):
             for number, key, script, bound, label, until in found
         ]
 
-    def done(self, numbers: Sequence[int], told: Optional[Sequence[str]] = None) -> None:
+    def done(self, numbers: Sequence[int], told: Optional[Sequence[str]], claim: int, token: int) -> None:
         """Takes rows out that are in the store, and says whose requests may stand otherwise since: with none named, any
-        may. That needn't be durable: a row that comes back is put again, by its key, and gets its first ticket."""
+        may. That needn't be durable: a row that comes back is put again, by its key, and gets its first ticket.
+
+        Raises StoreTaken if the store hasn't this claim and this token: then what this process saw there may be lost,
+        and the rows are still to be put.
+        """
+        sql = (
+            f"WITH held AS ({self._held}) DELETE FROM {self._rows} USING held WHERE id = ANY (%s::bigint[])"
+        )
         payloads = list(_payloads(told))
 
         def work() -> None:
             # who notifies holds a lock over all databases until its COMMIT is done: so that waits for no disk
             self._run("SET LOCAL synchronous_commit = off")
             if numbers:
-                self._run(f"DELETE FROM {self._rows} WHERE id = ANY (%s::bigint[])", (array_text(list(numbers)),))
+                count = self._run(sql, (claim, token, array_text(list(numbers)))).rowcount
+                self._check_held(count == len(numbers), claim, token)
             for payload in payloads:
                 self._run("SELECT pg_notify(%s, %s)", (self._channel("tells"), payload))
 
@@ -279,24 +289,24 @@ class PostgresInbox(Session):
         """Says of rows why they can't be put, as long as the store has this claim and this token. Raises StoreTaken if
         it has others: another process has the room then, and may put them."""
         sql = (
-            f"WITH held AS (SELECT 1 FROM {self._claims} WHERE claim = %s AND token = %s FOR SHARE)"
-            f" UPDATE {self._rows} AS t SET refused = v.fault FROM held,"
+            f"WITH held AS ({self._held}) UPDATE {self._rows} AS t SET refused = v.fault FROM held,"
             " unnest(%s::bigint[], %s::text[]) AS v (id, fault) WHERE t.id = v.id"
         )
         said = [fault.replace("\0", "") for fault in faults.values()]
         parameters = (claim, token, array_text(list(faults)), array_text(said))
 
         def work() -> None:
-            # the row of the claim stays as it is until this COMMIT: who loads the store waits for it
-            if self._run(sql, parameters).rowcount != len(faults) and not self._has(claim, token):
-                raise StoreTaken("another process has loaded the store")
+            self._check_held(self._run(sql, parameters).rowcount == len(faults), claim, token)
 
         if faults:
             self._within(work)
 
-    def _has(self, claim: int, token: int) -> bool:
-        found: Optional[tuple[int, int]] = self._run(f"SELECT claim, token FROM {self._claims}").fetchone()
-        return found == (claim, token)
+    def _check_held(self, is_done: bool, claim: int, token: int) -> None:
+        """Raises StoreTaken if not all was done, since another process has the store."""
+        if is_done:
+            return
+        if self._run(f"SELECT claim, token FROM {self._claims}").fetchone() != (claim, token):
+            raise StoreTaken("another process has loaded the store")
 
     def count(self, waiting: int) -> Backlog:
         """Counts the requests that stand in the inbox, and says so to those who ask, with how many scripts wait."""
