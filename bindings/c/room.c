@@ -428,9 +428,9 @@ static const char BOOKED[] =
     "{\"ticket\":11,\"number\":2,\"answers\":[{\"answer\":{\"Trip\":[\"Minnie\",122]}},{\"count\":1}]}],"
     "\"changes\":{\"Bookings\":{\"removed\":[],\"added\":[[\"Mickey\",122],[\"Minnie\",122]]}},\"ended\":[]}\n";
 static const char LATER[] =
-    "{\"group\":42,\"epoch\":5,\"commits\":[{\"ticket\":13,\"number\":1,\"answers\":[{\"count\":1}]}],"
-    "\"changes\":{\"Flights\":{\"removed\":[],\"added\":[[7,\"LA\"]]}},\"ended\":[]}\n"
-    "{\"group\":43,\"epoch\":5,\"commits\":[],\"changes\":{},\"ended\":[{\"ticket\":4,\"ending\":\"rolled back\"}]}\n";
+    "{\"group\":42,\"epoch\":5,\"commits\":[],\"changes\":{},\"ended\":[{\"ticket\":4,\"ending\":\"rolled back\"}]}\n"
+    "{\"group\":43,\"epoch\":5,\"commits\":[{\"ticket\":13,\"number\":1,\"answers\":[{\"count\":1}]}],"
+    "\"changes\":{\"Flights\":{\"removed\":[],\"added\":[[7,\"LA\"]]}},\"ended\":[]}\n";
 
 /* Whether the feed tells these lines of the groups from a number on. */
 static bool tells(entangle_room **room, uint64_t from, const char *lines) {

@@ -294,8 +294,8 @@ class Room:
         return _STEPPED[step.value - 1]
 
     def further(self) -> None:
-        """Has those go on who are cut (TicketCut): each may try as many meetings again, in the next steps. Without it they
-        go on once something changes for them. Raises OutOfMemory: then some of them go on."""
+        """Has those go on who are cut (TicketCut): each may try as many meetings again, in the next steps. Without it
+        they go on once something changes for them. Raises OutOfMemory: then some of them go on."""
         refusal = ctypes.c_uint32()
         with self._lock:
             status = LIBRARY.ent_c_room_further(self._place(), ctypes.byref(refusal))
