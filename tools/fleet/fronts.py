@@ -78,7 +78,7 @@ def calls(tally, folder, engine):
         status, said, _ = front.put("lunch", wish("Bob", "Ann", city), two)
         tally.compare("asked again it is the same", (status, said["state"]), (200, "booked"))
         status, said, _ = front.put("lunch", wish("Bob", "Zoe", city), two)
-        tally.compare("other values under its key", (status, said["code"]), (409, "other_values"))
+        tally.compare("other values under its key", (status, said.get("code")), (409, "other_values"))
     seen = front.look(one, two, secrets.token_hex(16))
     tally.compare("a look without a room", [one["state"] for one in seen], ["booked", "booked", "unknown"])
     said = front.ask("POST", "/v1/requests/look", {"keys": [one], "city": "oslo"})[1]

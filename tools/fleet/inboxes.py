@@ -1,6 +1,7 @@
 """An inbox and its desk: whatever befalls a process or a server, what was asked is put once, and told as it stands."""
 
 import os
+import re
 import signal
 import threading
 import time
@@ -9,11 +10,13 @@ from datetime import datetime, timedelta, timezone
 
 from clients import UNTIL, Asking, Fault, ended, finished, forked, insisting, said_of_ending
 from engines import TABLES
+import entangle
 from entangle import stores
-from entangle.stores import Desk, DurableRoom, Ended, InboxFull, InboxRequest, PostgresInbox, Queued, Rejected, Waiting
+from entangle.stores import Desk, DurableRoom, Ended, InboxFull, InboxRequest, PostgresInbox, Queued, Rejected, Table
+from entangle.stores import Waiting
 from fake_room import FakeRoom
 from servers import Servers
-from trial import Wrong, need, raises
+from trial import HERE, Wrong, need, raises
 from verdict import holds
 
 SCRIPTS = {name: name for name in ("add", "pair", "fail", "roll", "alone", "wrong")}
@@ -43,6 +46,11 @@ class Hooked(PostgresInbox):
         if self.hook:
             self.hook("after", sql, self)
         return result
+
+
+def has_library():
+    """Whether there is a library that runs scripts, and no stub."""
+    return "stub" not in entangle.library_version()
 
 
 def request(key, script, values):
@@ -94,6 +102,16 @@ class Front:
         self.comes(key)
 
 
+# What the programs of the page of stores have from above.
+PAGE_TABLES = [
+    Table("Flights", {"fno": "INT", "dest": "TEXT"}, initial=[(122, "LA"), (136, "Paris")]),
+    Table("Bookings", {"who": "TEXT", "fno": "INT"}, collects=True),
+]
+PAGE_TRIP = """BEGIN TRANSACTION;
+SELECT @me, fno AS @fno INTO ANSWER Trip
+  WHERE fno IN (SELECT fno FROM Flights WHERE dest = 'LA') AND (@friend, fno) IN ANSWER Trip CHOOSE 1;
+INSERT INTO Bookings VALUES (@me, @fno);
+COMMIT;"""
 AT_STATEMENTS = ("desk_killed", "desk_lost", "desk_taken", "front_killed", "front_lost")
 
 
@@ -327,8 +345,11 @@ class Inboxes:
         need("no script has the name nothing" in fates["k1"].fault, fates["k1"].fault)
         need(front.ask(asked[:1]) == [fates["k1"]], "who was rejected is taken")
         front.ask([request("k5", "wrong", {"me": "Eve"})])
+        ((number,),) = front._found("SELECT id FROM entangle_inbox WHERE request_key = 'k5'")
+        version = desk._store.version()
         other = self.desk(place, scripts={**SCRIPTS, "wrong": "add"})
         raises(stores.StoreTaken, desk.take)
+        raises(stores.StoreTaken, lambda: front.reject({number: "no such script"}, *version))
         need(isinstance(front.fates(["k5"])["k5"], Queued), "who has lost the store rejects")
         self.worked(other)
         need(isinstance(front.fates(["k5"])["k5"], Ended), "the next desk doesn't put it")
@@ -425,6 +446,26 @@ class Inboxes:
         desk._room.close()
         front.close()
 
+    def page(self):
+        """The programs of docs/EMBEDDING.md: a process without the room asks the one that has it."""
+        with open(os.path.join(HERE, "docs", "EMBEDDING.md"), encoding="utf-8") as file:
+            code = next(code for code in re.findall(r"```python\n(.*?)```", file.read(), re.DOTALL) if "Desk(" in code)
+        asks, serves = code.split("# the process that has the room")
+        names = {**vars(stores), "DSN": self.engine.dsn(self.engine.fresh()), "TABLES": PAGE_TABLES, "TRIP": PAGE_TRIP}
+        desk = forked(lambda: exec(serves.partition("\n")[2], names))
+        try:
+            inbox = PostgresInbox(names["DSN"], name="travel")
+            insisting(inbox.backlog)
+            exec(asks, names)
+            until = time.monotonic() + 30
+            while not isinstance(inbox.fates(["a3f1"])["a3f1"], Ended) and time.monotonic() < until:
+                time.sleep(0.05)
+            fate = inbox.fates(["a3f1"])["a3f1"]
+            need(isinstance(fate, Ended) and fate.outcome.ending.kind == "withdrawn", f"it stands as {fate}")
+        finally:
+            os.kill(desk, signal.SIGKILL)
+            finished(desk)
+
     def standby_away(self, how):
         """Nothing is told while the standby is away, though it can be read, since the wait for it was ended."""
         place = self.made()
@@ -460,6 +501,8 @@ class Inboxes:
         return thread
 
     def run(self):
+        if has_library():
+            self.cases.case("page", self.page)
         for call in (self.comes_back, self.rejections, self.stale, self.withdrawals, self.full, self.times, self.ears):
             self.cases.case(call.__name__, call)
         for how in ("terminate", "cancel"):

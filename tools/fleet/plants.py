@@ -1,10 +1,15 @@
-"""Wrong versions of inbox and desk, each of which a case has to find."""
+"""Wrong versions of inbox, desk and front, each of which a case has to find."""
 
 import contextlib
 import io
+import os
+from unittest.mock import patch
 
+import fronts
 from entangle.stores import Desk
 from inboxes import Hooked, Inboxes
+from trial import HERE, Wrong
+from wrong_servers import copied_with
 
 UPDATES = "DO UPDATE SET request_key = excluded.request_key RETURNING request_key, xmax = 0"
 
@@ -123,20 +128,58 @@ CASES = {
     LosesWithdrawals: "withdrawals",
     KeepsNoTime: "times",
 }
-PLANTS = {version.__name__: version for version in CASES}
+# Wrong versions of fronts and of rooms' processes: the module, what it says in place of what, and the case of fronts.
+SERVERS = {
+    "sees_anybodys": ("_front", "call.is_reader or position.label.subject == call.subject", "True", "owned"),
+    "withdraws_anybodys": ("_front", "call.is_operator or position.label.subject == call.subject", "True", "owned"),
+    "any_values_under_a_key": ("_front", "if not known.is_forgotten and (", "if False and (", "calls"),
+    "told_once": ("_front", "ALWAYS_TOLD = 2**62", "ALWAYS_TOLD = 0", "calls"),
+    "asks_a_room": ("_front", "list(self.lines.values()) if room", "list(self.lines.values())[:1] if room", "calls"),
+    "any_room": ("_bodies", "room not in file.rooms", "False", "calls"),
+    "waits_any_time": ("_front", "problem = until_problem(call)", "problem = None", "calls"),
+    "tells_no_more": ("_front", "self._last.get(digest) != found[digest]", "digest not in self._last", "calls"),
+    "has_no_turn": ("_server", "inbox_of(own), turn_of(own)", "inbox_of(own), None", "apart"),
+    "rejects_nobody": ("_room_desk", "if label is None or label.request != asked.script:", "if False:", "rejected"),
+}
+PLANTS = {**{version.__name__: version for version in CASES}, **SERVERS}
 
 
-def tried_plants(cases, names, say):
+def tried_server(cases, name, tally, say):
+    """Whether the case of fronts finds a wrong version of the server."""
+    place = copied_with(cases.folder, name, *SERVERS[name][:3])
+    tally.case = SERVERS[name][3]
+    library = os.environ.get("ENTANGLE_LIBRARY") or os.path.join(HERE, "bindings", "archive", "libentangle.so")
+    with patch.dict(os.environ, PYTHONPATH=place, ENTANGLE_LIBRARY=library), contextlib.redirect_stdout(io.StringIO()) as said:
+        fault = None
+        try:
+            getattr(fronts, tally.case)(tally, cases.folder, cases.engine)
+        except Exception as error:  # behind what is wrong other things may break
+            fault = error
+    found = [line for line in said.getvalue().splitlines() if "WRONG" in line]
+    if fault is not None and not found:
+        raise fault
+    say(f"{name}: " + (f"found: {found[0]:.150}" if found else "NOT FOUND"))
+    return bool(found)
+
+
+def tried_plants(cases, names, tally, say):
     """Tries wrong versions; how many, and how many aren't found."""
     wrong = 0
     for name in names or PLANTS:
+        if name in SERVERS:
+            wrong += not tried_server(cases, name, tally, say)
+            continue
         version, before = PLANTS[name], cases.wrong
         inboxes = Inboxes(cases)
         kind = "desk_class" if issubclass(version, Desk) else "inbox_class"
         setattr(inboxes, kind, version)
         cases.only, said = CASES[version], io.StringIO()
         with contextlib.redirect_stdout(said):
-            inboxes.run()
+            try:
+                inboxes.run()
+            except Wrong as error:  # a life without faults goes wrong already
+                cases.wrong += 1
+                print(f"WRONG: {error}")
         found = [line for line in said.getvalue().splitlines() if "WRONG" in line]
         wrong += cases.wrong == before
         say(f"{name}: " + (f"found: {found[0]:.150}" if found else "NOT FOUND"))

@@ -11,6 +11,7 @@ import time
 
 import commands
 from serving import Served, until
+from spent import seconds_of
 
 CONNECTIONS, SECONDS, CROWD, COUPLES, STREAMS = 64, 10, 10_000, 200, 5_000
 MANY = "rate = 1000000, burst = 1000000, rate_in_all = 1000000, waiting = 1000000, waiting_in_all = 1000000"
@@ -44,13 +45,6 @@ def served(folder, name):
     server = Served(file)
     server.is_ready()
     return server
-
-
-def seconds_of(process):
-    """The processor time of a process."""
-    with open(f"/proc/{process.pid}/stat", encoding="utf-8") as file:
-        words = file.read().rsplit(")", 1)[1].split()
-    return (int(words[11]) + int(words[12])) / os.sysconf("SC_CLK_TCK")
 
 
 def requests(tally, folder):

@@ -104,14 +104,19 @@ PLANTS = {
 
 def planted(name, folder):
     """Makes a wrong version of the package in a folder; its place."""
-    module, right, wrong, _ = PLANTS[name]
+    return copied_with(folder, name, *PLANTS[name][:3])
+
+
+def copied_with(folder, name, module, right, wrong):
+    """A copy of the package in a folder, in which a module of the server says one thing in place of another; its
+    place."""
     place = os.path.join(folder, name)
     shutil.copytree(PACKAGE, os.path.join(place, "entangle"))
     path = os.path.join(place, "entangle", "server", f"{module}.py")
     with open(path, encoding="utf-8") as file:
         text = file.read()
     if right not in text:
-        raise SystemExit(f"check server: {name} doesn't fit the server")
+        raise SystemExit(f"{name} doesn't fit the server")
     with open(path, "w", encoding="utf-8") as file:
         file.write(text.replace(right, wrong, 1))
     return place

@@ -26,7 +26,7 @@ from ._survey import json_of_rows
 
 # A front doesn't count endings: each event is told anew to who comes again.
 ALWAYS_TOLD = 2**62
-_SECONDS, _LEAST_PAUSE, _MOST_PAUSE = 1.0, 0.05, 1.0
+_SECONDS, _TABLE_SECONDS, _LEAST_PAUSE, _MOST_PAUSE = 1.0, 0.1, 0.05, 1.0
 _MOST_ENDED = 10_000
 _MOST_AT_ONCE = 500
 Told = Callable[["list[tuple[Call[Any], object]]", Optional[News]], None]
@@ -200,6 +200,7 @@ class Line:
         # of what is served now, the calls of which this line has answered its part
         self._said: set[Call[Any]] = set()
         self._last_group: Optional[int] = None
+        self._next_tables = 0.0
 
     def send(self, message: Message) -> None:
         self._queue.put(message)
@@ -427,6 +428,9 @@ class Line:
 
     def _changed_tables(self) -> frozenset[str]:
         """The tables, if any may have changed since this was asked last."""
+        if time.monotonic() < self._next_tables:
+            return frozenset()
+        self._next_tables = time.monotonic() + _TABLE_SECONDS
         before, self._last_group = self._last_group, self.inbox.last_group()
         if before == self._last_group:
             return frozenset()

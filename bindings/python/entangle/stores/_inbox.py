@@ -27,6 +27,8 @@ from ._tables import Table
 _AUTOVACUUM = "autovacuum_vacuum_scale_factor = 0, autovacuum_vacuum_threshold = 5000"
 # A notification has 8,000 bytes at most.
 _MOST_TOLD = 7_000
+# For a transaction that waits for no disk.
+_UNSYNCED = ("SET LOCAL synchronous_commit = off", ())
 # The advisory lock of those who make inboxes.
 _LOCK = 0x656E74616E676C66
 
@@ -124,6 +126,21 @@ class PostgresInbox(Session):
         with self._lock:
             return self._tried(whole)
 
+    def _at_once(self, *statements: tuple[str, Sequence[object]]) -> list[Any]:
+        """Makes a transaction of statements that are all sent before the first is answered; their cursors."""
+
+        def whole() -> list[Any]:
+            self._warning = None
+            with self._watch, self._connection.pipeline():
+                self._run("BEGIN ISOLATION LEVEL READ COMMITTED")
+                cursors = [self._run(sql, parameters) for sql, parameters in statements]
+                ended = self._run("COMMIT")
+            self._check_committed(ended)
+            return cursors
+
+        with self._lock:
+            return self._tried(whole)
+
     # ---- for those who ask
 
     def ask(self, requests: Sequence[InboxRequest]) -> list[Fate]:
@@ -136,8 +153,7 @@ class PostgresInbox(Session):
         first: dict[str, InboxRequest] = {}
         for request in requests:
             first.setdefault(request.key, request)
-        with self._lock:
-            inserted, found = self._tried(lambda: self._asked([first[key] for key in sorted(first)]))
+        inserted, found = self._asked([first[key] for key in sorted(first)])
         self._notify("asks")
         told, is_new = [], set(inserted)
         for request in requests:
@@ -162,13 +178,8 @@ class PostgresInbox(Session):
         bound = [values_text(request.values) for request in requests]
         scripts, labels = [request.script for request in requests], [request.label for request in requests]
         columns: list[Sequence[object]] = [keys, scripts, bound, labels, untils]
-        self._warning = None
-        with self._watch, self._connection.pipeline():
-            self._run("BEGIN ISOLATION LEVEL READ COMMITTED")
-            rows = self._run(insert, [array_text(values) for values in columns])
-            fates = self._run(self._fates, self._of_keys(keys))
-            ended = self._run("COMMIT")
-        self._check_committed(ended)
+        parameters = [array_text(values) for values in columns]
+        rows, fates = self._at_once((insert, parameters), (self._fates, self._of_keys(keys)))
         return [key for key, is_new in rows.fetchall() if is_new], _read_fates(keys, fates.fetchall())
 
     def withdraw(self, keys: Sequence[str]) -> None:
@@ -179,7 +190,7 @@ class PostgresInbox(Session):
             " ON CONFLICT (request_key, kind) DO UPDATE SET request_key = excluded.request_key"
         )
         if keys:
-            self._within(lambda: int(self._run(sql, (array_text(sorted(set(keys))),)).rowcount))
+            self._at_once((sql, (array_text(sorted(set(keys))),)))
             self._notify("asks")
 
     def fates(self, keys: Sequence[str]) -> dict[str, Optional[Fate]]:
@@ -272,18 +283,15 @@ class PostgresInbox(Session):
         sql = (
             f"WITH held AS ({self._held}) DELETE FROM {self._rows} USING held WHERE id = ANY (%s::bigint[])"
         )
-        payloads = list(_payloads(told))
-
-        def work() -> None:
-            # who notifies holds a lock over all databases until its COMMIT is done: so that waits for no disk
-            self._run("SET LOCAL synchronous_commit = off")
-            if numbers:
-                count = self._run(sql, (claim, token, array_text(list(numbers)))).rowcount
-                self._check_held(count == len(numbers), claim, token)
-            for payload in payloads:
-                self._run("SELECT pg_notify(%s, %s)", (self._channel("tells"), payload))
-
-        self._within(work)
+        channel = self._channel("tells")
+        notices = [("SELECT pg_notify(%s, %s)", (channel, payload)) for payload in _payloads(told)]
+        # who notifies holds a lock over all databases until its COMMIT is done: so that waits for no disk
+        if not numbers:
+            self._at_once(_UNSYNCED, *notices)
+            return
+        deletion = sql, (claim, token, array_text(list(numbers)))
+        _, deleted, *_ = self._at_once(_UNSYNCED, deletion, *notices)
+        self._check_held(deleted.rowcount == len(numbers), claim, token)
 
     def reject(self, faults: Mapping[int, str], claim: int, token: int) -> None:
         """Says of rows why they can't be put, as long as the store has this claim and this token. Raises StoreTaken if
@@ -295,54 +303,43 @@ class PostgresInbox(Session):
         said = [fault.replace("\0", "") for fault in faults.values()]
         parameters = (claim, token, array_text(list(faults)), array_text(said))
 
-        def work() -> None:
-            self._check_held(self._run(sql, parameters).rowcount == len(faults), claim, token)
-
         if faults:
-            self._within(work)
+            (rejected,) = self._at_once((sql, parameters))
+            self._check_held(rejected.rowcount == len(faults), claim, token)
 
     def _check_held(self, is_done: bool, claim: int, token: int) -> None:
-        """Raises StoreTaken if not all was done, since another process has the store."""
-        if is_done:
-            return
-        if self._run(f"SELECT claim, token FROM {self._claims}").fetchone() != (claim, token):
+        """Raises StoreTaken if not all was done, since another process has the store. Then nothing was done."""
+        if not is_done and self._found(f"SELECT claim, token FROM {self._claims}") != [(claim, token)]:
             raise StoreTaken("another process has loaded the store")
 
     def count(self, waiting: int) -> Backlog:
         """Counts the requests that stand in the inbox, and says so to those who ask, with how many scripts wait."""
 
-        def work() -> Backlog:
-            self._run("SET LOCAL synchronous_commit = off")
-            sql = (
-                f"UPDATE {self._state} SET queued = (SELECT count(*) FROM {self._rows} WHERE refused IS NULL),"
-                " waiting = %s RETURNING queued, waiting"
-            )
-            queued, waits = self._run(sql, (waiting,)).fetchone()
-            return Backlog(queued, waits)
-
-        return self._within(work)
+        sql = (
+            f"UPDATE {self._state} SET queued = (SELECT count(*) FROM {self._rows} WHERE refused IS NULL),"
+            " waiting = %s RETURNING queued, waiting"
+        )
+        _, counted = self._at_once(_UNSYNCED, (sql, (waiting,)))
+        return Backlog(*counted.fetchone())
 
     def forget(self, before: datetime) -> int:
         """Takes out the requests that were rejected and asked before a point in time; how many these are."""
         sql = f"DELETE FROM {self._rows} WHERE refused IS NOT NULL AND at < %s"
-        return int(self._within(lambda: int(self._run(sql, (before,)).rowcount)))
+        (forgotten,) = self._at_once((sql, (before,)))
+        return int(forgotten.rowcount)
 
     # ---- notifications
 
     def _notify(self, what: str) -> None:
         """Says that something was asked. It is a hint: whoever waits for it looks each second anyway."""
 
-        def work() -> None:
-            self._run("SET LOCAL synchronous_commit = off")
-            self._run("SELECT pg_notify(%s, '')", (self._channel(what),))
-
         with suppress(StoreFailed):
-            self._within(work)
+            self._at_once(_UNSYNCED, ("SELECT pg_notify(%s, '')", (self._channel(what),)))
 
     def _channel(self, what: str) -> str:
         """The channel of an inbox: those of two schemas have two."""
         if self._place is None:
-            (schema,) = self._run("SELECT current_schema()").fetchone()
+            ((schema,),) = self._found("SELECT current_schema()")
             if schema is None:
                 raise StoreFailed("the schema of the inbox isn't there")
             self._place = hashlib.sha256(f"{schema}.{self._name}".encode()).hexdigest()[:32]
@@ -358,11 +355,7 @@ class PostgresInbox(Session):
         return self._ear("tells", heard)
 
     def _ear(self, what: str, heard: Callable[[list[str]], object]) -> Ear:
-        def channel() -> str:
-            with self._lock:
-                return str(self._tried(lambda: self._channel(what)))
-
-        self._ears.append(Ear(self._engine, self._hosts.others(), channel, heard))
+        self._ears.append(Ear(self._engine, self._hosts.others(), lambda: self._channel(what), heard))
         return self._ears[-1]
 
     def close(self) -> None:
