@@ -149,7 +149,8 @@ def tried_server(cases, name, tally, say):
     place = copied_with(cases.folder, name, *SERVERS[name][:3])
     tally.case = SERVERS[name][3]
     library = os.environ.get("ENTANGLE_LIBRARY") or os.path.join(HERE, "bindings", "archive", "libentangle.so")
-    with patch.dict(os.environ, PYTHONPATH=place, ENTANGLE_LIBRARY=library), contextlib.redirect_stdout(io.StringIO()) as said:
+    said, environment = io.StringIO(), patch.dict(os.environ, PYTHONPATH=place, ENTANGLE_LIBRARY=library)
+    with environment, contextlib.redirect_stdout(said):
         fault = None
         try:
             getattr(fronts, tally.case)(tally, cases.folder, cases.engine)
