@@ -154,11 +154,12 @@ def tried_server(cases, name, tally, say):
         fault = None
         try:
             getattr(fronts, tally.case)(tally, cases.folder, cases.engine)
-        except Exception as error:  # behind what is wrong other things may break
+        except Exception as error:  # what is wrong may break the case
+            if "doesn't start" in str(error):
+                raise
             fault = error
     found = [line for line in said.getvalue().splitlines() if "WRONG" in line]
-    if fault is not None and not found:
-        raise fault
+    found += [f"{tally.case} breaks: {fault!r}"] if fault else []
     say(f"{name}: " + (f"found: {found[0]:.150}" if found else "NOT FOUND"))
     return bool(found)
 

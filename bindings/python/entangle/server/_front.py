@@ -28,6 +28,7 @@ from ._survey import json_of_rows
 ALWAYS_TOLD = 2**62
 _SECONDS, _TABLE_SECONDS, _LEAST_PAUSE, _MOST_PAUSE = 1.0, 0.1, 0.05, 1.0
 _MOST_ENDED = 10_000
+_WITHDRAW_SECONDS = 60.0
 _MOST_AT_ONCE = 500
 Told = Callable[["list[tuple[Call[Any], object]]", Optional[News]], None]
 
@@ -229,6 +230,7 @@ class Line:
         except Exception as error:
             self.broken = self.fault = f"the front has a fault: {error!r}"
             self.front.log.say("fault", room=self.room, error=self.broken)
+            self.front.stop()  # whoever started the process starts it again
             self._refuse(messages)
         self._refuse([*self._sent(0.0), *self._withdrawals])
         ear.close()
@@ -335,6 +337,8 @@ class Line:
                 is_done = position.state == "ended"
                 problem = Problem(409, "is_over", "the request has ended", stands=position.said())
                 self._withdrawn(call, position if is_done else problem)
+            elif time.monotonic() > call.came + _WITHDRAW_SECONDS:  # nobody waits for the answer any more
+                self._withdrawn(call, store_fails())
 
     def _withdrawn(self, call: Withdraw, answer: object) -> None:
         self._withdrawals.remove(call)
