@@ -13,11 +13,22 @@ import time
 from serving import EXAMPLES, Served, digest_of
 
 
+# All processes that a case has started.
+STARTED = []
+
+
+def closed():
+    """Ends what a case has started, also where it broke."""
+    while STARTED:
+        STARTED.pop().close()
+
+
 class Front(Served):
     """A front on free ports."""
 
     def __init__(self, file, *more):
         super().__init__(file, words=("--front", *more))
+        STARTED.append(self)
 
 
 class Room(Served):
@@ -25,6 +36,7 @@ class Room(Served):
 
     def __init__(self, file, room):
         super().__init__(file, words=("--room", room))
+        STARTED.append(self)
 
     def start(self):
         words = [sys.executable, "-B", "-m", "entangle.server", self.file, *self.how["words"]]

@@ -407,6 +407,10 @@ class Inboxes:
         fates = front.fates([f"k{n}" for n in range(5)])
         need(isinstance(fates["k3"], Waiting) and fates["k4"].outcome.ending.kind == "withdrawn", f"{fates}")
         desk._room.close()
+        time.sleep(1.1)
+        front.ask([request(f"j{n}", "alone", {"me": f"q{n}"}) for n in range(3)])
+        time.sleep(5.1)
+        raises(InboxFull, lambda: front.ask([request("j9", "add", {"me": "Zoe"})]))
 
     def times(self):
         """A request whose time is over is withdrawn, and one that was forgotten gets its fate of then."""

@@ -158,6 +158,8 @@ def tried_server(cases, name, tally, say):
             if "doesn't start" in str(error):
                 raise
             fault = error
+        finally:
+            fronts.closed()
     found = [line for line in said.getvalue().splitlines() if "WRONG" in line]
     found += [f"{tally.case} breaks: {fault!r}"] if fault else []
     say(f"{name}: " + (f"found: {found[0]:.150}" if found else "NOT FOUND"))

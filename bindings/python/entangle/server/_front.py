@@ -217,6 +217,8 @@ class Line:
         try:
             while not self._stops.is_set() or not self._queue.empty():
                 messages, self._said = self._sent(_SECONDS), set()
+                if not messages:
+                    continue
                 try:
                     self._serve(messages)
                     self.fault, pause = None, _LEAST_PAUSE

@@ -27,6 +27,8 @@ from ._tables import Table
 _AUTOVACUUM = "autovacuum_vacuum_scale_factor = 0, autovacuum_vacuum_threshold = 5000"
 # A notification has 8,000 bytes at most.
 _MOST_TOLD = 7_000
+# For so many seconds it holds what a desk has counted.
+_COUNTED_SECONDS = 5
 # For a transaction that waits for no disk.
 _UNSYNCED = ("SET LOCAL synchronous_commit = off", ())
 # The advisory lock of those who make inboxes.
@@ -66,8 +68,8 @@ class PostgresInbox(Session):
         allow_settings: Collection[str] = (),
         most_queued: int = 100_000,
     ) -> None:
-        """All but the last is as PostgresStore takes it. Above `most_queued` requests, as the desk counts them once a
-        second, ask() raises InboxFull."""
+        """All but the last is as PostgresStore takes it. Above `most_queued` requests, which are counted once a second,
+        ask() raises InboxFull."""
         super().__init__(
             dsn,
             f"entangle inbox {checked_store_name(name)}",
@@ -81,6 +83,7 @@ class PostgresInbox(Session):
         own = OwnTables(name, "BIGINT", "BYTEA")
         self._rows, self._state, self._claims = quoted(f"{name}_inbox"), quoted(f"{name}_inbox_state"), own.claims
         self._fates = _fates_sql(own, self._rows)
+        self._count = f"(SELECT count(*) FROM {self._rows} WHERE refused IS NULL)"
         # the row of the claim stays as it is until the COMMIT: who loads the store waits for that
         self._held = f"SELECT 1 FROM {own.claims} WHERE claim = %s AND token = %s FOR SHARE"
         self._was_taken = (
@@ -108,9 +111,9 @@ class PostgresInbox(Session):
             )
             self._run(
                 f"CREATE TABLE IF NOT EXISTS {self._state} (one BOOLEAN PRIMARY KEY CHECK (one),"
-                " queued BIGINT NOT NULL, waiting BIGINT NOT NULL)"
+                " queued BIGINT NOT NULL, waiting BIGINT NOT NULL, at TIMESTAMPTZ NOT NULL)"
             )
-            self._run(f"INSERT INTO {self._state} VALUES (true, 0, 0) ON CONFLICT DO NOTHING")
+            self._run(f"INSERT INTO {self._state} VALUES (true, 0, 0, now()) ON CONFLICT DO NOTHING")
 
         self._within(work)
 
@@ -224,12 +227,17 @@ class PostgresInbox(Session):
         return int(found[0][0]) if found else 0
 
     def backlog(self) -> Backlog:
-        """How much there is to do, as the desk said it last."""
-        ((queued, waiting),) = self._found(f"SELECT queued, waiting FROM {self._state}")
+        """How much there is to do, as the desk said it last. Where no desk has counted for some seconds the requests
+        are counted here."""
+        sql = (
+            f"SELECT CASE WHEN at > now() - interval '{_COUNTED_SECONDS} seconds' THEN queued ELSE {self._count} END,"
+            f" waiting FROM {self._state}"
+        )
+        ((queued, waiting),) = self._found(sql)
         return Backlog(queued, waiting)
 
     def backlog_seen(self) -> int:
-        """How many requests stand in the inbox, as the desk said it a second ago or later."""
+        """How many requests stand in the inbox, as this was asked a second ago or later."""
         if time.monotonic() > self._counted_at + 1.0:
             self._queued = self.backlog().queued
             self._counted_at = time.monotonic()
@@ -316,8 +324,7 @@ class PostgresInbox(Session):
         """Counts the requests that stand in the inbox, and says so to those who ask, with how many scripts wait."""
 
         sql = (
-            f"UPDATE {self._state} SET queued = (SELECT count(*) FROM {self._rows} WHERE refused IS NULL),"
-            " waiting = %s RETURNING queued, waiting"
+            f"UPDATE {self._state} SET queued = {self._count}, waiting = %s, at = now() RETURNING queued, waiting"
         )
         _, counted = self._at_once(_UNSYNCED, (sql, (waiting,)))
         return Backlog(*counted.fetchone())
