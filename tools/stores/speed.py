@@ -23,6 +23,8 @@ INSERT INTO Trips VALUES (@me, @fno);
 COMMIT;
 """
 LIVES_SECONDS = 6.0
+# After so many calls of put_all the table that collects is drained, as a service does it.
+DRAINED_EACH = 50
 
 
 def pairs(first_group, first_number, count, epoch):
@@ -80,7 +82,7 @@ def used_by_server(room):
 
 def lives(engine, couples=32, seconds=LIVES_SECONDS):
     """How many requests of friends are put and answered in a second, all of them with keys, 64 in one put_all, by a
-    room of the library over the store."""
+    room of the library over the store; the table that collects is drained at times."""
     room, number = DurableRoom(TRAVEL, engine.store(engine.fresh())), 0
     began, used = time.perf_counter(), time.process_time()
     while time.perf_counter() - began < seconds:
@@ -93,6 +95,8 @@ def lives(engine, couples=32, seconds=LIVES_SECONDS):
         tickets = room.put_all(wanted)
         while room.step() != "idle":
             pass
+        if number % (couples * DRAINED_EACH) == 0:
+            room.turn("Trips")
     took, used, servers = time.perf_counter() - began, time.process_time() - used, used_by_server(room)
     for ticket in tickets:
         assert room.state(ticket).kind == "committed"
