@@ -10,7 +10,8 @@ import subprocess
 import sys
 import time
 
-from serving import EXAMPLES, Served, digest_of
+from entangle.stores import InboxRequest, PostgresInbox, Rejected
+from serving import EXAMPLES, Served, digest_of, until
 
 
 # All processes that a case has started.
@@ -66,6 +67,12 @@ def made(folder, engine, more="", **texts):
     with open(file, "w", encoding="utf-8") as target:
         target.write(f"listen = {{ port = 0 }}\noperate = {{ port = 0 }}\n{more}{text}")
     return file
+
+
+def dsn_of(file):
+    """The database of a file."""
+    with open(file, encoding="utf-8") as source:
+        return next(json.loads(line.split("=", 1)[1]) for line in source if line.startswith("postgres = "))
 
 
 def wish(me, friend, city="rome"):
@@ -164,7 +171,10 @@ def apart(tally, folder, engine):
     room.start()
     waits = Room(file, "rome")
     tally.note("a room that begins takes what stands there", front.becomes(key, "booked"))
+    time.sleep(2)
     tally.compare("another one stands by", waits.ask("GET", "/readyz", port=waits.inner)[0], 503)
+    is_had = room.process.poll() is None and room.is_ready(10)
+    tally.note("and takes nothing from the first", is_had, room.said()[-500:])
     room.ended(signal.SIGKILL)
     tally.note("and has the room then", waits.is_ready(30))
     one = front.put("lunch", wish("Cleo", "Dan"))[2]
@@ -189,6 +199,12 @@ def rejected(tally, folder, engine):
     tally.note("it ends", front.becomes(key, "ended"), front.look(key))
     how = front.look(key)[0]["how"]
     tally.note("and is told why", how.startswith("rejected: ") and "no script has the name lunch" in how, how)
+    inbox = PostgresInbox(f"{dsn_of(file)} options='-c search_path=rome'")
+    inbox.ask([InboxRequest("dinner", wish("Ann", "Bob"), "0" * 32)])
+    is_rejected = until(lambda: isinstance(inbox.fates(["0" * 32])["0" * 32], Rejected), 30)
+    tally.note("what no front has asked is rejected", is_rejected)
+    inbox.close()
+    tally.note("and the room serves on", room.is_ready(10), room.said()[-500:])
     for each in (front, room):
         each.close()
 
