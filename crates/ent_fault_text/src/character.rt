@@ -1,5 +1,6 @@
 //! What is said of faults of tokens.
 use crate::scene::Scene;
+use crate::whole::Whole;
 use crate::words::{Quantity, Wording};
 use ent_text::TextFault;
 use ent_value::{LONGEST_NAME, LONGEST_TEXT};
@@ -8,12 +9,10 @@ use std::alloc::AllocError;
 /// What is said of the first fault of the tokens.
 pub(crate) fn text_fault(scene: &Scene<'_>, fault: TextFault) -> Result<Wording, AllocError> {
     let alloc = scene.alloc;
-    let rest = scene.rest();
+    let rest = scene.text.get(scene.offset..).unwrap_or("");
     match fault {
         TextFault::BadChar(_) => match rest.chars().next() {
-            Some(c) if c.is_control() => control_character(scene, c),
-            Some(c) if is_unseen(c) => unseen_character(scene, c),
-            Some(c) => other_character(scene, c),
+            Some(c) => bad_character(scene, c),
             None => Ok(Wording::plain(format!(in alloc; "a character can't stand here")?)),
         },
         TextFault::OpenText(_) => Wording::hinted(
@@ -45,24 +44,32 @@ fn too_long(scene: &Scene<'_>, rest: &str) -> Result<Wording, AllocError> {
 
 /// How many letters, digits and `_` stand in front.
 pub(crate) fn word_length(text: &str) -> usize {
-    text.bytes()
-        .take_while(|byte| byte.is_ascii_alphanumeric() || *byte == b'_')
-        .count()
+    let mut length = 0usize;
+    for byte in text.bytes() {
+        if !byte.is_ascii_alphanumeric() && byte != b'_' {
+            break;
+        }
+        length = length.saturating_add(1);
+    }
+    length
 }
 
-/// A control character: in a text, or alone.
-fn control_character(scene: &Scene<'_>, c: char) -> Result<Wording, AllocError> {
+/// A character that can't stand in a text, or begins no token.
+fn bad_character(scene: &Scene<'_>, c: char) -> Result<Wording, AllocError> {
     let alloc = scene.alloc;
     let code = c as u32;
-    if c == '\n' || c == '\r' {
-        return Wording::hinted(
-            alloc,
-            format!(in alloc; "a text ends on its line, and this one doesn't")?,
-            "perhaps its closing quote is missing, or a ' in it isn't written twice",
-        );
+    let sentence = match c {
+        '\n' | '\r' => format!(in alloc; "a text ends on its line, and this one doesn't")?,
+        _ if c.is_control() => {
+            format!(in alloc; "the control character U+{code:04X} can't stand here")?
+        }
+        _ if is_unseen(c) => format!(in alloc; "the character U+{code:04X} can't stand here")?,
+        _ => format!(in alloc; "{c} can't stand here")?,
+    };
+    match hint_of(scene.whole, c) {
+        Some(hint) => Wording::hinted(alloc, sentence, hint),
+        None => Ok(Wording::plain(sentence)),
     }
-    let sentence = format!(in alloc; "the control character U+{code:04X} can't stand here")?;
-    Ok(Wording::plain(sentence))
 }
 
 /// Whether a character can't be seen: white space other than a blank, or one without width at a text's beginning.
@@ -70,32 +77,18 @@ fn is_unseen(c: char) -> bool {
     c.is_whitespace() || c == '\u{feff}' || c == '\u{200b}'
 }
 
-/// A character that can't be seen, by its number.
-fn unseen_character(scene: &Scene<'_>, c: char) -> Result<Wording, AllocError> {
-    let alloc = scene.alloc;
-    let code = c as u32;
-    let sentence = format!(in alloc; "the character U+{code:04X} can't stand here")?;
-    if c == '\u{feff}' {
-        let whole = scene.whole.with_article();
-        let hint = Some(format!(in alloc; "{whole} has no byte order mark")?);
-        return Ok(Wording { sentence, hint });
-    }
-    Wording::hinted(alloc, sentence, "white space is space, tab, CR and LF")
-}
-
-/// A character that begins no token.
-fn other_character(scene: &Scene<'_>, c: char) -> Result<Wording, AllocError> {
-    let alloc = scene.alloc;
-    let sentence = format!(in alloc; "{c} can't stand here")?;
-    match hint_of(c) {
-        Some(hint) => Wording::hinted(alloc, sentence, hint),
-        None => Ok(Wording::plain(sentence)),
-    }
-}
-
-/// What is written in the place of a character that begins no token.
-fn hint_of(c: char) -> Option<&'static str> {
+/// What is written in the place of a character.
+fn hint_of(whole: Whole, c: char) -> Option<&'static str> {
     match c {
+        '\n' | '\r' => {
+            Some("perhaps its closing quote is missing, or a ' in it isn't written twice")
+        }
+        _ if c.is_control() => None,
+        '\u{feff}' => Some(match whole {
+            Whole::Input => "an input has no byte order mark",
+            Whole::Script => "a script has no byte order mark",
+        }),
+        _ if is_unseen(c) => Some("white space is space, tab, CR and LF"),
         '"' | '`' | '\u{2018}' | '\u{2019}' | '\u{201c}' | '\u{201d}' => {
             Some("a text is written in single quotes, as 'LA', and a name without quotes")
         }

@@ -1,4 +1,5 @@
 //! What is said where numbers of values differ.
+use crate::kinds::sources_of;
 use crate::mark::{Mark, is_one, marks_behind};
 use crate::scene::Scene;
 use crate::words::{Quantity, Wording, listed};
@@ -29,7 +30,7 @@ fn things(marks: &[Mark<'_>], end: Keyword) -> usize {
 /// A row with another number of values than its table has columns, or a sub-select with another number of items than
 /// its tuple has terms.
 pub(crate) fn arity(scene: &Scene<'_>) -> Result<Wording, AllocError> {
-    if scene.is_back(1, "VALUES") {
+    if scene.is_at(-1, "VALUES") {
         return row_arity(scene);
     }
     tuple_arity(scene)
@@ -37,45 +38,37 @@ pub(crate) fn arity(scene: &Scene<'_>) -> Result<Wording, AllocError> {
 
 fn row_arity(scene: &Scene<'_>) -> Result<Wording, AllocError> {
     let alloc = scene.alloc;
-    let name = match scene.back(2) {
+    let name = match scene.token(-2) {
         Some(mark) => mark.text,
         None => "",
     };
-    let columns = column_names(scene, name)?;
+    let columns = scene.columns_of(&[name])?;
+    let hint = Some(columns_hint(scene, columns.as_slice())?);
     let inside = marks_behind(scene.coming(), 1);
     let wanted = Quantity(columns.len(), "column");
     let count = things(inside, Keyword::Values);
     let values = Quantity(count, "value");
     let verb = if count == 1 { "stands" } else { "stand" };
     let sentence = format!(in alloc; "{name} has {wanted}, and here {verb} {values}")?;
-    let list = listed(alloc, columns.as_slice(), " and ")?;
+    Ok(Wording { sentence, hint })
+}
+
+/// Which columns a table has.
+fn columns_hint(scene: &Scene<'_>, columns: &[&str]) -> Result<String, AllocError> {
+    let alloc = scene.alloc;
+    let list = listed(alloc, columns, ", ", " and ")?;
     let be = if columns.len() == 1 {
         "column is"
     } else {
         "columns are"
     };
-    let hint = format!(in alloc; "the {be} {list}")?;
-    Ok(Wording {
-        sentence,
-        hint: Some(hint),
-    })
-}
-
-/// The names of a table's columns.
-fn column_names<'a>(scene: &Scene<'a>, name: &str) -> Result<Vec<&'a str>, AllocError> {
-    let mut names: Vec<&'a str> = Vec::new(scene.alloc);
-    if let Some(table) = scene.table(name) {
-        for column in &table.columns {
-            names.push(column.name)?;
-        }
-    }
-    Ok(names)
+    format!(in alloc; "the {be} {list}")
 }
 
 fn tuple_arity(scene: &Scene<'_>) -> Result<Wording, AllocError> {
     let alloc = scene.alloc;
     let coming = scene.coming();
-    let inside = if scene.is_ahead(0, "(") {
+    let inside = if scene.is_at(0, "(") {
         coming.get(1..)
     } else {
         coming.get(..)
@@ -86,18 +79,24 @@ fn tuple_arity(scene: &Scene<'_>) -> Result<Wording, AllocError> {
     Ok(Wording::plain(sentence))
 }
 
+/// The tokens behind the first SELECT of some.
+fn behind_select<'a, 'b>(marks: &'b [Mark<'a>]) -> &'b [Mark<'a>] {
+    for (index, mark) in marks.iter().enumerate() {
+        if mark.is_word(Keyword::Select) {
+            return marks_behind(marks, index.saturating_add(1));
+        }
+    }
+    marks_behind(marks, marks.len())
+}
+
 /// How many items the first sub-select of these tokens has; `*` stands for all columns of its sources.
 fn items_behind(scene: &Scene<'_>, marks: &[Mark<'_>]) -> Result<usize, AllocError> {
-    let start = match marks.iter().position(|mark| mark.is_word(Keyword::Select)) {
-        Some(at) => at.saturating_add(1),
-        None => marks.len(),
-    };
-    let list = marks_behind(marks, start);
+    let list = behind_select(marks);
     if !is_one(list.first(), "*") {
         return Ok(things(list, Keyword::From));
     }
     let mut count = 0usize;
-    for source in &scene.sources_behind(list)? {
+    for source in &sources_of(scene.alloc, list)? {
         if let Some(table) = scene.table(source.table) {
             count = count.saturating_add(table.columns.len());
         }

@@ -1,74 +1,120 @@
 //! What can stand at a place: the reader itself is asked, token by token.
-use crate::names::nearest;
+use crate::names::meant;
 use crate::whole::Whole;
-use crate::words::{has_name, joined};
+use crate::words::has_name;
 use std::alloc::{AllocError, Global};
 
 /// The symbols that are tried, but those of comparisons.
-const SIGNS: &str = "( ) , ; . * + -";
+const SYMBOLS: &str = "( ) , ; . * + -";
 
-/// The reserved words from A to C.
-const FIRST_WORDS: &str = "AND ANSWER AS BEGIN CHOOSE COMMIT CREATE";
+/// The reserved words.
+static RESERVED: [&str; 3] = [
+    "AND ANSWER AS BEGIN CHOOSE COMMIT CREATE",
+    "DELETE FROM IN INSERT INT INTO ROLLBACK RUNS",
+    "SELECT SET TABLE TEXT TRANSACTION UPDATE VALUES WHERE WITHIN",
+];
 
-/// The reserved words from D to R.
-const MIDDLE_WORDS: &str = "DELETE FROM IN INSERT INT INTO ROLLBACK RUNS";
+/// A text that begins an input, or a script.
+#[derive(Clone, Copy)]
+struct Lead<'a> {
+    alloc: Global,
+    whole: Whole,
+    text: &'a str,
+}
 
-/// The reserved words from S on.
-const LAST_WORDS: &str = "SELECT SET TABLE TEXT TRANSACTION UPDATE VALUES WHERE WITHIN";
+impl Lead<'_> {
+    /// Whether a token can follow it. The reader refuses one at the first token that can't follow what stands before it;
+    /// a line's end keeps the token out of a comment.
+    fn allows(self, token: &str) -> Result<bool, AllocError> {
+        let alloc = self.alloc;
+        let lead = self.text;
+        let text = format!(in alloc; "{lead}\n{token}")?;
+        Ok(match self.whole.fault_of(alloc, text.as_str())? {
+            None => true,
+            Some(fault) => fault.place() > lead.len().saturating_add(1),
+        })
+    }
+
+    /// Adds those of some words that can follow it. A minus sign before a number belongs to a value.
+    fn add_words(
+        self,
+        things: &mut Vec<&'static str>,
+        words: &'static str,
+        is_number: bool,
+    ) -> Result<(), AllocError> {
+        for word in words.split(' ') {
+            let is_value = word == "-" && is_number;
+            if !is_value && self.allows(word)? {
+                things.push(word)?;
+            }
+        }
+        Ok(())
+    }
+
+    /// Adds the names and values that can follow it; whether a number can.
+    fn add_values(self, things: &mut Vec<&'static str>) -> Result<bool, AllocError> {
+        if self.allows("a")? {
+            things.push("a name")?;
+        }
+        let is_number = self.allows("1")?;
+        let is_text = self.allows("''")?;
+        let is_variable = self.allows("@a")?;
+        if is_number && is_text && is_variable {
+            things.push("a value")?;
+            return Ok(true);
+        }
+        if self.allows("2")? {
+            things.push("a number")?;
+        } else if is_number {
+            things.push("1")?;
+        }
+        if is_text {
+            things.push("a text")?;
+        }
+        if is_variable {
+            things.push("a host variable")?;
+        }
+        Ok(is_number)
+    }
+}
+
+/// Whether a token can follow a text that begins an input.
+fn can_follow(alloc: Global, text: &str, token: &str) -> Result<bool, AllocError> {
+    let whole = Whole::Input;
+    Lead { alloc, whole, text }.allows(token)
+}
+
+/// Whether a token begins a statement, a script's end, a script or a declaration.
+pub(crate) fn can_begin(alloc: Global, token: &str) -> Result<bool, AllocError> {
+    Ok(can_follow(alloc, "", token)? || can_follow(alloc, "BEGIN TRANSACTION;", token)?)
+}
+
+/// Whether a token is a comparison: nothing else can follow a whole operand in a WHERE.
+pub(crate) fn can_compare(alloc: Global, token: &str) -> Result<bool, AllocError> {
+    can_follow(alloc, "BEGIN TRANSACTION; SELECT * FROM a WHERE a.a", token)
+}
 
 /// What can stand at a place.
 #[derive(Drop)]
 pub(crate) struct Expected {
     /// Each thing that can, in words.
-    things: Vec<&'static str>,
-}
-
-/// Which tokens of values can stand at a place.
-#[derive(Clone, Copy)]
-struct Values {
-    is_name: bool,
-    is_variable: bool,
-    is_number: bool,
-    /// Another number than 1.
-    is_any_number: bool,
-    is_text: bool,
-}
-
-/// Whether a token can follow a text that begins an input, or a script. The reader refuses one at the first token that
-/// can't follow what stands before it; a line's end keeps the token out of a comment.
-fn can_follow(alloc: Global, whole: Whole, lead: &str, token: &str) -> Result<bool, AllocError> {
-    let text = format!(in alloc; "{lead}\n{token}")?;
-    Ok(match whole.fault_of(alloc, text.as_str())? {
-        None => true,
-        Some(fault) => fault.place() > lead.len().saturating_add(1),
-    })
-}
-
-/// Whether a token begins a statement, a script's end, a script or a declaration.
-pub(crate) fn can_begin(alloc: Global, token: &str) -> Result<bool, AllocError> {
-    let is_first = can_follow(alloc, Whole::Input, "", token)?;
-    Ok(is_first || can_follow(alloc, Whole::Input, "BEGIN TRANSACTION;", token)?)
-}
-
-/// Whether a token is a comparison: nothing else can follow a whole operand in a WHERE.
-pub(crate) fn can_compare(alloc: Global, token: &str) -> Result<bool, AllocError> {
-    let lead = "BEGIN TRANSACTION; SELECT * FROM a WHERE a.a";
-    can_follow(alloc, Whole::Input, lead, token)
+    pub(crate) things: Vec<&'static str>,
 }
 
 impl Expected {
     /// What can follow a text that begins an input, or a script.
-    pub(crate) fn behind(alloc: Global, whole: Whole, lead: &str) -> Result<Self, AllocError> {
-        let values = values_behind(alloc, whole, lead)?;
+    pub(crate) fn behind(alloc: Global, whole: Whole, text: &str) -> Result<Self, AllocError> {
+        let lead = Lead { alloc, whole, text };
         let mut things: Vec<&'static str> = Vec::new(alloc);
-        add_values(&mut things, values)?;
-        if can_follow(alloc, whole, lead, "=")? {
+        let is_number = lead.add_values(&mut things)?;
+        if lead.allows("=")? {
             things.push("a comparison")?;
         }
-        for words in [SIGNS, FIRST_WORDS, MIDDLE_WORDS, LAST_WORDS] {
-            add_words(&mut things, alloc, whole, lead, words, values)?;
+        lead.add_words(&mut things, SYMBOLS, is_number)?;
+        for words in &RESERVED {
+            lead.add_words(&mut things, *words, is_number)?;
         }
-        if whole.fault_of(alloc, lead)?.is_none() {
+        if whole.fault_of(alloc, text)?.is_none() {
             things.push(match whole {
                 Whole::Input => "the end of the input",
                 Whole::Script => "the end of the script",
@@ -82,80 +128,18 @@ impl Expected {
         has_name(self.things.as_slice(), thing)
     }
 
-    /// The reserved word that can stand there and is one letter away from a word, in any mix of upper and lower case.
-    pub(crate) fn near_word(
-        &self,
-        alloc: Global,
-        word: &str,
-    ) -> Result<Option<&'static str>, AllocError> {
+    /// The hint that a reserved word was meant, if one can stand there that is one letter away from a word, in any mix of
+    /// upper and lower case.
+    pub(crate) fn meant(&self, alloc: Global, word: &str) -> Result<Option<String>, AllocError> {
         let mut reserved: Vec<&'static str> = Vec::new(alloc);
-        for thing in &self.things {
-            if is_reserved(thing) {
-                reserved.push(*thing)?;
+        for words in &RESERVED {
+            for word in words.split(' ') {
+                if self.has(word) {
+                    reserved.push(word)?;
+                }
             }
         }
         let upper = word.to_ascii_uppercase(alloc)?;
-        nearest(alloc, upper.as_str(), reserved.as_slice())
+        meant(alloc, upper.as_str(), reserved.as_slice())
     }
-
-    /// All of it, as `, or FROM`: a comma may be among it.
-    pub(crate) fn listed(&self, alloc: Global) -> Result<String, AllocError> {
-        joined(alloc, self.things.as_slice(), " or ")
-    }
-}
-
-/// Whether one of the things that can stand somewhere is a reserved word.
-fn is_reserved(thing: &str) -> bool {
-    thing.bytes().all(|byte| byte.is_ascii_uppercase())
-}
-
-/// Adds those of some words that can stand somewhere. A minus sign before a number belongs to a value.
-fn add_words(
-    things: &mut Vec<&'static str>,
-    alloc: Global,
-    whole: Whole,
-    lead: &str,
-    words: &'static str,
-    values: Values,
-) -> Result<(), AllocError> {
-    for word in words.split(' ') {
-        let is_value = word == "-" && values.is_number;
-        if !is_value && can_follow(alloc, whole, lead, word)? {
-            things.push(word)?;
-        }
-    }
-    Ok(())
-}
-
-fn values_behind(alloc: Global, whole: Whole, lead: &str) -> Result<Values, AllocError> {
-    Ok(Values {
-        is_name: can_follow(alloc, whole, lead, "a")?,
-        is_variable: can_follow(alloc, whole, lead, "@a")?,
-        is_number: can_follow(alloc, whole, lead, "1")?,
-        is_any_number: can_follow(alloc, whole, lead, "2")?,
-        is_text: can_follow(alloc, whole, lead, "''")?,
-    })
-}
-
-/// Says which values can stand somewhere.
-fn add_values(things: &mut Vec<&'static str>, values: Values) -> Result<(), AllocError> {
-    if values.is_name {
-        things.push("a name")?;
-    }
-    if values.is_number && values.is_text && values.is_variable {
-        things.push("a value")?;
-        return Ok(());
-    }
-    if values.is_any_number {
-        things.push("a number")?;
-    } else if values.is_number {
-        things.push("1")?;
-    }
-    if values.is_text {
-        things.push("a text")?;
-    }
-    if values.is_variable {
-        things.push("a host variable")?;
-    }
-    Ok(())
 }

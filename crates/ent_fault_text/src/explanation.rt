@@ -115,25 +115,25 @@ fn told(scene: &Scene<'_>, fault: InputFault) -> Result<Wording, AllocError>
 fn not_utf8(scene: &Scene<'_>) -> Result<Wording, AllocError> {
     let alloc = scene.alloc;
     let sentence = format!(in alloc; "what stands here isn't UTF-8")?;
-    let whole = scene.whole.with_article();
-    let hint = Some(format!(in alloc; "{whole} is a text in UTF-8")?);
-    Ok(Wording { sentence, hint })
+    let hint = match scene.whole {
+        Whole::Input => "an input is a text in UTF-8",
+        Whole::Script => "a script is a text in UTF-8",
+    };
+    Wording::hinted(alloc, sentence, hint)
 }
 
-/// How many columns are marked: those of the token at the place, or of the word where a fault of tokens stands.
+/// How many columns are marked: those of the token at the place; where a fault of tokens stands, those of the word that
+/// its text begins with, and of the `@` before it.
 fn marked(scene: &Scene<'_>) -> usize {
-    match scene.ahead(0) {
-        Some(mark) if mark.sort == Sort::Faulty => faulty_length(mark.text),
-        Some(mark) => columns(mark.text),
-        None => 1,
-    }
-}
-
-/// How long the word is that a text begins with, and the `@` before it.
-fn faulty_length(text: &str) -> usize {
-    match text.strip_prefix('@') {
-        Some(word) => word_length(word).saturating_add(1),
-        None => word_length(text),
+    let Some(mark) = scene.token(0) else {
+        return 1;
+    };
+    match mark.sort {
+        Sort::Faulty => match mark.text.strip_prefix('@') {
+            Some(word) => word_length(word).saturating_add(1),
+            None => word_length(mark.text),
+        },
+        _ => columns(mark.text),
     }
 }
 

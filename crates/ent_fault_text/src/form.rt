@@ -2,11 +2,10 @@
 use crate::absent::absent_word;
 use crate::counts::arity;
 use crate::expected::can_compare;
-use crate::mark::Sort;
+use crate::mark::{Mark, is_one};
 use crate::names::{meant, nearest};
 use crate::repeated::{ambiguous, repeated};
 use crate::scene::Scene;
-use crate::schema::Table;
 use crate::typed::wrong_kind;
 use crate::words::{Wording, has_name, listed};
 use ent_form::FormFault;
@@ -33,44 +32,41 @@ pub(crate) fn form_fault(scene: &Scene<'_>, fault: FormFault) -> Result<Wording,
 fn no_table(scene: &Scene<'_>) -> Result<Wording, AllocError> {
     let alloc = scene.alloc;
     let name = scene.word();
-    if scene.is_ahead(1, ".") {
-        return no_source(scene, name);
+    if scene.is_at(1, ".") {
+        let hint = source_hint(scene, name)?;
+        let sentence = format!(in alloc; "no source goes by the name {name} here")?;
+        return Ok(Wording { sentence, hint });
     }
+    let hint = table_hint(scene, name)?;
     let sentence = format!(in alloc; "there is no table {name}")?;
-    if has_name(scene.relations.as_slice(), name) {
-        let hint = format!(in alloc; "{name} is an answer relation, and no table")?;
-        return Ok(Wording {
-            sentence,
-            hint: Some(hint),
-        });
-    }
-    let names: Vec<&str> = scene
-        .tables
-        .iter()
-        .map(|table| table.name.text)
-        .collect(alloc)?;
-    let hint = hint_among(scene, name, names.as_slice(), "the tables are")?;
     Ok(Wording { sentence, hint })
 }
 
-/// No source that goes by this name.
-fn no_source(scene: &Scene<'_>, name: &str) -> Result<Wording, AllocError> {
+/// What helps where there is no such table.
+fn table_hint(scene: &Scene<'_>, name: &str) -> Result<Option<String>, AllocError> {
     let alloc = scene.alloc;
-    let sentence = format!(in alloc; "no source goes by the name {name} here")?;
-    let sources = scene.sources()?;
-    for source in &sources {
+    if has_name(scene.relations.as_slice(), name) {
+        return Ok(Some(format!(in alloc; "{name} is an answer relation, and no table")?));
+    }
+    let mut names: Vec<&str> = Vec::new(alloc);
+    for table in &scene.tables {
+        names.push(table.name.text)?;
+    }
+    hint_among(scene, name, names.as_slice(), "the tables are")
+}
+
+/// What helps where no source goes by this name.
+fn source_hint(scene: &Scene<'_>, name: &str) -> Result<Option<String>, AllocError> {
+    let alloc = scene.alloc;
+    let mut names: Vec<&str> = Vec::new(alloc);
+    for source in &scene.sources()? {
         if source.table == name {
             let alias = source.name;
-            let hint = format!(in alloc; "{name} goes by {alias} here")?;
-            return Ok(Wording {
-                sentence,
-                hint: Some(hint),
-            });
+            return Ok(Some(format!(in alloc; "{name} goes by {alias} here")?));
         }
+        names.push(source.name)?;
     }
-    let names: Vec<&str> = sources.iter().map(|source| source.name).collect(alloc)?;
-    let hint = hint_among(scene, name, names.as_slice(), "the sources are")?;
-    Ok(Wording { sentence, hint })
+    hint_among(scene, name, names.as_slice(), "the sources are")
 }
 
 /// The name that was meant; else all that there are, where they are few.
@@ -85,7 +81,7 @@ fn hint_among(
     if near.is_some() || names.is_empty() || names.len() > MOST_NAMED {
         return Ok(near);
     }
-    let list = listed(alloc, names, " and ")?;
+    let list = listed(alloc, names, ", ", " and ")?;
     Ok(Some(format!(in alloc; "{what} {list}")?))
 }
 
@@ -93,72 +89,72 @@ fn hint_among(
 fn no_column(scene: &Scene<'_>) -> Result<Wording, AllocError> {
     let alloc = scene.alloc;
     let name = scene.word();
-    let is_qualified = scene.is_back(1, ".");
-    let qualifier = if is_qualified { scene.back(2) } else { None };
-    let mut tables: Vec<&str> = Vec::new(alloc);
-    let mut columns: Vec<&str> = Vec::new(alloc);
-    for source in &scene.sources()? {
-        if qualifier.is_some_and(|mark| mark.text != source.name) {
-            continue;
-        }
-        tables.push(source.table)?;
-        if let Some(table) = scene.table(source.table) {
-            add_columns(&mut columns, table)?;
-        }
-    }
-    let list = listed(alloc, tables.as_slice(), " and ")?;
+    let is_qualified = scene.is_at(-1, ".");
+    let qualifier = if is_qualified { scene.token(-2) } else { None };
+    let tables = tables_of(scene, qualifier)?;
+    let hint = column_hint(scene, name, tables.as_slice(), is_qualified)?;
+    let list = listed(alloc, tables.as_slice(), ", ", " and ")?;
     let sentence = match tables.len() {
         1 => format!(in alloc; "{list} has no column {name}")?,
         _ => format!(in alloc; "none of {list} has a column {name}")?,
     };
-    let hint = column_hint(scene, name, columns.as_slice(), is_qualified)?;
     Ok(Wording { sentence, hint })
 }
 
-/// Adds the names of a table's columns that aren't there yet.
-fn add_columns<'a>(columns: &mut Vec<&'a str>, table: &Table<'a>) -> Result<(), AllocError> {
-    for column in &table.columns {
-        if !has_name(columns.as_slice(), column.name) {
-            columns.push(column.name)?;
+/// The tables of the sources here: of those that go by the qualifier or, without one, of all.
+fn tables_of<'a>(
+    scene: &Scene<'a>,
+    qualifier: Option<Mark<'_>>,
+) -> Result<Vec<&'a str>, AllocError> {
+    let mut tables: Vec<&'a str> = Vec::new(scene.alloc);
+    for source in &scene.sources()? {
+        if let Some(mark) = qualifier
+            && mark.text != source.name
+        {
+            continue;
         }
+        tables.push(source.table)?;
     }
-    Ok(())
+    Ok(tables)
 }
 
-/// What helps where there is no such column: a word of SQL, a near name, or quotes, where a text may be meant.
+/// What helps where there is no such column: a near name, a word of SQL, or quotes, where a text may be meant.
 fn column_hint(
     scene: &Scene<'_>,
     name: &str,
-    columns: &[&str],
+    tables: &[&str],
     is_qualified: bool,
 ) -> Result<Option<String>, AllocError> {
     let alloc = scene.alloc;
-    let near = meant(alloc, name, columns)?;
-    if near.is_some() {
-        return Ok(near);
+    let columns = scene.columns_of(tables)?;
+    if let Some(near) = meant(alloc, name, columns.as_slice())? {
+        return Ok(Some(near));
     }
-    let absent = absent_word(alloc, name)?;
-    if absent.is_some() {
-        return Ok(absent);
+    if let Some(absent) = absent_word(alloc, name, false)? {
+        return Ok(Some(absent));
     }
-    let is_right = match scene.back(1) {
-        Some(mark) => can_compare(alloc, mark.text)?,
-        None => false,
-    };
-    if is_right && !is_qualified {
+    if !is_qualified && is_right_side(scene)? {
         return Ok(Some(format!(in alloc; "a text is written in quotes: '{name}'")?));
     }
-    hint_among(scene, name, columns, "the columns are")
+    hint_among(scene, name, columns.as_slice(), "the columns are")
+}
+
+/// Whether the place is the right side of a comparison.
+fn is_right_side(scene: &Scene<'_>) -> Result<bool, AllocError> {
+    match scene.token(-1) {
+        Some(mark) => can_compare(scene.alloc, mark.text),
+        None => Ok(false),
+    }
 }
 
 /// A written variable without a value.
 fn unbound(scene: &Scene<'_>) -> Result<Wording, AllocError> {
     let alloc = scene.alloc;
     let name = scene.word();
+    let hint = Some(unbound_hint(scene, name)?);
     let sentence = format!(in alloc;
         "{name} has no value: it stands in no tuple with IN (SELECT ..) of its statement"
     )?;
-    let hint = Some(unbound_hint(scene, name)?);
     Ok(Wording { sentence, hint })
 }
 
@@ -182,22 +178,27 @@ fn unbound_hint(scene: &Scene<'_>, name: &str) -> Result<String, AllocError> {
 fn no_host_variable(scene: &Scene<'_>) -> Result<Wording, AllocError> {
     let alloc = scene.alloc;
     let name = scene.word();
+    let hint = if is_bound_elsewhere(scene, name) {
+        Some(format!(in alloc; "AS {name} gives it one for the statements behind this one")?)
+    } else {
+        let others = scene.host_variables()?;
+        hint_among(scene, name, others.as_slice(), "those that have one are")?
+    };
     let sentence = format!(in alloc;
         "{name} has no value: no earlier statement of its script gives it one"
     )?;
-    for (index, mark) in scene.statement().iter().enumerate() {
-        let is_bound = index > 0 && mark.sort == Sort::HostVariable && mark.text == name;
-        if is_bound && mark.start != scene.offset && scene.is_bound_at(index) {
-            let hint = format!(in alloc;
-                "AS {name} gives it one for the statements behind this one"
-            )?;
-            return Ok(Wording {
-                sentence,
-                hint: Some(hint),
-            });
-        }
-    }
-    let others = scene.host_variables()?;
-    let hint = hint_among(scene, name, others.as_slice(), "those that have one are")?;
     Ok(Wording { sentence, hint })
+}
+
+/// Whether the statement gives a host variable a value by AS, elsewhere than at the place.
+fn is_bound_elsewhere(scene: &Scene<'_>, name: &str) -> bool {
+    let mut last: Option<Mark<'_>> = None;
+    for mark in scene.statement() {
+        let is_other = mark.text == name && mark.start != scene.offset;
+        if is_other && is_one(last.as_ref(), "AS") {
+            return true;
+        }
+        last = Some(*mark);
+    }
+    false
 }

@@ -15,14 +15,14 @@ pub(crate) struct Hint {
 }
 
 /// Where NOT NULL stands behind a column's kind.
-pub(crate) const NOT_NULL: [Hint; 1] = [Hint {
+pub(crate) static NOT_NULL: [Hint; 1] = [Hint {
     around: ["CREATE", "", "NOT", "NULL"],
     expected: "",
     says: "NULL isn't in this language: each row has a value in each column, so leave NOT NULL out",
 }];
 
 /// Where a token can't stand in an INSERT or in a SET, or is a number or a part of one.
-const IN_STATEMENTS: [Hint; 8] = [
+static IN_STATEMENTS: [Hint; 8] = [
     Hint {
         around: ["INSERT", ")", ",", ""],
         expected: "",
@@ -66,7 +66,7 @@ const IN_STATEMENTS: [Hint; 8] = [
 ];
 
 /// Where one script stands alone, and something in it or behind it that an input has.
-const IN_ONE_SCRIPT: [Hint; 2] = [
+static IN_ONE_SCRIPT: [Hint; 2] = [
     Hint {
         around: ["", "", "", ""],
         expected: "the end of the script",
@@ -80,7 +80,7 @@ const IN_ONE_SCRIPT: [Hint; 2] = [
 ];
 
 /// Where something stands in the wrong part of the input or of a statement, a `;` is missing, or a word is reserved.
-const ANYWHERE: [Hint; 14] = [
+static ANYWHERE: [Hint; 14] = [
     Hint {
         around: ["", "", "CREATE", ""],
         expected: "INSERT",
@@ -159,7 +159,7 @@ const ANYWHERE: [Hint; 14] = [
 ];
 
 /// Where AS can't stand in a SELECT that isn't entangled, or what stands behind it.
-pub(crate) const IN_NAMINGS: [Hint; 3] = [
+pub(crate) static IN_NAMINGS: [Hint; 3] = [
     Hint {
         around: ["", "AS", "<name>", ""],
         expected: "a host variable",
@@ -182,9 +182,9 @@ impl Hint {
     fn fits(&self, scene: &Scene<'_>, expected: &Expected, is_start: bool) -> bool {
         let [first, before, found, next] = self.around;
         (first.is_empty() || scene.begins_with(first))
-            && (before.is_empty() || scene.is_back(1, before))
-            && (found.is_empty() || is_start && found == "<start>" || scene.is_ahead(0, found))
-            && (next.is_empty() || scene.is_ahead(1, next))
+            && (before.is_empty() || scene.is_at(-1, before))
+            && (found.is_empty() || is_start && found == "<start>" || scene.is_at(0, found))
+            && (next.is_empty() || scene.is_at(1, next))
             && (self.expected.is_empty() || expected.has(self.expected))
     }
 }
@@ -214,7 +214,7 @@ pub(crate) fn fixed_hint(
     if in_statement.is_some() {
         return in_statement;
     }
-    if scene.whole == Whole::Script {
+    if matches!(scene.whole, Whole::Script) {
         let in_script = hint_among(&IN_ONE_SCRIPT, scene, expected, is_start);
         if in_script.is_some() {
             return in_script;

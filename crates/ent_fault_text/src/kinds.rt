@@ -3,7 +3,8 @@ use crate::expected::can_compare;
 use crate::mark::{Mark, Sort, first_marks, is_one, marks_behind};
 use crate::scene::Scene;
 use crate::schema::Column;
-use ent_text::Symbol;
+use crate::words::has_name;
+use ent_text::{Keyword, Symbol};
 use ent_value::Kind;
 use std::alloc::{AllocError, Global};
 
@@ -61,11 +62,14 @@ fn introduced<'a, 'b>(marks: &'b [Mark<'a>]) -> &'b [Mark<'a>] {
     first_marks(marks, 0)
 }
 
-/// The sources that these tokens begin with.
-fn sources_of<'a>(alloc: Global, marks: &[Mark<'a>]) -> Result<Vec<SourceNames<'a>>, AllocError> {
+/// The sources of the first SELECT that these tokens go on; of another statement its table.
+pub(crate) fn sources_of<'a>(
+    alloc: Global,
+    marks: &[Mark<'a>],
+) -> Result<Vec<SourceNames<'a>>, AllocError> {
     let mut sources: Vec<SourceNames<'a>> = Vec::new(alloc);
     let mut is_new = true;
-    for mark in marks {
+    for mark in introduced(marks) {
         let name = mark.text;
         if mark.is_name() && is_new {
             sources.push(SourceNames { table: name, name })?;
@@ -74,7 +78,7 @@ fn sources_of<'a>(alloc: Global, marks: &[Mark<'a>]) -> Result<Vec<SourceNames<'
             rename(&mut sources, name);
         } else if mark.is_sign(Symbol::Comma) {
             is_new = true;
-        } else if !mark.is_of("AS") {
+        } else if !mark.is_word(Keyword::As) {
             break;
         }
     }
@@ -89,25 +93,27 @@ fn rename<'a>(sources: &mut Vec<SourceNames<'a>>, name: &'a str) {
 }
 
 impl<'a> Scene<'a> {
-    /// The tokens of the innermost SELECT that holds the place, or of its statement, from the first on.
-    fn scope(&self) -> &[Mark<'a>] {
+    /// The sources of the innermost SELECT that holds the place, or of its statement.
+    pub(crate) fn sources(&self) -> Result<Vec<SourceNames<'a>>, AllocError> {
         let statement = self.statement();
         let passed = statement.len().saturating_sub(self.coming().len());
         let front = first_marks(statement, passed.saturating_add(1));
-        marks_behind(statement, select_start(front))
+        sources_of(self.alloc, marks_behind(statement, select_start(front)))
     }
 
-    /// The sources of the innermost SELECT that holds the place; of another statement its table.
-    pub(crate) fn sources(&self) -> Result<Vec<SourceNames<'a>>, AllocError> {
-        sources_of(self.alloc, introduced(self.scope()))
-    }
-
-    /// The sources of the first SELECT that these tokens go on.
-    pub(crate) fn sources_behind<'b>(
-        &self,
-        marks: &[Mark<'b>],
-    ) -> Result<Vec<SourceNames<'b>>, AllocError> {
-        sources_of(self.alloc, introduced(marks))
+    /// The names of the columns of some tables, each once.
+    pub(crate) fn columns_of(&self, tables: &[&str]) -> Result<Vec<&'a str>, AllocError> {
+        let mut names: Vec<&'a str> = Vec::new(self.alloc);
+        for name in tables {
+            if let Some(table) = self.table(name) {
+                for column in &table.columns {
+                    if !has_name(names.as_slice(), column.name) {
+                        names.push(column.name)?;
+                    }
+                }
+            }
+        }
+        Ok(names)
     }
 
     /// The first column of this name, in the source that goes by the qualifier or, without one, in any.
@@ -116,16 +122,16 @@ impl<'a> Scene<'a> {
         qualifier: Option<&str>,
         name: &str,
     ) -> Result<Option<Column<'a>>, AllocError> {
-        let sources = self.sources()?;
-        for source in &sources {
-            if qualifier.is_some_and(|wanted| wanted != source.name) {
+        for source in &self.sources()? {
+            if let Some(wanted) = qualifier
+                && wanted != source.name
+            {
                 continue;
             }
-            let column = self
-                .table(source.table)
-                .and_then(|table| table.column(name));
-            if column.is_some() {
-                return Ok(column);
+            if let Some(table) = self.table(source.table)
+                && let Some(column) = table.column(name)
+            {
+                return Ok(Some(column));
             }
         }
         Ok(None)
@@ -140,21 +146,24 @@ impl<'a> Scene<'a> {
         match mark.sort {
             Sort::Number | Sort::Sign(Symbol::Minus) => Ok(Some(Kind::Int)),
             Sort::Text => Ok(Some(Kind::Text)),
-            Sort::Name => Ok(self.column(qualifier, mark.text)?.map(|column| column.kind)),
+            Sort::Name => match self.column(qualifier, mark.text)? {
+                Some(column) => Ok(Some(column.kind)),
+                None => Ok(None),
+            },
             _ => Ok(None),
         }
     }
 
     /// What begins at the place.
     pub(crate) fn side_ahead(&self) -> Result<TestSide<'a>, AllocError> {
-        let (Some(first), dot, second) = (self.ahead(0), self.ahead(1), self.ahead(2)) else {
+        let (Some(first), dot, second) = (self.token(0), self.token(1), self.token(2)) else {
             return Ok(TestSide {
                 text: "",
                 kind: None,
             });
         };
         let is_pair = first.is_sign(Symbol::Minus);
-        let is_qualified = first.is_name() && self.is_ahead(1, ".");
+        let is_qualified = first.is_name() && self.is_at(1, ".");
         if is_qualified && let Some(column) = second {
             let kind = self.kind_of(Some(first.text), &column)?;
             return Ok(TestSide {
@@ -172,14 +181,14 @@ impl<'a> Scene<'a> {
 
     /// What ends just before the comparison that stands before the place.
     pub(crate) fn side_back(&self) -> Result<Option<TestSide<'a>>, AllocError> {
-        let (Some(sign), Some(last)) = (self.back(1), self.back(2)) else {
+        let (Some(sign), Some(last)) = (self.token(-1), self.token(-2)) else {
             return Ok(None);
         };
         if !can_compare(self.alloc, sign.text)? {
             return Ok(None);
         }
-        if self.is_back(3, ".")
-            && let Some(qualifier) = self.back(4)
+        if self.is_at(-3, ".")
+            && let Some(qualifier) = self.token(-4)
         {
             let kind = self.kind_of(Some(qualifier.text), &last)?;
             return Ok(Some(TestSide {

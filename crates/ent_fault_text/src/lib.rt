@@ -16,7 +16,6 @@ mod kinds;
 mod mark;
 mod misspelt;
 mod names;
-mod naming;
 mod repeated;
 mod scene;
 mod schema;

@@ -2,7 +2,7 @@
 use ent_text::{Keyword, Symbol, TokenView};
 
 /// What kind of token one is.
-#[derive(Clone, Copy, Debug, PartialEq, Eq)]
+#[derive(Clone, Copy)]
 pub(crate) enum Sort {
     Word(Keyword),
     Name,
@@ -15,7 +15,7 @@ pub(crate) enum Sort {
 }
 
 /// A token, with the text that spells it and where that begins.
-#[derive(Clone, Copy, Debug)]
+#[derive(Clone, Copy)]
 pub(crate) struct Mark<'a> {
     pub(crate) sort: Sort,
     pub(crate) text: &'a str,

@@ -11,29 +11,15 @@ pub(crate) fn misspelt(
     found: &Mark<'_>,
     expected: &Expected,
 ) -> Result<Option<String>, AllocError> {
-    let near = near_word(scene, found, expected)?;
-    if near.is_some() {
-        return Ok(near);
+    let alloc = scene.alloc;
+    if let Some(near) = expected.meant(alloc, found.text)? {
+        return Ok(Some(near));
     }
-    match scene.back(1) {
+    match scene.token(-1) {
         Some(before) if before.is_name() => {
             let lead = scene.lead_up_to(before.start);
-            let earlier = Expected::behind(scene.alloc, scene.whole, lead)?;
-            near_word(scene, &before, &earlier)
+            Expected::behind(alloc, scene.whole, lead)?.meant(alloc, before.text)
         }
         _ => Ok(None),
-    }
-}
-
-/// The hint that a reserved word was meant by a token, where one can stand there that is near.
-fn near_word(
-    scene: &Scene<'_>,
-    mark: &Mark<'_>,
-    expected: &Expected,
-) -> Result<Option<String>, AllocError> {
-    let alloc = scene.alloc;
-    match expected.near_word(alloc, mark.text)? {
-        Some(word) => Ok(Some(format!(in alloc; "did you mean {word}?")?)),
-        None => Ok(None),
     }
 }

@@ -2,22 +2,11 @@
 use std::alloc::{AllocError, Global};
 use strsim::osa_distance;
 
-/// The least length of a name that is taken for another with one letter changed.
+/// The least length of a name that is taken for another with one letter changed: shorter ones all differ by little.
 const LEAST_LENGTH: usize = 3;
 
-/// Whether two names are the same in another case, or differ by one letter: one more, one less, another one, or two
-/// beside each other exchanged. Names of one or two letters all differ by little.
-fn is_near(alloc: Global, name: &str, other: &str) -> Result<bool, AllocError> {
-    if name.eq_ignore_ascii_case(other) {
-        return Ok(true);
-    }
-    if name.len() < LEAST_LENGTH || other.len() < LEAST_LENGTH {
-        return Ok(false);
-    }
-    Ok(osa_distance(alloc, name, other)? <= 1)
-}
-
-/// The first of some names that is the same in another case; else the first that differs by one letter.
+/// The first of some names that is the same in another case; else the first that differs by one letter: one more, one
+/// less, another one, or two beside each other exchanged.
 pub fn nearest<'a>(
     alloc: Global,
     name: &str,
@@ -28,8 +17,12 @@ pub fn nearest<'a>(
             return Ok(Some(*other));
         }
     }
+    if name.len() < LEAST_LENGTH {
+        return Ok(None);
+    }
     for other in others {
-        if *other != name && is_near(alloc, name, other)? {
+        let is_long = *other != name && other.len() >= LEAST_LENGTH;
+        if is_long && osa_distance(alloc, name, other)? <= 1 {
             return Ok(Some(*other));
         }
     }

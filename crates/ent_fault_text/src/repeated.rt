@@ -1,5 +1,5 @@
 //! What is said where a name stands for two things, or a thing stands twice.
-use crate::mark::Mark;
+use crate::mark::{Mark, is_one};
 use crate::scene::Scene;
 use crate::words::{Wording, listed};
 use ent_excerpt::Place;
@@ -13,23 +13,33 @@ pub(crate) fn ambiguous(scene: &Scene<'_>) -> Result<Wording, AllocError> {
         let sentence = format!(in alloc; "two sources go by the name {name}")?;
         return Wording::hinted(alloc, sentence, "give one of them an alias of its own");
     }
+    let hint = Some(qualified_hint(scene, name)?);
     let sentence = format!(in alloc; "two sources have a column {name}")?;
-    let mut choices: Vec<String> = Vec::new(alloc);
+    Ok(Wording { sentence, hint })
+}
+
+/// By which qualifiers the columns of this name are told apart.
+fn qualified_hint(scene: &Scene<'_>, name: &str) -> Result<String, AllocError> {
+    let alloc = scene.alloc;
+    let qualifiers = qualifiers_of(scene, name)?;
+    let between = format!(in alloc; ".{name}, ")?;
+    let last = format!(in alloc; ".{name} or ")?;
+    let (between, last) = (between.as_str(), last.as_str());
+    let list = listed(alloc, qualifiers.as_slice(), between, last)?;
+    format!(in alloc; "write {list}.{name}")
+}
+
+/// The names of the sources that have a column of this name.
+fn qualifiers_of<'a>(scene: &Scene<'a>, name: &str) -> Result<Vec<&'a str>, AllocError> {
+    let mut qualifiers: Vec<&'a str> = Vec::new(scene.alloc);
     for source in &scene.sources()? {
         if let Some(table) = scene.table(source.table)
             && table.column(name).is_some()
         {
-            let qualifier = source.name;
-            choices.push(format!(in alloc; "{qualifier}.{name}")?)?;
+            qualifiers.push(source.name)?;
         }
     }
-    let names: Vec<&str> = choices.iter().map(|choice| choice.as_str()).collect(alloc)?;
-    let list = listed(alloc, names.as_slice(), " or ")?;
-    let hint = format!(in alloc; "write {list}")?;
-    Ok(Wording {
-        sentence,
-        hint: Some(hint),
-    })
+    Ok(qualifiers)
 }
 
 /// Whether the place stands in a FROM.
@@ -46,30 +56,55 @@ fn is_source(scene: &Scene<'_>) -> bool {
 }
 
 /// What is declared, assigned, named or bound twice.
-#[derive(Clone, Copy, PartialEq, Eq)]
-enum RepeatedThing {
-    Table,
-    Column,
-    Assignment,
-    Relation,
-    HostVariable,
+#[derive(Clone, Copy)]
+struct RepeatedThing {
+    /// The token that begins the statement ([`Mark::is_of`]); an empty text is any.
+    first: &'static str,
+    /// The tokens that can stand before such a thing.
+    leads: &'static str,
+    /// What is said before its name, and behind it.
+    says: [&'static str; 2],
 }
+
+const ASSIGNMENT: RepeatedThing = RepeatedThing {
+    first: "UPDATE",
+    leads: "SET ,",
+    says: ["the column ", "is assigned twice"],
+};
+
+/// What isn't an assignment.
+static OTHER_THINGS: [RepeatedThing; 4] = [
+    RepeatedThing {
+        first: "CREATE",
+        leads: "TABLE",
+        says: ["the table ", "is declared twice"],
+    },
+    RepeatedThing {
+        first: "CREATE",
+        leads: "( ,",
+        says: ["the column ", "is declared twice"],
+    },
+    RepeatedThing {
+        first: "",
+        leads: "ANSWER",
+        says: ["the answer relation ", "is named twice"],
+    },
+    RepeatedThing {
+        first: "",
+        leads: "AS",
+        says: ["", "is given a value twice in one statement"],
+    },
+];
 
 /// What stands at the place.
 fn repeated_at(scene: &Scene<'_>) -> RepeatedThing {
-    if scene.is_back(1, "TABLE") {
-        return RepeatedThing::Table;
+    for thing in &OTHER_THINGS {
+        let is_first = thing.first.is_empty() || scene.begins_with(thing.first);
+        if is_first && scene.is_at(-1, thing.leads) {
+            return *thing;
+        }
     }
-    if scene.is_back(1, "ANSWER") {
-        return RepeatedThing::Relation;
-    }
-    if scene.is_ahead(0, "<variable>") {
-        return RepeatedThing::HostVariable;
-    }
-    if scene.begins_with("CREATE") {
-        return RepeatedThing::Column;
-    }
-    RepeatedThing::Assignment
+    ASSIGNMENT
 }
 
 /// A thing that stands a second time.
@@ -77,50 +112,30 @@ pub(crate) fn repeated(scene: &Scene<'_>) -> Result<Wording, AllocError> {
     let alloc = scene.alloc;
     let name = scene.word();
     let thing = repeated_at(scene);
-    let sentence = match thing {
-        RepeatedThing::Table => format!(in alloc; "the table {name} is declared twice")?,
-        RepeatedThing::Column => format!(in alloc; "the column {name} is declared twice")?,
-        RepeatedThing::Assignment => format!(in alloc; "the column {name} is assigned twice")?,
-        RepeatedThing::Relation => format!(in alloc; "the answer relation {name} is named twice")?,
-        RepeatedThing::HostVariable => format!(in alloc;
-            "{name} is given a value twice in one statement"
-        )?,
-    };
-    let hint = match first_of(scene, thing) {
+    let [lead, end] = thing.says;
+    let hint = match first_of(scene, thing.leads) {
         Some(start) => {
             let place = Place::of(scene.text, start);
             Some(format!(in alloc; "the first stands at {place}")?)
         }
         None => None,
     };
+    let sentence = format!(in alloc; "{lead}{name} {end}")?;
     Ok(Wording { sentence, hint })
 }
 
-/// Where the first of the two stands.
-fn first_of(scene: &Scene<'_>, thing: RepeatedThing) -> Option<usize> {
-    if thing == RepeatedThing::Table {
+/// Where the first of the two stands, of things that these tokens can stand before. A table is declared by another
+/// statement.
+fn first_of(scene: &Scene<'_>, leads: &str) -> Option<usize> {
+    if scene.is_at(-1, "TABLE") {
         return Some(scene.table(scene.word())?.name.start);
     }
     let mut last: Option<Mark<'_>> = None;
     for mark in scene.statement() {
-        if let Some(before) = last
-            && mark.text == scene.word()
-            && leads_to(thing, &before)
-        {
+        if mark.text == scene.word() && is_one(last.as_ref(), leads) {
             return Some(mark.start);
         }
         last = Some(*mark);
     }
     None
-}
-
-/// Whether a token can stand before such a thing.
-fn leads_to(thing: RepeatedThing, before: &Mark<'_>) -> bool {
-    match thing {
-        RepeatedThing::Table => before.is_of("TABLE"),
-        RepeatedThing::Column => before.is_of("( ,"),
-        RepeatedThing::Assignment => before.is_of("SET ,"),
-        RepeatedThing::Relation => before.is_of("ANSWER"),
-        RepeatedThing::HostVariable => before.is_of("AS"),
-    }
 }

@@ -20,7 +20,8 @@ pub(crate) struct Scene<'a> {
     /// How many tokens stand before the place.
     pub(crate) at: usize,
     is_opening: bool,
-    is_full: bool,
+    /// Whether no further token stands around the place.
+    pub(crate) is_full: bool,
 }
 
 impl<'a> Scene<'a> {
@@ -35,14 +36,9 @@ impl<'a> Scene<'a> {
             relations: Vec::new(alloc),
             marks: Vec::new(alloc),
             at: 0,
-            is_opening: whole == Whole::Input,
+            is_opening: matches!(whole, Whole::Input),
             is_full: false,
         }
-    }
-
-    /// Whether no further token stands around the place.
-    pub(crate) fn is_full(&self) -> bool {
-        self.is_full
     }
 
     /// Takes the text's next token.
@@ -66,7 +62,7 @@ impl<'a> Scene<'a> {
         }
         if mark.start < self.offset {
             self.at = self.at.saturating_add(1);
-        } else if mark.is_sign(Symbol::Semicolon) || mark.sort == Sort::Faulty {
+        } else if mark.is_sign(Symbol::Semicolon) || matches!(mark.sort, Sort::Faulty) {
             self.is_full = true;
         }
         self.marks.push(mark)?;
@@ -79,45 +75,22 @@ impl<'a> Scene<'a> {
             || (self.is_opening && (mark.is_word(Keyword::Create) || mark.is_word(Keyword::Insert)))
     }
 
-    /// The token at the place, or so many behind it.
-    pub(crate) fn ahead(&self, steps: usize) -> Option<Mark<'a>> {
-        self.marks.get(self.at.saturating_add(steps)).copied()
+    /// The token at the place, or so many behind it; before it, if the number is negative.
+    pub(crate) fn token(&self, steps: isize) -> Option<Mark<'a>> {
+        self.marks.get(self.at.checked_add_signed(steps)?).copied()
     }
 
-    /// The token so many before the place; the one just before it is 1 before it.
-    pub(crate) fn back(&self, steps: usize) -> Option<Mark<'a>> {
-        self.marks.get(self.at.checked_sub(steps)?).copied()
+    /// Whether that token is one of these ([`Mark::is_of`]).
+    pub(crate) fn is_at(&self, steps: isize, tokens: &str) -> bool {
+        is_one(self.token(steps).as_ref(), tokens)
     }
 
     /// The text of the token at the place; none at the text's end.
     pub(crate) fn word(&self) -> &'a str {
-        match self.ahead(0) {
+        match self.token(0) {
             Some(mark) => mark.text,
             None => "",
         }
-    }
-
-    /// The text from the place on.
-    pub(crate) fn rest(&self) -> &'a str {
-        self.text.get(self.offset..).unwrap_or("")
-    }
-
-    /// Whether the place stands in a script.
-    pub(crate) fn is_in_script(&self) -> bool {
-        match self.marks.first() {
-            Some(mark) => mark.is_word(Keyword::Begin) && mark.start < self.offset,
-            None => false,
-        }
-    }
-
-    /// Whether the token at the place, or so many behind it, is one of these ([`Mark::is_of`]).
-    pub(crate) fn is_ahead(&self, steps: usize, tokens: &str) -> bool {
-        is_one(self.ahead(steps).as_ref(), tokens)
-    }
-
-    /// Whether the token so many before the place is one of these.
-    pub(crate) fn is_back(&self, steps: usize, tokens: &str) -> bool {
-        is_one(self.back(steps).as_ref(), tokens)
     }
 
     /// Whether the statement that holds the place begins with one of these tokens.
@@ -137,20 +110,13 @@ impl<'a> Scene<'a> {
 
     /// The tokens of the statement that holds the place.
     pub(crate) fn statement(&self) -> &[Mark<'a>] {
-        let passed = self.passed();
-        let start = match passed
-            .iter()
-            .rposition(|mark| mark.is_sign(Symbol::Semicolon))
-        {
-            Some(end) => end.saturating_add(1),
-            None => 0,
-        };
+        let mut start = 0usize;
+        for (index, mark) in self.passed().iter().enumerate() {
+            if mark.is_sign(Symbol::Semicolon) {
+                start = index.saturating_add(1);
+            }
+        }
         marks_behind(self.marks.as_slice(), start)
-    }
-
-    /// The text from the first of these tokens up to the place.
-    pub(crate) fn lead(&self) -> &'a str {
-        self.lead_up_to(self.offset)
     }
 
     /// The text from the first of these tokens up to an offset.
@@ -163,6 +129,11 @@ impl<'a> Scene<'a> {
 
     /// The declared table of this name.
     pub(crate) fn table(&self, name: &str) -> Option<&Table<'a>> {
-        self.tables.iter().find(|table| table.name.text == name)
+        for table in &self.tables {
+            if table.name.text == name {
+                return Some(table);
+            }
+        }
+        None
     }
 }

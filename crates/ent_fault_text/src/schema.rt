@@ -23,10 +23,12 @@ pub(crate) struct Table<'a> {
 impl<'a> Table<'a> {
     /// Its column of this name.
     pub(crate) fn column(&self, name: &str) -> Option<Column<'a>> {
-        self.columns
-            .iter()
-            .copied()
-            .find(|column| column.name == name)
+        for column in &self.columns {
+            if column.name == name {
+                return Some(*column);
+            }
+        }
+        None
     }
 }
 

@@ -13,7 +13,7 @@ pub(crate) fn scene_at<'a>(mut scene: Scene<'a>) -> Result<Scene<'a>, AllocError
         let start = left.start(0);
         let text = whole_text.get(start..left.end(0)).unwrap_or("");
         scene.take(Mark { sort, text, start })?;
-        if scene.is_full() {
+        if scene.is_full {
             break;
         }
         left = left.tail();

@@ -10,8 +10,13 @@ use std::alloc::AllocError;
 /// What isn't of the kind that is wanted at its place. There are two kinds, so what isn't of one is of the other.
 pub(crate) fn wrong_kind(scene: &Scene<'_>) -> Result<Wording, AllocError> {
     let side = scene.side_ahead()?;
-    if is_beside_sign(scene) && side.kind != Some(Kind::Int) {
-        return beside_sign(scene, side);
+    if is_beside_sign(scene) && !matches!(side.kind, Some(Kind::Int)) {
+        let alloc = scene.alloc;
+        let text = side.text;
+        let sentence = format!(in alloc;
+            "{text} is a TEXT, and only an INT can be added or subtracted"
+        )?;
+        return Ok(Wording::plain(sentence));
     }
     if let Some(column) = inserted_column(scene) {
         return other_kind(scene, column.name, side, Some(other_than(column.kind)));
@@ -30,17 +35,8 @@ pub(crate) fn wrong_kind(scene: &Scene<'_>) -> Result<Wording, AllocError> {
 
 /// Whether the place stands beside `+` or `-`, as a term of a sum.
 fn is_beside_sign(scene: &Scene<'_>) -> bool {
-    let is_qualified = scene.is_ahead(1, ".");
-    scene.is_back(1, "+ -") || scene.is_ahead(1, "+ -") || is_qualified && scene.is_ahead(3, "+ -")
-}
-
-fn beside_sign(scene: &Scene<'_>, side: TestSide<'_>) -> Result<Wording, AllocError> {
-    let alloc = scene.alloc;
-    let text = side.text;
-    let sentence = format!(in alloc;
-        "{text} is a TEXT, and only an INT can be added or subtracted"
-    )?;
-    Ok(Wording::plain(sentence))
+    let is_qualified = scene.is_at(1, ".");
+    scene.is_at(-1, "+ -") || scene.is_at(1, "+ -") || is_qualified && scene.is_at(3, "+ -")
 }
 
 /// The column for which the value at the place is, in a row of values.
@@ -51,11 +47,12 @@ fn inserted_column<'a>(scene: &Scene<'a>) -> Option<Column<'a>> {
     }
     let table = scene.table(statement.get(2)?.text)?;
     let passed = statement.len().saturating_sub(scene.coming().len());
-    let front = statement.get(..passed)?;
-    let commas = front
-        .iter()
-        .filter(|mark| mark.is_sign(Symbol::Comma))
-        .count();
+    let mut commas = 0usize;
+    for mark in statement.get(..passed)? {
+        if mark.is_sign(Symbol::Comma) {
+            commas = commas.saturating_add(1);
+        }
+    }
     table.columns.get(commas).copied()
 }
 
@@ -72,10 +69,10 @@ fn other_kind(
         let sentence = format!(in alloc; "{wanted} and {text} are of two kinds")?;
         return Ok(Wording::plain(sentence));
     };
+    let hint = quotes_hint(scene, text)?;
     let kind = with_article(given);
     let other = with_article(other_than(given));
     let sentence = format!(in alloc; "{wanted} is {other}, and {text} is {kind}")?;
-    let hint = quotes_hint(scene, text)?;
     Ok(Wording { sentence, hint })
 }
 
@@ -83,6 +80,7 @@ fn other_kind(
 fn of_item(scene: &Scene<'_>, side: TestSide<'_>) -> Result<Wording, AllocError> {
     let alloc = scene.alloc;
     let text = side.text;
+    let hint = quotes_hint(scene, text)?;
     let sentence = match side.kind {
         Some(kind) => {
             let given = with_article(kind);
@@ -91,7 +89,6 @@ fn of_item(scene: &Scene<'_>, side: TestSide<'_>) -> Result<Wording, AllocError>
         }
         None => format!(in alloc; "{text} is of another kind than the item of its sub-select")?,
     };
-    let hint = quotes_hint(scene, text)?;
     Ok(Wording { sentence, hint })
 }
 
@@ -101,18 +98,21 @@ fn quotes_hint(scene: &Scene<'_>, text: &str) -> Result<Option<String>, AllocErr
     if is_digits(text) {
         return Ok(Some(format!(in alloc; "a text is written in quotes: '{text}'")?));
     }
-    let inner = text
-        .strip_prefix('\'')
-        .and_then(|rest| rest.strip_suffix('\''));
-    match inner {
-        Some(digits) if is_digits(digits) => {
-            Ok(Some(format!(in alloc; "a number is written without quotes: {digits}")?))
-        }
-        _ => Ok(None),
+    if let Some(rest) = text.strip_prefix('\'')
+        && let Some(digits) = rest.strip_suffix('\'')
+        && is_digits(digits)
+    {
+        return Ok(Some(format!(in alloc; "a number is written without quotes: {digits}")?));
     }
+    Ok(None)
 }
 
 /// Whether a text is digits, and not empty.
 fn is_digits(text: &str) -> bool {
-    !text.is_empty() && text.bytes().all(|byte| byte.is_ascii_digit())
+    for byte in text.bytes() {
+        if !byte.is_ascii_digit() {
+            return false;
+        }
+    }
+    !text.is_empty()
 }

@@ -11,16 +11,13 @@ impl<'a> Scene<'a> {
         let mut names = Vec::new(self.alloc);
         let word = self.word();
         for mark in self.statement() {
-            if mark.is_name() && mark.text != word && self.is_variable(mark.text) {
+            let is_other = mark.is_name() && mark.text != word;
+            let is_relation = has_name(self.relations.as_slice(), mark.text);
+            if is_other && !is_relation && self.table(mark.text).is_none() {
                 names.push(mark.text)?;
             }
         }
         Ok(names)
-    }
-
-    /// Whether a name is neither a table's nor an answer relation's.
-    fn is_variable(&self, name: &str) -> bool {
-        self.table(name).is_none() && !has_name(self.relations.as_slice(), name)
     }
 
     /// The host variables that statements before this one give values.
@@ -30,7 +27,10 @@ impl<'a> Scene<'a> {
         let mut last: Option<Mark<'a>> = None;
         for mark in self.marks.iter().take(earlier) {
             let is_new = !has_name(names.as_slice(), mark.text);
-            if mark.sort == Sort::HostVariable && is_new && is_one(last.as_ref(), "AS SET") {
+            if matches!(mark.sort, Sort::HostVariable)
+                && is_new
+                && is_one(last.as_ref(), "AS SET")
+            {
                 names.push(mark.text)?;
             }
             last = Some(*mark);
@@ -38,14 +38,13 @@ impl<'a> Scene<'a> {
         Ok(names)
     }
 
-    /// Whether the host variable at this place of the statement is given a value there, by AS.
-    pub(crate) fn is_bound_at(&self, index: usize) -> bool {
-        match index
-            .checked_sub(1)
-            .and_then(|before| self.statement().get(before))
-        {
-            Some(mark) => mark.is_word(Keyword::As),
-            None => false,
+    /// Whether the statement has an INTO.
+    pub(crate) fn has_into(&self) -> bool {
+        for mark in self.statement() {
+            if mark.is_word(Keyword::Into) {
+                return true;
+            }
         }
+        false
     }
 }

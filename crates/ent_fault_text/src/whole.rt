@@ -4,7 +4,7 @@ use ent_value::Refusal;
 use std::alloc::{AllocError, Global};
 
 /// What a text is as a whole.
-#[derive(Clone, Copy, Debug, PartialEq, Eq)]
+#[derive(Clone, Copy)]
 pub(crate) enum Whole {
     /// Declarations, opening rows and scripts.
     Input,
@@ -21,32 +21,20 @@ impl Whole {
         }
     }
 
-    /// Its name with the article.
-    pub(crate) fn with_article(self) -> &'static str {
-        match self {
-            Whole::Input => "an input",
-            Whole::Script => "a script",
-        }
-    }
-
     /// The first fault of a text's tokens and grammar, if it has one.
     pub(crate) fn fault_of(
         self,
         alloc: Global,
         text: &str,
     ) -> Result<Option<SqlFault>, AllocError> {
-        match self {
-            Whole::Input => fault_in(parse_input(alloc, text)),
-            Whole::Script => fault_in(parse_script(alloc, text)),
+        let refusal = match self {
+            Whole::Input => parse_input(alloc, text).err(),
+            Whole::Script => parse_script(alloc, text).err(),
+        };
+        match refusal {
+            None => Ok(None),
+            Some(Refusal::Memory) => Err(AllocError),
+            Some(Refusal::Fault(fault)) => Ok(Some(fault)),
         }
-    }
-}
-
-/// The fault for which nothing was read, if anything wasn't.
-fn fault_in<T: Drop>(read: Result<T, Refusal<SqlFault>>) -> Result<Option<SqlFault>, AllocError> {
-    match read {
-        Ok(_) => Ok(None),
-        Err(Refusal::Memory) => Err(AllocError),
-        Err(Refusal::Fault(fault)) => Ok(Some(fault)),
     }
 }

@@ -4,7 +4,7 @@ use std::alloc::{AllocError, Global};
 use std::fmt;
 
 /// What is said of a fault: a sentence, and where one helps another one.
-#[derive(Debug, Drop)]
+#[derive(Drop)]
 pub(crate) struct Wording {
     pub(crate) sentence: String,
     pub(crate) hint: Option<String>,
@@ -65,24 +65,21 @@ pub(crate) fn has_name(names: &[&str], name: &str) -> bool {
     false
 }
 
-/// These words with another text between each two.
-pub(crate) fn joined(alloc: Global, words: &[&str], between: &str) -> Result<String, AllocError> {
+/// These words as a list: `a`, `a or b`, `a, b or c`, where `, ` stands between two, and ` or ` before the last.
+pub(crate) fn listed(
+    alloc: Global,
+    words: &[&str],
+    between: &str,
+    last: &str,
+) -> Result<String, AllocError> {
     let mut list = String::new(alloc);
     for (index, word) in words.iter().enumerate() {
         if index > 0 {
-            list.push_str(between)?;
-        }
-        list.push_str(word)?;
-    }
-    Ok(list)
-}
-
-/// These words as a list: `a`, `a or b`, `a, b or c`, where ` or ` is what stands before the last.
-pub(crate) fn listed(alloc: Global, words: &[&str], last: &str) -> Result<String, AllocError> {
-    let mut list = String::new(alloc);
-    for (index, word) in words.iter().enumerate() {
-        if index > 0 {
-            list.push_str(if words.len() - index == 1 { last } else { ", " })?;
+            list.push_str(if words.len() - index == 1 {
+                last
+            } else {
+                between
+            })?;
         }
         list.push_str(word)?;
     }
